@@ -1,0 +1,4 @@
+pub mod Level
+pub mod Form
+pub mod Energy
+pub mod Distance

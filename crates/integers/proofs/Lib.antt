@@ -1,0 +1,5 @@
+pub mod Laws
+pub mod Ring
+pub mod Order
+pub mod Lin
+pub mod Sum
