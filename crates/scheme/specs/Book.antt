@@ -1,0 +1,106 @@
+-- "Energy and distance": the book of the unrounded scheme, and a list of calls with the book beside it.
+use mathlib.Core.Bool.{Bool, false, _&&_, cond}
+use mathlib.Core.List.{List, [], _∷_, map}
+use Prim.Native.Nat.{ℕ, zero, suc, _^_}
+use lib.Dec.{eqb}
+use lib.IntN.{ℤ, pos, _*ℤ_}
+use Rattle.scheme.specs.declared.Settings.{Settings}
+use Rattle.scheme.specs.declared.Grid.{Grid}
+use Rattle.scheme.specs.declared.Instrument.{Instrument}
+use Rattle.scheme.specs.declared.Hit.{Hit}
+use Rattle.scheme.specs.declared.Hit.the-variants.{Absent}
+use Rattle.scheme.specs.Lists.{tabulate, point}
+use Rattle.scheme.specs.Instruments.{points, moving}
+use Rattle.scheme.specs.Step.{numerator, forceOf, divisor}
+use Rattle.scheme.specs.Table.{table}
+use Rattle.scheme.specs.Pluck.{pluckLevel}
+use Rattle.scheme.specs.Calls.{accepted, block, pluck}
+
+-- "the kind, grid and settings of its last step", if there was one
+pub data LastStep : Type 0 where
+  noStep : LastStep
+  stepOf : Instrument → LastStep
+
+-- "It holds n, two levels of fractions (in whole numbers, as above), and the kind, grid and settings of its last step": the levels times (D+s)ⁿ
+pub record Book : Type 0 where
+  pub n : ℕ
+  pub older : List ℤ
+  pub newer : List ℤ
+  pub last : LastStep
+
+-- n 0, and these levels
+abbrev pub fresh : LastStep → (older newer : List ℤ) → Book
+fresh last older newer = record { n = 0; older = older; newer = newer; last = last }
+
+-- (D+s)ⁿ
+abbrev pub scale : Settings → ℕ → ℤ
+scale c n = pos (divisor c ^ n)
+
+-- "every moving point becomes the numerator of "One step" over D+s, not rounded, with u and p from the book's own levels": held times (D+s)ⁿ⁺¹
+unfoldable pub unroundedAt : Instrument → Hit → Book → ℕ → ℤ
+unroundedAt i h b k = cond (moving (i .grid) k) (numerator i (point (b .newer)) (point (b .older)) (λ j. scale (i .settings) (b .n) *ℤ forceOf h j) k) (pos 0)
+
+-- "Fixed points remain 0, newer becomes older, n grows by 1."
+unfoldable pub unroundedStep : Instrument → Hit → Book → Book
+unroundedStep i h b = record {
+  n = suc (b .n);
+  older = map (λ z. pos (divisor (i .settings)) *ℤ z) (b .newer);
+  newer = tabulate (points (i .grid)) (unroundedAt i h b);
+  last = stepOf i;
+}
+
+-- "for each step done .. the block's hit in the first of them"
+unfoldable pub unroundedSteps : Instrument → Hit → ℕ → Book → Book
+unroundedSteps i h zero b = b
+unroundedSteps i h (suc k) b = unroundedSteps i Absent k (unroundedStep i h b)
+
+-- one kind, grid and settings
+abbrev pub sameInstrument : Instrument → Instrument → Bool
+sameInstrument i l =
+    eqb (i .grid .kind) (l .grid .kind) && eqb (i .grid .columns) (l .grid .columns) && eqb (i .grid .rows) (l .grid .rows) &&
+    eqb (i .settings .q) (l .settings .q) && eqb (i .settings .m) (l .settings .m) && eqb (i .settings .s) (l .settings .s)
+
+-- "if its kind, grid or settings are not those of the book's last step, or there is none yet": they are
+unfoldable pub goesOn : Instrument → LastStep → Bool
+goesOn i noStep = false
+goesOn i (stepOf l) = sameInstrument i l
+
+-- "A block with no step done, refused or not, changes nothing in the book"; one with steps done "first takes the two levels lent to this block, with n 0"
+unfoldable pub bookBlock : Instrument → Hit → (older newer : List ℤ) → ℕ → Book → Book
+bookBlock i h older newer zero b = b
+bookBlock i h older newer (suc k) b = unroundedSteps i h (suc k) (cond (goesOn i (b .last)) b (fresh (b .last) older newer))
+
+-- "An accepted pluck puts the levels its rule gives into the book, with n 0. A refused one changes nothing."
+unfoldable pub bookPluck : Bool → List ℤ → Book → Book
+bookPluck done xs b = cond done (fresh (b .last) xs xs) b
+
+-- ---- a list of calls
+
+-- "Each block or pluck in it gets both levels as the last one left them": its other arguments
+pub data Call : Type 0 where
+  blockCall : Instrument → (work samples : List ℤ) → ℕ → Hit → Call
+  pluckCall : Grid → ℕ → ℕ → ℤ → Call
+
+-- the two levels, and the book beside them
+pub record State : Type 0 where
+  pub older : List ℤ
+  pub newer : List ℤ
+  pub book : Book
+
+-- "It starts with n 0, no last step, and the two levels that the list starts from."
+abbrev pub start : (older newer : List ℤ) → State
+start older newer = record { older = older; newer = newer; book = fresh noStep older newer }
+
+-- "It is fed the calls' arguments, lent levels included, and each block's answered count of steps"
+unfoldable pub call : Call → State → State
+call (blockCall i work samples pick h) t =
+    let r = block i (t .older) (t .newer) work samples pick h in
+    record { older = r .older; newer = r .newer; book = bookBlock i h (t .older) (t .newer) (r .answer .steps) (t .book) }
+call (pluckCall g c w a) t =
+    let r = pluck g (t .older) (t .newer) c w a in
+    record { older = r .older; newer = r .newer; book = bookPluck (accepted (r .refusal)) (pluckLevel table g c w a) (t .book) }
+
+-- one call after the other
+unfoldable pub calls : List Call → State → State
+calls [] t = t
+calls (k ∷ ks) t = calls ks (call k t)

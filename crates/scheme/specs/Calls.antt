@@ -1,0 +1,108 @@
+-- Block, pluck and float reading: all that each answers and leaves, for every argument.
+use mathlib.Core.Bool.{Bool, cond}
+use mathlib.Core.List.{List, [], _∷_}
+use Prim.Native.Nat.{ℕ, suc}
+use lib.Dec.{eqb}
+use lib.Ieee.{Float, binary64, ofInt}
+use lib.IntN.{ℤ, pos}
+use lib.ListN.{replicate}
+use Rattle.scheme.specs.declared.Grid.{Grid}
+use Rattle.scheme.specs.declared.Instrument.{Instrument}
+use Rattle.scheme.specs.declared.Hit.{Hit}
+use Rattle.scheme.specs.declared.Hit.the-variants.{Absent}
+use Rattle.scheme.specs.declared.BlockAnswer.{BlockAnswer}
+use Rattle.scheme.specs.declared.ReadingAnswer.{ReadingAnswer}
+use Rattle.scheme.specs.declared.Refusal.{Refusal}
+use Rattle.scheme.specs.declared.Refusal.the-variants.{Nothing, NextBeyond}
+use Rattle.scheme.specs.Lists.{point}
+use Rattle.scheme.specs.Instruments.{points}
+use Rattle.scheme.specs.Step.{nextLevel, someBeyond, sampleOf, floatOf}
+use Rattle.scheme.specs.Table.{table}
+use Rattle.scheme.specs.Pluck.{pluckLevel}
+use Rattle.scheme.specs.Refusals.{number, blockRefusal, pluckRefusal, readingRefusal}
+
+-- "a call for which none applies is carried out"
+abbrev pub accepted : Refusal → Bool
+accepted r = eqb (number r) 0
+
+-- ---- a block
+
+-- what the steps of a block answer and leave
+pub record AfterSteps : Type 0 where
+  pub answer : BlockAnswer
+  pub older : List ℤ
+  pub newer : List ℤ
+  pub samples : List ℤ
+
+-- no further step: "the levels after exactly those, .. later places unchanged"
+abbrev pub ended : Refusal → (older newer samples : List ℤ) → AfterSteps
+ended r older newer samples = record { answer = record { steps = 0; refusal = r }; older = older; newer = newer; samples = samples }
+
+-- a step done, with sample v, before the rest: "the count of steps done, .. their samples written"
+abbrev pub oneMore : ℤ → AfterSteps → AfterSteps
+oneMore v rest =
+    record { answer = record { steps = suc (rest .answer .steps); refusal = rest .answer .refusal }; older = rest .older; newer = rest .newer; samples = v ∷ rest .samples }
+
+-- "A block has as many steps as the lent sample buffer has places; the hit, if any, acts in its first step." "Newer becomes older."
+-- "13. The next step would put some point beyond the ceiling."
+unfoldable pub play : Instrument → ℕ → Hit → (older newer samples : List ℤ) → AfterSteps
+play i pick h older newer [] = ended Nothing older newer []
+play i pick h older newer (x ∷ xs) =
+    let next = nextLevel i h older newer in
+    let on = oneMore (sampleOf (point next pick)) (play i pick Absent newer next xs) in
+    cond (someBeyond next) (ended NextBeyond older newer (x ∷ xs)) on
+
+-- what a block answers, and its four lent slices afterwards
+pub record AfterBlock : Type 0 where
+  pub answer : BlockAnswer
+  pub older : List ℤ
+  pub newer : List ℤ
+  pub work : List ℤ
+  pub samples : List ℤ
+
+-- "Work is all zeros after 13 and after every accepted block": n points
+abbrev pub withWorkZero : ℕ → AfterSteps → AfterBlock
+withWorkZero n p = record { answer = p .answer; older = p .older; newer = p .newer; work = replicate n (pos 0); samples = p .samples }
+
+-- "For 1 to 12: zero steps, .. every lent level and sample unchanged."
+abbrev pub blockRefused : Refusal → (older newer work samples : List ℤ) → AfterBlock
+blockRefused r older newer work samples = record { answer = record { steps = 0; refusal = r }; older = older; newer = newer; work = work; samples = samples }
+
+-- "The lowest number that applies answers, and a call for which none applies is carried out"
+unfoldable pub block : Instrument → (older newer work samples : List ℤ) → ℕ → Hit → AfterBlock
+block i older newer work samples pick h =
+    let r = blockRefusal i older newer work pick h in
+    let done = withWorkZero (points (i .grid)) (play i pick h older newer samples) in
+    cond (accepted r) done (blockRefused r older newer work samples)
+
+-- ---- a pluck
+
+-- what a pluck answers, and its two lent levels afterwards
+pub record AfterPluck : Type 0 where
+  pub refusal : Refusal
+  pub older : List ℤ
+  pub newer : List ℤ
+
+-- "Both levels are overwritten."
+abbrev pub overwritten : List ℤ → AfterPluck
+overwritten xs = record { refusal = Nothing; older = xs; newer = xs }
+
+-- "every lent level .. unchanged"
+abbrev pub pluckRefused : Refusal → (older newer : List ℤ) → AfterPluck
+pluckRefused r older newer = record { refusal = r; older = older; newer = newer }
+
+-- "centre c, half width w, height a"
+unfoldable pub pluck : Grid → (older newer : List ℤ) → ℕ → ℕ → ℤ → AfterPluck
+pluck g older newer c w a =
+    let r = pluckRefusal g older newer c w a in
+    let done = overwritten (pluckLevel table g c w a) in
+    cond (accepted r) done (pluckRefused r older newer)
+
+-- ---- the float reading
+
+-- "answers 0 when refused"
+unfoldable pub reading : Grid → List ℤ → ℕ → ReadingAnswer
+reading g newer pick =
+    let r = readingRefusal g newer pick in
+    let done : ReadingAnswer = record { value = floatOf (point newer pick); refusal = Nothing } in
+    cond (accepted r) done (record { value = ofInt binary64 (pos 0); refusal = r })

@@ -1,0 +1,85 @@
+-- "One step".
+use mathlib.Core.Bool.{Bool, cond}
+use mathlib.Core.List.{List, _++_}
+use Prim.Native.Nat.{ℕ, suc, _+_, _-_, _*_, _/_, _^_}
+use lib.Dec.{ltb, eqb}
+use lib.Ieee.{Float, binary64, ofInt, div}
+use lib.IntN.{ℤ, pos, negsuc, negℤ, _+ℤ_, _-ℤ_, _*ℤ_}
+use lib.ListN.{length}
+use lib.Signed.{shrZ}
+use Rattle.integers.specs.Sum.{sumOver}
+use Rattle.scheme.specs.declared.Settings.{Settings}
+use Rattle.scheme.specs.declared.Grid.{Grid}
+use Rattle.scheme.specs.declared.Instrument.{Instrument}
+use Rattle.scheme.specs.declared.Hit.{Hit}
+use Rattle.scheme.specs.declared.Hit.the-variants.{Absent, At}
+use Rattle.scheme.specs.Lists.{tabulate, point, someBelow, only}
+use Rattle.scheme.specs.Instruments.{D, beyond, points, column, row, moving, freeEnd}
+
+-- the points beside i in its grid: left, right, above, below
+unfoldable pub beside : Grid → ℕ → List ℕ
+beside g i =
+    only (ltb 0 (column g i)) (i - 1) ++ (only (ltb (column g i + 1) (g .columns)) (i + 1) ++
+    (only (ltb 0 (row g i)) (i - g .columns) ++ only (ltb (row g i + 1) (g .rows)) (i + g .columns)))
+
+-- "At a free end L is twice (the one neighbour minus u)": a free end has its one neighbour twice
+unfoldable pub neighbours : Grid → ℕ → List ℕ
+neighbours g i = cond (freeEnd g i) (beside g i ++ beside g i) (beside g i)
+
+-- "L is the sum of the neighbours minus their count times u (two neighbours, or four)"
+unfoldable pub laplacian : Grid → (ℕ → ℤ) → ℕ → ℤ
+laplacian g a i = sumOver (neighbours g i) a -ℤ pos (length (neighbours g i)) *ℤ a i
+
+-- "L counts as 0 at the supported ends": L as a level, 0 where nothing moves
+unfoldable pub innerLaplacian : Grid → (ℕ → ℤ) → ℕ → ℤ
+innerLaplacian g a i = cond (moving g i) (laplacian g a i) (pos 0)
+
+-- "B is L taken of L"
+abbrev pub biharmonic : Grid → (ℕ → ℤ) → ℕ → ℤ
+biharmonic g a i = laplacian g (innerLaplacian g a) i
+
+-- "the numerator is 2D × u + q × L − m × B − (D−s) × p + D × f"
+abbrev pub numeratorOf : Settings → (u l b p f : ℤ) → ℤ
+numeratorOf c u l b p f = pos (2 * D) *ℤ u +ℤ pos (c .q) *ℤ l -ℤ pos (c .m) *ℤ b -ℤ (pos D -ℤ pos (c .s)) *ℤ p +ℤ pos D *ℤ f
+
+-- "with u newer and p older": at point k
+unfoldable pub numerator : Instrument → (newer older force : ℕ → ℤ) → ℕ → ℤ
+numerator i newer older force k = numeratorOf (i .settings) (newer k) (laplacian (i .grid) newer k) (biharmonic (i .grid) newer k) (older k) (force k)
+
+-- n / d to the nearest, halves up
+abbrev pub nearest : ℕ → ℕ → ℕ
+nearest n d = (2 * n + d) / (2 * d)
+
+-- "rounded to nearest, halves away from zero"
+unfoldable pub roundAway : ℤ → ℕ → ℤ
+roundAway (pos n) d = pos (nearest n d)
+roundAway (negsuc n) d = negℤ (pos (nearest (suc n) d))
+
+-- "f is the hit's force in units at the hit point, else 0"
+abbrev pub forceOf : Hit → ℕ → ℤ
+forceOf Absent k = pos 0
+forceOf (At p f) k = cond (eqb k p) f (pos 0)
+
+-- "divided by D+s"
+abbrev pub divisor : Settings → ℕ
+divisor c = D + c .s
+
+-- "For each moving point .. the numerator .. divided by D+s and rounded"; "Fixed points remain 0"
+unfoldable pub nextAt : Instrument → Hit → (older newer : List ℤ) → ℕ → ℤ
+nextAt i h older newer k = cond (moving (i .grid) k) (roundAway (numerator i (point newer) (point older) (forceOf h) k) (divisor (i .settings))) (pos 0)
+
+unfoldable pub nextLevel : Instrument → Hit → (older newer : List ℤ) → List ℤ
+nextLevel i h older newer = tabulate (points (i .grid)) (nextAt i h older newer)
+
+-- some point of a level lies beyond the ceiling
+unfoldable pub someBeyond : List ℤ → Bool
+someBeyond xs = someBelow (length xs) (λ k. beyond (point xs k))
+
+-- "The sample is newer at the pick-up point divided by 2²⁸ and rounded down, an i16": of that point's value.
+-- Within the ceiling it lies in −32767..32767, so an i16 holds it (`sample-fits`).
+unfoldable pub sampleOf : ℤ → ℤ
+sampleOf z = shrZ z (2 ^ 28)
+
+-- "The same reading as a float is the point converted to f64 and divided once by 2⁴³."
+unfoldable pub floatOf : ℤ → Float
+floatOf z = div binary64 (ofInt binary64 z) (ofInt binary64 (pos (2 ^ 43)))
