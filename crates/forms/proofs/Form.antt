@@ -69,12 +69,15 @@ module _ {B : Level → Level → ℤ} (F : Form B) where
   pub square-combination : (k l : ℤ) (a b : Level) → B ((k ⊡ a) ⊞ (l ⊡ b)) ((k ⊡ a) ⊞ (l ⊡ b)) ≡ k *ℤ (k *ℤ B a a) +ℤ pos 2 *ℤ (k *ℤ (l *ℤ B a b)) +ℤ l *ℤ (l *ℤ B b b)
   square-combination k l a b = square-sum (k ⊡ a) (l ⊡ b) ∙ (λ i. scale-both k k a a i +ℤ pos 2 *ℤ scale-both k l a b i +ℤ scale-both l l b b i)
 
+  -- of a − b
+  pub square-difference : (a b : Level) → let c : Level = a ⊞ (negsuc 0 ⊡ b) in B c c ≡ B a a -ℤ pos 2 *ℤ B a b +ℤ B b b
+  square-difference a b =
+      square-sum a (negsuc 0 ⊡ b) ∙ (λ i. B a a +ℤ pos 2 *ℤ scale-right (negsuc 0) a b i +ℤ scale-both (negsuc 0) (negsuc 0) b b i) ∙
+      ring 3 (λ x y z. x ⊕ # 2 ⊗ (con (negsuc 0) ⊗ y) ⊕ con (negsuc 0) ⊗ (con (negsuc 0) ⊗ z) ≈ x ⊖ # 2 ⊗ y ⊕ z) refl (B a a) (B a b) (B b b)
+
   -- 4·B(a,b) = B(a+b,a+b) − B(a−b,a−b)
   pub polarisation : (a b : Level) → let c : Level = a ⊞ (negsuc 0 ⊡ b) in pos 4 *ℤ B a b ≡ B (a ⊞ b) (a ⊞ b) -ℤ B c c
   polarisation a b =
       let c : Level = a ⊞ (negsuc 0 ⊡ b) in
-      let difference : B c c ≡ B a a -ℤ pos 2 *ℤ B a b +ℤ B b b =
-      square-sum a (negsuc 0 ⊡ b) ∙ (λ i. B a a +ℤ pos 2 *ℤ scale-right (negsuc 0) a b i +ℤ scale-both (negsuc 0) (negsuc 0) b b i) ∙
-      ring 3 (λ x y z. x ⊕ # 2 ⊗ (con (negsuc 0) ⊗ y) ⊕ con (negsuc 0) ⊗ (con (negsuc 0) ⊗ z) ≈ x ⊖ # 2 ⊗ y ⊕ z) refl (B a a) (B a b) (B b b) in
       lin 5 (λ x y z s t. (⊝ # 1) *≈ s ≈ x ⊕ # 2 ⊗ y ⊕ z ⇒ # 1 *≈ t ≈ x ⊖ # 2 ⊗ y ⊕ z ⇒ ⊩≈ # 4 ⊗ y ≈ s ⊖ t) refl
-      (B a a) (B a b) (B b b) (B (a ⊞ b) (a ⊞ b)) (B c c) (square-sum a b) difference
+      (B a a) (B a b) (B b b) (B (a ⊞ b) (a ⊞ b)) (B c c) (square-sum a b) (square-difference a b)

@@ -1,6 +1,6 @@
 -- Levels as functions from points to whole numbers: sums, multiples, and levels that are 0 at every point that does not move.
-use mathlib.Core.Path.{_≡_, refl, ap, ap₂, _∙_}
-use mathlib.Core.Bool.{Bool, false}
+use mathlib.Core.Path.{_≡_, refl, sym, ap, ap₂, _∙_}
+use mathlib.Core.Bool.{Bool, true, false, cond}
 use mathlib.Core.List.{List, [], _∷_}
 use Prim.Native.Nat.{ℕ}
 use lib.IntN.{ℤ, pos, _+ℤ_, _-ℤ_, _*ℤ_, *ℤ-zero}
@@ -49,6 +49,16 @@ linear-minus {f} {g} F G = record {
   add = λ a b. ap₂ _-ℤ_ (F .add a b) (G .add a b) ∙ ring 4 (λ x y u v. (x ⊕ y) ⊖ (u ⊕ v) ≈ (x ⊖ u) ⊕ (y ⊖ v)) refl (f a) (f b) (g a) (g b);
   scale = λ k a. ap₂ _-ℤ_ (F .scale k a) (G .scale k a) ∙ ring 3 (λ k x u. k ⊗ x ⊖ k ⊗ u ≈ k ⊗ (x ⊖ u)) refl k (f a) (g a);
 }
+
+pub linear-times : (m : ℤ) {f : Level → ℤ} → Linear f → Linear (λ a. m *ℤ f a)
+linear-times m {f} F = record {
+  add = λ a b. ap (λ z. m *ℤ z) (F .add a b) ∙ ring 3 (λ m x y. m ⊗ (x ⊕ y) ≈ m ⊗ x ⊕ m ⊗ y) refl m (f a) (f b);
+  scale = λ k a. ap (λ z. m *ℤ z) (F .scale k a) ∙ ring 3 (λ m k x. m ⊗ (k ⊗ x) ≈ k ⊗ (m ⊗ x)) refl m k (f a);
+}
+
+pub linear-cond : (t : Bool) {f : Level → ℤ} → Linear f → Linear (λ a. cond t (f a) (pos 0))
+linear-cond true F = F
+linear-cond false F = record { add = λ a b. refl; scale = λ k a. sym (*ℤ-zero k) }
 
 pub linear-over : (js : List ℕ) {f : ℕ → Level → ℤ} → ((j : ℕ) → Linear (f j)) → Linear (λ a. sumOver js (λ j. f j a))
 linear-over js {f} F = record {

@@ -1,0 +1,143 @@
+-- What it says that no refusal applies.
+use mathlib.Core.Path.{_≡_, refl, sym, ap, _∙_, subst}
+use mathlib.Core.Bool.{Bool, true, false, not, _&&_, _||_, true≢false}
+use mathlib.Core.List.{List, [], _∷_, _++_}
+use Prim.Native.Nat.{ℕ, _<_}
+use borrow.Author.Tests.{eqb-true, ltb-true, not-false}
+use lib.Dec.{T, ltb, eqb}
+use lib.IntN.{ℤ, pos, natAbs}
+use lib.ListN.{length, getD, List·getD-eq-default}
+use Rattle.forms.proofs.Level.{Still}
+use Rattle.scheme.specs.declared.Grid.{Grid}
+use Rattle.scheme.specs.declared.Instrument.{Instrument}
+use Rattle.scheme.specs.declared.Hit.{Hit}
+use Rattle.scheme.specs.declared.Hit.the-variants.{At}
+use Rattle.scheme.specs.declared.Refusal.{Refusal}
+use Rattle.scheme.specs.declared.Refusal.the-variants.{Nothing, UnknownKind, WrongSize, SheetNumber, Coefficient, Unstable, WrongLength, NotMoving, TooStrong, PickUp, HalfWidth, PointBeyond, FixedNotZero, NextBeyond}
+use Rattle.scheme.specs.Lists.{point}
+use Rattle.scheme.specs.Instruments.{kind, points, sizeIn, stableIn, beyond, moving}
+use Rattle.scheme.specs.Step.{someBeyond}
+use Rattle.scheme.specs.Refusals.{number, known, plucked, wrongSize, wrongCoefficient, wrongLength, notMoving, tooStrong, notGridPoint, wrongWidth, fixedNotZero, Check, _⇒_, lowest, instrumentChecks, blockChecks, pluckChecks, readingChecks, instrumentRefusal, blockRefusal, pluckRefusal, readingRefusal, ChecksInOrder}
+use Rattle.scheme.specs.Calls.{accepted}
+use Rattle.scheme.specs.Claims.{LevelPasses}
+use Rattle.scheme.proofs.Laws.Bools.{or-neither}
+
+-- each call's checks stand in the order of all numbers: by computing
+pub checks-in-order : ChecksInOrder
+checks-in-order = record { block = λ i older newer work pick h. tt; pluck = λ g older newer c w a. tt; reading = λ g newer pick. tt }
+
+-- ---- a list of checks
+
+-- each test of the list has failed
+abbrev pub NoneApplies : List Check → Type 0
+NoneApplies [] = Unit {0}
+NoneApplies ((b ⇒ r) ∷ cs) = (b ≡ false) × NoneApplies cs
+
+-- each check of the list answers a refusal
+abbrev refusing : List Check → Bool
+refusing [] = true
+refusing ((b ⇒ r) ∷ cs) = ltb 0 (number r) && refusing cs
+
+both : (a b : Bool) → T (a && b) → T a × T b
+both true b t = (tt, t)
+both false b t = absurd t
+
+pub none-applies : (cs : List Check) → T (refusing cs) → lowest cs ≡ Nothing → NoneApplies cs
+none-applies [] t e = tt
+none-applies ((true ⇒ r) ∷ cs) t e = absurd (subst (λ r. T (ltb 0 (number r))) e (both (ltb 0 (number r)) (refusing cs) t .0))
+none-applies ((false ⇒ r) ∷ cs) t e = (refl, none-applies cs (both (ltb 0 (number r)) (refusing cs) t .1) e)
+
+pub applies-none : (cs : List Check) → NoneApplies cs → lowest cs ≡ Nothing
+applies-none [] n = refl
+applies-none ((true ⇒ r) ∷ cs) n = absurd (true≢false (n .0))
+applies-none ((false ⇒ r) ∷ cs) n = applies-none cs (n .1)
+
+-- nothing refuses it
+pub accepted-is : (r : Refusal) → accepted r ≡ true → r ≡ Nothing
+accepted-is Nothing e = refl
+accepted-is UnknownKind e = absurd (true≢false (sym e))
+accepted-is WrongSize e = absurd (true≢false (sym e))
+accepted-is SheetNumber e = absurd (true≢false (sym e))
+accepted-is Coefficient e = absurd (true≢false (sym e))
+accepted-is Unstable e = absurd (true≢false (sym e))
+accepted-is WrongLength e = absurd (true≢false (sym e))
+accepted-is NotMoving e = absurd (true≢false (sym e))
+accepted-is TooStrong e = absurd (true≢false (sym e))
+accepted-is PickUp e = absurd (true≢false (sym e))
+accepted-is HalfWidth e = absurd (true≢false (sym e))
+accepted-is PointBeyond e = absurd (true≢false (sym e))
+accepted-is FixedNotZero e = absurd (true≢false (sym e))
+accepted-is NextBeyond e = absurd (true≢false (sym e))
+
+-- ---- what has passed
+
+pub right-length : (g : Grid) (xs : List ℤ) → wrongLength g xs ≡ false → length xs ≡ points g
+right-length g xs e = eqb-true (length xs) (points g) (not-false _ e)
+
+-- 1, 2, 4 and 5 have failed
+pub record InstrumentPasses (i : Instrument) : Type 0 where
+  pub size : sizeIn (kind (i .grid)) (i .grid .columns) (i .grid .rows) ≡ true
+  pub coefficients : wrongCoefficient (i .settings) ≡ false
+  pub stable : stableIn (kind (i .grid)) (i .settings .q) (i .settings .m) ≡ true
+
+pub instrument-passes : (i : Instrument) → instrumentRefusal i ≡ Nothing → InstrumentPasses i
+unfolding instrumentRefusal
+instrument-passes i e = let n = none-applies (instrumentChecks i) tt e in
+    record { size = not-false _ (n .1 .0); coefficients = n .1 .1 .0; stable = not-false _ (n .1 .1 .1 .0) }
+
+-- each of a block's tests 1 to 12 has failed
+pub record BlockPasses (i : Instrument) (older newer work : List ℤ) (pick : ℕ) (h : Hit) : Type 0 where
+  pub instrument : instrumentRefusal i ≡ Nothing
+  pub older-passes : LevelPasses (i .grid) older
+  pub newer-passes : LevelPasses (i .grid) newer
+  pub work-long : length work ≡ points (i .grid)
+  pub hit-moving : notMoving (i .grid) h ≡ false
+  pub hit-low : tooStrong h ≡ false
+  pub pick-in : pick < points (i .grid)
+
+pub block-passes : (i : Instrument) (older newer work : List ℤ) (pick : ℕ) (h : Hit) → blockRefusal i older newer work pick h ≡ Nothing → BlockPasses i older newer work pick h
+unfolding blockRefusal instrumentRefusal
+block-passes i older newer work pick h e =
+    let g = i .grid in
+    let n = none-applies (blockChecks i older newer work pick h) tt e in
+    let n5 = n .1 .1 .1 .1 in
+    let n9 = n5 .1 .1 .1 in
+    let l = or-neither (wrongLength g older || wrongLength g newer) (wrongLength g work) (n5 .0) in
+    let l2 = or-neither (wrongLength g older) (wrongLength g newer) (l .0) in
+    let b = or-neither (someBeyond older) (someBeyond newer) (n9 .1 .0) in
+    let z = or-neither (fixedNotZero g older) (fixedNotZero g newer) (n9 .1 .1 .0) in
+    record {
+      instrument = applies-none (instrumentChecks i) (n .0, (n .1 .0, (n .1 .1 .0, (n .1 .1 .1 .0, tt))));
+      older-passes = record { long = right-length g older (l2 .0); low = b .0; fixed-zero = z .0 };
+      newer-passes = record { long = right-length g newer (l2 .1); low = b .1; fixed-zero = z .1 };
+      work-long = right-length g work (l .1);
+      hit-moving = n5 .1 .0;
+      hit-low = n5 .1 .1 .0;
+      pick-in = ltb-true pick (points g) (not-false _ (n9 .0));
+    }
+
+-- each of a pluck's tests has failed
+pub record PluckPasses (g : Grid) (older newer : List ℤ) (c w : ℕ) (a : ℤ) : Type 0 where
+  pub kind-in : plucked (kind g) ≡ true
+  pub size : sizeIn (kind g) (g .columns) (g .rows) ≡ true
+  pub older-long : length older ≡ points g
+  pub newer-long : length newer ≡ points g
+  pub centre-moving : moving g c ≡ true
+  pub height-low : beyond a ≡ false
+  pub width-in : wrongWidth g w ≡ false
+
+pub pluck-passes : (g : Grid) (older newer : List ℤ) (c w : ℕ) (a : ℤ) → pluckRefusal g older newer c w a ≡ Nothing → PluckPasses g older newer c w a
+unfolding pluckRefusal
+pluck-passes g older newer c w a e =
+    let n = none-applies (pluckChecks g older newer c w a) tt e in
+    let n6 = n .1 .1 in
+    let l = or-neither (wrongLength g older) (wrongLength g newer) (n6 .0) in
+    record {
+      kind-in = not-false _ (n .0);
+      size = not-false _ (n .1 .0);
+      older-long = right-length g older (l .0);
+      newer-long = right-length g newer (l .1);
+      centre-moving = not-false _ (n6 .1 .0);
+      height-low = n6 .1 .1 .0;
+      width-in = n6 .1 .1 .1 .0;
+    }

@@ -1,0 +1,57 @@
+-- Laws of `roundAway` and `sampleOf`.
+use mathlib.Core.Path.{_≡_, refl, sym, ap, _∙_, subst}
+use mathlib.Core.Bool.{Bool, true, false, not, cond}
+use Prim.Native.Nat.{ℕ, zero, suc, _+_, _-_, _*_, _/_, _^_, _≤_, _<_}
+use native.Mathlib.Nat.{div-eq-of-lt, div-mul-le-self, lt-div-mul-add, div-lt-iff-lt-mul}
+use native.Mathlib.Omega.{arith}
+use lib.Dec.{T, ltb, ltb→lt, nltb→le}
+use lib.IntN.{ℤ, pos, negsuc, negℤ, natAbs, subℕ, _+ℤ_, _-ℤ_, _*ℤ_, negℤ-negℤ}
+use Rattle.scheme.specs.Instruments.{ceiling}
+use Rattle.scheme.specs.Step.{nearest, roundAway, sampleOf}
+
+cond-ind : {X : Type 0} (b : Bool) (x y : X) (P : X → Type 0) → (T b → P x) → (T (not b) → P y) → P (cond b x y)
+cond-ind true x y P f g = f tt
+cond-ind false x y P f g = g tt
+
+near : (m k q : ℕ) → 0 < k → (2 * m + k) / (2 * k) ≡ q → (2 * (k * q) ≤ 2 * m + k) × (2 * m ≤ 2 * (k * q) + k)
+near m k q h e =
+    let low : q * (2 * k) ≤ 2 * m + k = subst (λ (v : ℕ). v * (2 * k) ≤ 2 * m + k) e (div-mul-le-self (2 * m + k) (2 * k)) in
+    let high : 2 * m + k < q * (2 * k) + 2 * k = subst (λ (v : ℕ). 2 * m + k < v * (2 * k) + 2 * k) e (lt-div-mul-add (omega arith)) in
+    (omega arith, omega arith)
+
+gap : (a b k : ℕ) → 2 * b ≤ 2 * a + k → 2 * a ≤ 2 * b + k → 2 * natAbs (subℕ a b) ≤ k
+gap a b k h l =
+    cond-ind (ltb a b) (negsuc (b - suc a)) (pos (a - b)) (λ (z : ℤ). 2 * natAbs z ≤ k)
+    (λ t. omega (arith, ltb→lt a b t)) (λ t. omega (arith, nltb→le a b t))
+
+neg-gap : (a b k : ℕ) → 2 * b ≤ 2 * a + k → 2 * a ≤ 2 * b + k → 2 * natAbs (negℤ (pos a) +ℤ pos b) ≤ k
+neg-gap zero b k h l = omega arith
+neg-gap (suc a) b k h l = gap b (suc a) k l h
+
+neg-near : (m k q : ℕ) → (2 * (k * q) ≤ 2 * suc m + k) × (2 * suc m ≤ 2 * (k * q) + k) → 2 * natAbs (pos k *ℤ negℤ (pos q) -ℤ negsuc m) ≤ k
+neg-near m k zero w = omega arith
+neg-near m k (suc q) w = neg-gap (k * suc q) (suc m) k (w .1) (w .0)
+
+-- 2·|d·r − n| ≤ d for the rounded quotient r of n by d
+pub round-near : (n : ℤ) (d : ℕ) → 0 < d → 2 * natAbs (pos d *ℤ roundAway n d -ℤ n) ≤ d
+unfolding roundAway
+round-near (pos zero) k h = omega (arith, ap (λ (q : ℕ). k * q) (div-eq-of-lt {n = 2 * zero + k} {m = 2 * k} (omega arith)))
+round-near (pos (suc m)) k h =
+    let w = near (suc m) k (nearest (suc m) k) h refl in
+    gap (k * nearest (suc m) k) (suc m) k (w .1) (w .0)
+round-near (negsuc m) k h = neg-near m k (nearest (suc m) k) (near (suc m) k (nearest (suc m) k) h refl)
+
+-- odd: the quotient of −n is minus that of n
+pub round-odd : (n : ℤ) (d : ℕ) → 0 < d → roundAway (negℤ n) d ≡ negℤ (roundAway n d)
+unfolding roundAway
+round-odd (pos zero) d h =
+    let z : nearest zero d ≡ 0 = div-eq-of-lt (omega arith) in
+    ap pos z ∙ sym (ap (λ (q : ℕ). negℤ (pos q)) z)
+round-odd (pos (suc n)) d h = refl
+round-odd (negsuc n) d h = sym (negℤ-negℤ (pos (nearest (suc n) d)))
+
+-- within the ceiling a sample lies in −32767..32767: an i16 holds it
+pub sample-fits : (z : ℤ) → natAbs z ≤ ceiling → natAbs (sampleOf z) ≤ 32767
+unfolding sampleOf
+sample-fits (pos a) h = omega (arith, div-lt-iff-lt-mul {k = 2 ^ 28} {x = a} {y = 32768} (omega arith) .1 (omega arith))
+sample-fits (negsuc a) h = div-lt-iff-lt-mul {k = 2 ^ 28} {x = a} {y = 32767} (omega arith) .1 h
