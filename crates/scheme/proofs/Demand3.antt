@@ -1,1 +1,9 @@
-
+-- The proof of demand 3, in the order of docs/PROOF.md.
+pub mod Balance
+pub mod Degree
+pub mod Forms
+pub mod Bounds
+pub mod Instance
+pub mod Energy
+pub mod Effects
+pub mod Distance

@@ -1,0 +1,123 @@
+-- Demand 3, energy: never negative, never raised by a step without a hit, kept where there is no loss. Of every book that the unrounded scheme reaches.
+use mathlib.Core.Path.{_≡_, refl, sym, ap, ap₂, _∙_, fun-ext}
+use mathlib.Core.Bool.{Bool, true, false, not, _&&_, cond, true≢false}
+use mathlib.Core.List.{List, [], _∷_}
+use Prim.Native.Nat.{ℕ, _≤_, _<_}
+use native.Mathlib.Omega.{arith}
+use borrow.Author.Tests.{ltb-true, ltb-false}
+use lib.Dec.{ltb}
+use lib.IntN.{ℤ, pos, negsuc, natAbs, _+ℤ_, _*ℤ_, *ℤ-zero}
+use lib.ListN.{length, List·getD-eq-default}
+use Rattle.integers.proofs.Ring.{#_, ⊝_, _⊕_, _⊗_, _≈_}
+use Rattle.integers.proofs.Order.{_⩽_, ≡-≤ℤ, ≤ℤ-≡}
+use Rattle.integers.proofs.Lin.{_*≈_, _⇒_, ⊩≈_, lin}
+use Rattle.forms.proofs.Level.{Level, _⊡_, zeros, Still, still-scale}
+use Rattle.forms.proofs.Energy as Forms
+use Rattle.scheme.specs.declared.Grid.{Grid}
+use Rattle.scheme.specs.declared.Instrument.{Instrument}
+use Rattle.scheme.specs.declared.Hit.{Hit}
+use Rattle.scheme.specs.declared.Hit.the-variants.{Absent}
+use Rattle.scheme.specs.Lists.{point, square}
+use Rattle.scheme.specs.Instruments.{D, points, fixed, moving}
+use Rattle.scheme.specs.Step.{numerator, divisor}
+use Rattle.scheme.specs.Refusals.{fixedNotZero}
+use Rattle.scheme.specs.Energy.{energy}
+use Rattle.scheme.specs.Book.{noStep, Book, fresh, scale, unroundedAt, unroundedStep}
+use Rattle.scheme.specs.Claims.{LevelPasses, Passes, unroundedRun, bookEnergy, EnergyNeverNegative, EnergyNeverRaised, EnergyKept}
+use Rattle.scheme.proofs.Laws.Lists.{point-scaled, none-at}
+use Rattle.scheme.proofs.Laws.Step.{tabulated}
+use Rattle.scheme.proofs.Laws.Refusals.{InstrumentPasses, instrument-passes}
+use Rattle.scheme.proofs.Demand3.Forms.{weighed, held, energy-is}
+use Rattle.scheme.proofs.Demand3.Bounds.{energy-nonneg}
+use Rattle.scheme.proofs.Demand3.Instance.{freeStep, scheme}
+
+-- ---- the book's step, as functions of the points
+
+module _ (i : Instrument) (h : Hit) (b : Book) where
+  pub unrounded-still : (k : ℕ) → moving (i .grid) k ≡ false → unroundedAt i h b k ≡ pos 0
+  unfolding unroundedAt
+  unrounded-still k e = simp e
+
+  pub unrounded-newer : (k : ℕ) → point (unroundedStep i h b .newer) k ≡ unroundedAt i h b k
+  unfolding unroundedStep
+  unrounded-newer = tabulated (i .grid) (unroundedAt i h b) unrounded-still
+
+  pub unrounded-older : (k : ℕ) → point (unroundedStep i h b .older) k ≡ pos (divisor (i .settings)) *ℤ point (b .newer) k
+  unfolding unroundedStep
+  unrounded-older k = point-scaled (pos (divisor (i .settings))) (b .newer) k
+
+-- without a hit it is the free step
+pub unrounded-free : (i : Instrument) (b : Book) → point (unroundedStep i Absent b .newer) ≡ freeStep i (point (b .newer)) (point (b .older))
+unfolding unroundedAt freeStep
+unrounded-free i b = fun-ext (λ k. unrounded-newer i Absent b k ∙
+    ap (λ (f : Level). cond (moving (i .grid) k) (numerator i (point (b .newer)) (point (b .older)) f k) (pos 0)) (fun-ext (λ j. *ℤ-zero (scale (i .settings) (b .n)))))
+
+-- ---- every reached book is still
+
+pub record StillBook (g : Grid) (b : Book) : Type 0 where
+  pub newer-still : Still (moving g) (point (b .newer))
+  pub older-still : Still (moving g) (point (b .older))
+
+-- a level that passes is 0 at every number where nothing moves
+passes-still : (g : Grid) (xs : List ℤ) → LevelPasses g xs → Still (moving g) (point xs)
+unfolding fixedNotZero moving
+passes-still g xs v = record { still = λ k e. go k (ltb k (points g)) refl e }
+  where
+    zero-of : (z : ℤ) → natAbs z ≤ 0 → z ≡ pos 0
+    zero-of (pos n) h = let e : n ≡ 0 = omega arith in ap pos e
+    zero-of (negsuc n) h = absurd (omega arith)
+
+    here : (k : ℕ) (f : Bool) → k < points g → fixed g k ≡ f → not f ≡ false → point xs k ≡ pos 0
+    here k true p e t =
+        let q = none-at (length xs) (λ k. fixed g k && ltb 0 (natAbs (point xs k))) (v .fixed-zero) k (omega (arith, v .long)) in
+        zero-of (point xs k) (ltb-false 0 (natAbs (point xs k)) (ap (λ (f : Bool). f && ltb 0 (natAbs (point xs k))) (sym e) ∙ q))
+    here k false p e t = absurd (true≢false t)
+
+    go : (k : ℕ) (t : Bool) → ltb k (points g) ≡ t → (t && not (fixed g k)) ≡ false → point xs k ≡ pos 0
+    go k true e t = here k (fixed g k) (ltb-true k (points g) e) refl t
+    go k false e t = List·getD-eq-default xs (pos 0) (omega (arith, ltb-false k (points g) e, v .long))
+
+start-still : (i : Instrument) (older newer : List ℤ) → Passes i older newer → StillBook (i .grid) (fresh noStep older newer)
+start-still i older newer p = record { newer-still = passes-still (i .grid) newer (p .newer-passes); older-still = passes-still (i .grid) older (p .older-passes) }
+
+step-still : (i : Instrument) (h : Hit) (b : Book) → StillBook (i .grid) b → StillBook (i .grid) (unroundedStep i h b)
+step-still i h b v = record {
+  newer-still = record { still = λ k e. unrounded-newer i h b k ∙ unrounded-still i h b k e };
+  older-still = record { still = λ k e. unrounded-older i h b k ∙ still-scale (pos (divisor (i .settings))) (v .newer-still) .still k e };
+}
+
+run-still : (i : Instrument) (hs : List Hit) (b : Book) → StillBook (i .grid) b → StillBook (i .grid) (unroundedRun i hs b)
+unfolding unroundedRun
+run-still i [] b v = v
+run-still i (h ∷ hs) b v = run-still i hs (unroundedStep i h b) (step-still i h b v)
+
+-- ---- the claims
+
+module _ (i : Instrument) (ok : InstrumentPasses i) (b : Book) (v : StillBook (i .grid) b) where
+  abbrev d : ℤ
+  d = pos (divisor (i .settings))
+
+  -- the energy after a step without a hit, and before, by the forms
+  after : bookEnergy i (unroundedStep i Absent b) ≡ Forms.E (scheme i ok) (freeStep i (point (b .newer)) (point (b .older))) (d ⊡ point (b .newer))
+  after = ap₂ (energy i) (unrounded-free i b) (fun-ext (unrounded-older i Absent b)) ∙ energy-is i _ _
+
+  before : d *ℤ d *ℤ Forms.E (scheme i ok) (point (b .newer)) (point (b .older)) ≡ square d *ℤ bookEnergy i b
+  before = ap (λ z. d *ℤ d *ℤ z) (sym (energy-is i (point (b .newer)) (point (b .older))))
+
+  not-raised : bookEnergy i (unroundedStep i Absent b) ⩽ square d *ℤ bookEnergy i b
+  not-raised = ≡-≤ℤ after (≤ℤ-≡ (Forms.never-raised (scheme i ok) (point (b .newer)) (point (b .older)) (v .older-still)) before)
+
+  same : i .settings .s ≡ 0 → bookEnergy i (unroundedStep i Absent b) ≡ square d *ℤ bookEnergy i b
+  same e = after ∙ Forms.kept (scheme i ok) lossless (point (b .newer)) (point (b .older)) (v .older-still) ∙ before
+    where
+      lossless : (c : Level) → held i c c ≡ d *ℤ weighed (i .grid) c c
+      lossless c = lin 3 (λ D s g. (⊝ g) *≈ s ≈ # 0 ⇒ ⊩≈ D ⊗ g ≈ (D ⊕ s) ⊗ g) refl (pos D) (pos (i .settings .s)) (weighed (i .grid) c c) (ap pos e)
+
+pub energy-never-negative : EnergyNeverNegative
+energy-never-negative i older newer hs p q = energy-nonneg i (instrument-passes i (p .instrument)) _ _
+
+pub energy-never-raised : EnergyNeverRaised
+energy-never-raised i older newer hs p q = not-raised i (instrument-passes i (p .instrument)) _ (run-still i hs (fresh noStep older newer) (start-still i older newer p))
+
+pub energy-kept : EnergyKept
+energy-kept i older newer hs p q = same i (instrument-passes i (p .instrument)) _ (run-still i hs (fresh noStep older newer) (start-still i older newer p))
