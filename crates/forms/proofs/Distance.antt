@@ -5,9 +5,8 @@ use native.Mathlib.Nat as N
 use native.Mathlib.Numerals.{add-one}
 use native.Mathlib.Omega.{arith}
 use lib.IntN.{ℤ, pos, _+ℤ_, _-ℤ_, _*ℤ_}
-use lib.Signed.{≤ℤ-refl}
 use Rattle.integers.proofs.Ring.{#_, _⊕_, _⊖_, _⊗_, _≈_, ring}
-use Rattle.integers.proofs.Order.{_⩽_, 0≤pos, 0<pos, pos<, square-nonneg, mul-positive, ≡-≤ℤ, ≤ℤ-≡, ≤ℤ-of-eq}
+use Rattle.integers.proofs.Order.{_⩽_, 0<pos, pos<, square-nonneg, mul-positive, ≡-≤ℤ, ≤ℤ-≡, ≤ℤ-of-eq}
 use Rattle.integers.proofs.Lin.{_⊴_, _*≤_, _*⊴_, _⇒_, ⊩_, lin}
 use Rattle.forms.proofs.Level.{Level, _⊞_, _⊡_, zeros, Still, still-zeros, still-add, still-scale}
 use Rattle.forms.proofs.Form.{scale-both}

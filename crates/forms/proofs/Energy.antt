@@ -5,9 +5,9 @@ use mathlib.Core.Bool.{Bool}
 use Prim.Native.Nat.{ℕ}
 use lib.IntN.{ℤ, pos, negℤ, _+ℤ_, _-ℤ_, _*ℤ_}
 use Rattle.integers.proofs.Ring.{#_, ⊝_, _⊕_, _⊖_, _⊗_, _≈_, ring}
-use Rattle.integers.proofs.Order.{_⩽_, _⋖_, 0≤pos, 0<pos, square-nonneg, nonneg-add, nonneg-mul, mul-positive, *ℤ-cancel, <ℤ-weaken, ≡-≤ℤ, ≤ℤ-≡}
+use Rattle.integers.proofs.Order.{_⩽_, _⋖_, square-nonneg, nonneg-add, nonneg-mul, mul-positive, *ℤ-cancel, <ℤ-weaken, ≡-≤ℤ, ≤ℤ-≡}
 use Rattle.integers.proofs.Lin.{_⊴_, _*≤_, _*⊴_, _*≈_, _⇒_, ⊩_, ⊩≈_, lin, at-most-zero}
-use Rattle.forms.proofs.Level.{Level, _⊞_, _⊡_, Still, still-add, still-scale}
+use Rattle.forms.proofs.Level.{Level, _⊞_, _⊡_, Still}
 use Rattle.forms.proofs.Form.{Form, scale-right, scale-both, square-sum, square-combination}
 
 abbrev pub energy : (U W S : Level → Level → ℤ) → Level → Level → ℤ

@@ -1,10 +1,10 @@
 -- Levels as functions from points to whole numbers: sums, multiples, and levels that are 0 at every point that does not move.
 use mathlib.Core.Path.{_≡_, refl, sym, ap, ap₂, _∙_}
 use mathlib.Core.Bool.{Bool, true, false, cond}
-use mathlib.Core.List.{List, [], _∷_}
+use mathlib.Core.List.{List}
 use Prim.Native.Nat.{ℕ}
 use lib.IntN.{ℤ, pos, _+ℤ_, _-ℤ_, _*ℤ_, *ℤ-zero}
-use Rattle.integers.specs.Sum.{sum, sumOver}
+use Rattle.integers.specs.Sum.{sumOver}
 use Rattle.integers.proofs.Ring.{_⊕_, _⊖_, _⊗_, _≈_, ring}
 use Rattle.integers.proofs.Sum.{over-ext, over-add, over-scale}
 

@@ -3,3 +3,4 @@ pub mod Ring
 pub mod Order
 pub mod Lin
 pub mod Sum
+pub mod Size

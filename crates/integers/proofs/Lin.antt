@@ -4,15 +4,15 @@
 -- or, an equation, any expression's times (`c *≈ a ≈ b`). For `⊩ l ⊴ r` the difference `r - l`, less the sum of the facts' differences, must come to a natural number.
 -- For `⊩≈ l ≈ r` only the equations count, and `l - r` less the sum of the `c * (a - b)` must come to nothing.
 -- Where `refl` is refused, the refusal shows what is left over.
-use mathlib.Core.Path.{_≡_, refl, sym, _∙_, ap, ap₂, subst}
-use mathlib.Core.List.{List, [], _∷_}
+use mathlib.Core.Path.{_≡_, refl, sym, _∙_, ap, ap₂}
+use mathlib.Core.List.{List, []}
 use mathlib.Core.Logic.{_⊎_, inl, inr}
-use Prim.Native.Nat.{ℕ, zero, suc}
+use Prim.Native.Nat.{ℕ, suc}
 use native.Mathlib.Omega.{arith}
-use lib.IntN.{ℤ, pos, negℤ, _+ℤ_, _-ℤ_, _*ℤ_, +ℤ-invr, *ℤ-zero}
+use lib.IntN.{ℤ, pos, _+ℤ_, _-ℤ_, _*ℤ_, +ℤ-invr, *ℤ-zero}
 use lib.Signed.{≤ℤ-refl}
 use Rattle.integers.proofs.Laws.{eq-of-sub}
-use Rattle.integers.proofs.Ring.{E, var, con, _⊕_, _⊖_, _⊗_, ⊝_, #_, Eqn, _≈_, den, norm, Poly, nil, dropConst, zero-sound, const-sound, Of, applied, ForAll, for-all, ring}
+use Rattle.integers.proofs.Ring.{E, _⊕_, _⊖_, _⊗_, #_, Eqn, _≈_, den, norm, nil, dropConst, zero-sound, const-sound, Of, applied, ForAll, for-all, ring}
 use Rattle.integers.proofs.Order.{_⩽_, 0≤pos, pos-suc, pos≰0, le-or-above, ≤ℤ-of-eq, ≤ℤ-≡, nonneg-add, nonneg-mul, sub-nonneg, ≤ℤ-of-sub}
 
 infix 4 _⊴_

@@ -1,15 +1,14 @@
 -- The order of ℤ (`_≤ℤ_` of lib.Signed): its laws, and the passage between `a ≤ℤ b` and a natural number that is added.
-use mathlib.Core.Path.{_≡_, refl, sym, _∙_, ap, ap₂, subst, subst₂}
+use mathlib.Core.Path.{_≡_, refl, sym, _∙_, ap, ap₂, subst}
 use mathlib.Core.Logic.{_⊎_, inl, inr}
 use Prim.Native.Nat.{ℕ, zero, suc, _+_, _*_, _≤_, _<_, zero-le, suc-le-suc}
 use native.Mathlib.Nat as N
 use native.Mathlib.Numerals.{add-one}
 use native.Mathlib.Omega.{arith}
-use lib.Dec.{T, leb, ltb, leb→le, le→leb, ltb→lt, lt→ltb}
-use lib.IntN.{ℤ, pos, negsuc, sucℤ, natAbs, negℤ, _+ℤ_, _-ℤ_, _*ℤ_, +ℤ-idl, +ℤ-idr, +ℤ-assoc, +ℤ-comm, +ℤ-invl, +ℤ-sucℤ, +ℤ-one, negℤ-+ℤ, *ℤ-comm, zero-*ℤ, *ℤ-zero}
+use lib.Dec.{T, leb→le, le→leb, ltb→lt, lt→ltb}
+use lib.IntN.{ℤ, pos, negsuc, sucℤ, natAbs, negℤ, _+ℤ_, _-ℤ_, _*ℤ_, +ℤ-idl, +ℤ-idr, +ℤ-assoc, +ℤ-invl, +ℤ-sucℤ, +ℤ-one}
 use lib.Signed.{_≤ℤ_, _<ℤ_, leZ, ltZ, ≤ℤ-refl}
-use Rattle.integers.proofs.Laws.{*ℤ-1}
-use Rattle.integers.proofs.Ring.{E, var, con, _⊕_, _⊖_, _⊗_, ⊝_, #_, _≈_, ring}
+use Rattle.integers.proofs.Ring.{_⊕_, _⊖_, _⊗_, ⊝_, #_, _≈_, ring}
 
 -- the order, under a name that binds more weakly than the sum (`_≤ℤ_` binds more tightly)
 infix 4 _⩽_ _⋖_

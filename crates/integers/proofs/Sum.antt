@@ -1,17 +1,17 @@
 -- Laws of finite sums.
-use mathlib.Core.Path.{_≡_, refl, sym, _∙_, ap, ap₂, subst}
+use mathlib.Core.Path.{_≡_, refl, sym, _∙_, ap, ap₂}
 use mathlib.Core.Logic.{_≢_}
 use mathlib.Core.List.{List, [], _∷_, _++_}
-use Prim.Native.Nat.{ℕ, zero, suc, _+_, _≤_, _<_}
+use Prim.Native.Nat.{ℕ, zero, suc, _+_, _<_}
 use native.Mathlib.Nat as N
 use native.Mathlib.Decide.{ℕ-discrete}
 use native.Mathlib.Omega.{arith}
-use lib.IntN.{ℤ, pos, negsuc, negℤ, _+ℤ_, _-ℤ_, _*ℤ_, +ℤ-idl, +ℤ-idr, +ℤ-assoc, *ℤ-zero, zero-*ℤ}
+use lib.IntN.{ℤ, pos, negℤ, _+ℤ_, _-ℤ_, _*ℤ_, +ℤ-idl, +ℤ-idr, +ℤ-assoc, *ℤ-zero, zero-*ℤ}
 use lib.ListN.{length}
 use lib.Signed.{≤ℤ-refl}
 use Rattle.integers.specs.Sum.{sum, sumOver}
 use Rattle.integers.proofs.Laws.{+ℤ-swap4, mul-addℤ}
-use Rattle.integers.proofs.Ring.{E, var, con, _⊕_, _⊖_, _⊗_, ⊝_, #_, _≈_, ring}
+use Rattle.integers.proofs.Ring.{_⊕_, _⊖_, _⊗_, ⊝_, #_, _≈_, ring}
 use Rattle.integers.proofs.Order.{_⩽_, +ℤ-mono, nonneg-add, square-nonneg, ≤ℤ-of-eq, pos-suc}
 use Rattle.integers.proofs.Lin.{_⊴_, _*≤_, _*≈_, _⇒_, ⊩_, lin}
 

@@ -2,7 +2,9 @@
 pub mod Bools
 pub mod Lists
 pub mod Rounding
+pub mod Kinds
 pub mod Step
 pub mod Refusals
+pub mod Ranges
 pub mod Calls
 pub mod Table

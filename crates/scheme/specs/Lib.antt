@@ -9,3 +9,5 @@ pub mod Calls
 pub mod Energy
 pub mod Book
 pub mod Claims
+pub mod Examples
+pub mod FurtherExamples

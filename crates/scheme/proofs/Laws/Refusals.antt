@@ -1,23 +1,20 @@
 -- What it says that no refusal applies.
-use mathlib.Core.Path.{_≡_, refl, sym, ap, _∙_, subst}
-use mathlib.Core.Bool.{Bool, true, false, not, _&&_, _||_, true≢false}
-use mathlib.Core.List.{List, [], _∷_, _++_}
+use mathlib.Core.Path.{_≡_, refl, sym, subst}
+use mathlib.Core.Bool.{Bool, true, false, _&&_, _||_, true≢false}
+use mathlib.Core.List.{List, [], _∷_}
 use Prim.Native.Nat.{ℕ, _<_}
 use borrow.Author.Tests.{eqb-true, ltb-true, not-false}
-use lib.Dec.{T, ltb, eqb}
-use lib.IntN.{ℤ, pos, natAbs}
-use lib.ListN.{length, getD, List·getD-eq-default}
-use Rattle.forms.proofs.Level.{Still}
+use lib.Dec.{T, ltb}
+use lib.IntN.{ℤ}
+use lib.ListN.{length}
 use Rattle.scheme.specs.declared.Grid.{Grid}
 use Rattle.scheme.specs.declared.Instrument.{Instrument}
 use Rattle.scheme.specs.declared.Hit.{Hit}
-use Rattle.scheme.specs.declared.Hit.the-variants.{At}
 use Rattle.scheme.specs.declared.Refusal.{Refusal}
 use Rattle.scheme.specs.declared.Refusal.the-variants.{Nothing, UnknownKind, WrongSize, SheetNumber, Coefficient, Unstable, WrongLength, NotMoving, TooStrong, PickUp, HalfWidth, PointBeyond, FixedNotZero, NextBeyond}
-use Rattle.scheme.specs.Lists.{point}
 use Rattle.scheme.specs.Instruments.{kind, points, sizeIn, stableIn, beyond, moving}
 use Rattle.scheme.specs.Step.{someBeyond}
-use Rattle.scheme.specs.Refusals.{number, known, plucked, wrongSize, wrongCoefficient, wrongLength, notMoving, tooStrong, notGridPoint, wrongWidth, fixedNotZero, Check, _⇒_, lowest, instrumentChecks, blockChecks, pluckChecks, readingChecks, instrumentRefusal, blockRefusal, pluckRefusal, readingRefusal, ChecksInOrder}
+use Rattle.scheme.specs.Refusals.{number, plucked, wrongCoefficient, wrongLength, notMoving, tooStrong, wrongWidth, fixedNotZero, Check, _⇒_, lowest, instrumentChecks, blockChecks, pluckChecks, instrumentRefusal, blockRefusal, pluckRefusal, ChecksInOrder}
 use Rattle.scheme.specs.Calls.{accepted}
 use Rattle.scheme.specs.Claims.{LevelPasses}
 use Rattle.scheme.proofs.Laws.Bools.{or-neither}

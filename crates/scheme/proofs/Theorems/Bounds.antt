@@ -7,8 +7,8 @@ use Prim.Native.Nat.{ℕ, _*_, _≤_, _<_}
 use native.Mathlib.Omega.{arith}
 use lib.IntN.{ℤ, pos, negsuc, _+ℤ_, _-ℤ_, _*ℤ_, zero-*ℤ}
 use lib.ListN.{length}
-use Rattle.integers.specs.Sum.{sum, sumOver}
-use Rattle.integers.proofs.Ring.{#_, ⊝_, _⊕_, _⊖_, _⊗_, _≈_, ring}
+use Rattle.integers.specs.Sum.{sumOver}
+use Rattle.integers.proofs.Ring.{#_, _⊕_, _⊖_, _⊗_, _≈_, ring}
 use Rattle.integers.proofs.Order.{_⩽_, 0≤pos, 0<pos, pos≤, square-nonneg, nonneg-mul, *ℤ-mono-l, *ℤ-mono-r, *ℤ-cancel, ≡-≤ℤ, ≤ℤ-≡, ≤ℤ-trans, ≤ℤ-of-eq}
 use Rattle.integers.proofs.Lin.{_⊴_, _*≤_, _*⊴_, _*≈_, _⇒_, ⊩_, lin}
 use Rattle.integers.proofs.Sum.{sum-ext, sum-scale, sum-mono, over-ext, over-scale, over-mono, over-nonneg, over-const, cauchy}
@@ -21,9 +21,9 @@ use Rattle.scheme.specs.Step.{beside, neighbours, laplacian, innerLaplac
 use Rattle.scheme.specs.Energy.{weight, later, pairSum, laplacianSum, energy}
 use Rattle.scheme.proofs.Laws.Step.{laplacian-differences}
 use Rattle.scheme.proofs.Laws.Refusals.{InstrumentPasses}
-use Rattle.scheme.proofs.Demand3.Balance.{beside-balance}
-use Rattle.scheme.proofs.Demand3.Degree.{degree, size-positive, few, stable-means, stiff-held}
-use Rattle.scheme.proofs.Demand3.Forms.{weighed, pair-form, laplacian-form, weighed-nonneg, pair-nonneg, laplacian-nonneg, squares-are}
+use Rattle.scheme.proofs.Theorems.Balance.{beside-balance}
+use Rattle.scheme.proofs.Laws.Kinds.{degree, size-positive, few, stable-means, stiff-held}
+use Rattle.scheme.proofs.Theorems.Forms.{weighed, pair-form, laplacian-form, weighed-nonneg, pair-nonneg, laplacian-nonneg, squares-are}
 
 -- ---- no point has more than K/2 neighbours for each unit of weight
 

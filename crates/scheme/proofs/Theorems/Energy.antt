@@ -6,12 +6,12 @@ use Prim.Native.Nat.{ℕ, _≤_, _<_}
 use native.Mathlib.Omega.{arith}
 use borrow.Author.Tests.{ltb-true, ltb-false}
 use lib.Dec.{ltb}
-use lib.IntN.{ℤ, pos, negsuc, natAbs, _+ℤ_, _*ℤ_, *ℤ-zero}
+use lib.IntN.{ℤ, pos, negsuc, natAbs, _*ℤ_, *ℤ-zero}
 use lib.ListN.{length, List·getD-eq-default}
 use Rattle.integers.proofs.Ring.{#_, ⊝_, _⊕_, _⊗_, _≈_}
 use Rattle.integers.proofs.Order.{_⩽_, ≡-≤ℤ, ≤ℤ-≡}
 use Rattle.integers.proofs.Lin.{_*≈_, _⇒_, ⊩≈_, lin}
-use Rattle.forms.proofs.Level.{Level, _⊡_, zeros, Still, still-scale}
+use Rattle.forms.proofs.Level.{Level, _⊡_, Still, still-scale}
 use Rattle.forms.proofs.Energy as Forms
 use Rattle.scheme.specs.declared.Grid.{Grid}
 use Rattle.scheme.specs.declared.Instrument.{Instrument}
@@ -27,9 +27,9 @@ use Rattle.scheme.specs.Claims.{LevelPasses, Passes, unroundedRun, bookE
 use Rattle.scheme.proofs.Laws.Lists.{point-scaled, none-at}
 use Rattle.scheme.proofs.Laws.Step.{tabulated}
 use Rattle.scheme.proofs.Laws.Refusals.{InstrumentPasses, instrument-passes}
-use Rattle.scheme.proofs.Demand3.Forms.{weighed, held, energy-is}
-use Rattle.scheme.proofs.Demand3.Bounds.{energy-nonneg}
-use Rattle.scheme.proofs.Demand3.Instance.{freeStep, scheme}
+use Rattle.scheme.proofs.Theorems.Forms.{weighed, held, energy-is}
+use Rattle.scheme.proofs.Theorems.Bounds.{energy-nonneg}
+use Rattle.scheme.proofs.Theorems.Instance.{freeStep, scheme}
 
 -- ---- the book's step, as functions of the points
 

@@ -1,6 +1,5 @@
--- The proof of demand 3, in the order of docs/PROOF.md.
+-- The proofs of the four propositions of demand 3, in the order of docs/PROOF.md.
 pub mod Balance
-pub mod Degree
 pub mod Forms
 pub mod Bounds
 pub mod Instance

@@ -1,5 +1,5 @@
 -- The forms of a grid: G(a,b) = Σ w·a·b, the pairs and the Laplacians, S of the step; and what L is under them, line and grid at once.
-use mathlib.Core.Path.{_≡_, refl, sym, ap, ap₂, _∙_}
+use mathlib.Core.Path.{_≡_, refl, sym, ap, _∙_}
 use mathlib.Core.Bool.{Bool, true, false, cond}
 use mathlib.Core.Logic.{_⊎_, inl, inr}
 use Prim.Native.Nat.{ℕ, _*_, _<_}
@@ -13,12 +13,11 @@ use Rattle.forms.proofs.Form.{Form, product, times, minus, form-sum, form-over,
 use Rattle.forms.proofs.Energy as Energy
 use Rattle.scheme.specs.declared.Grid.{Grid}
 use Rattle.scheme.specs.declared.Instrument.{Instrument}
-use Rattle.scheme.specs.Lists.{square}
 use Rattle.scheme.specs.Instruments.{D, points, moving}
 use Rattle.scheme.specs.Step.{laplacian, innerLaplacian, biharmonic}
 use Rattle.scheme.specs.Energy.{weight, later, pairSum, squares, laplacianSum, energy}
 use Rattle.scheme.proofs.Laws.Step.{inner-linear}
-use Rattle.scheme.proofs.Demand3.Balance.{by-parts}
+use Rattle.scheme.proofs.Theorems.Balance.{by-parts}
 
 module _ (g : Grid) where
   abbrev w : ℕ → ℤ

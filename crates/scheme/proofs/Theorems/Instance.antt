@@ -3,7 +3,6 @@ use mathlib.Core.Path.{_≡_, refl, sym, ap, ap₂, _∙_}
 use mathlib.Core.Bool.{Bool, true, false, cond}
 use Prim.Native.Nat.{ℕ, _*_}
 use lib.IntN.{ℤ, pos, negℤ, _+ℤ_, _-ℤ_, _*ℤ_, *ℤ-zero, zero-*ℤ}
-use Rattle.integers.specs.Sum.{sum}
 use Rattle.integers.proofs.Ring.{#_, ⊝_, _⊕_, _⊖_, _⊗_, _≈_, ring}
 use Rattle.integers.proofs.Order.{0≤pos, ≤ℤ-≡}
 use Rattle.integers.proofs.Lin.{_⊴_, _*⊴_, _⇒_, ⊩_, lin}
@@ -12,11 +11,11 @@ use Rattle.forms.proofs.Level.{Level, zeros, Still}
 use Rattle.forms.proofs.Energy.{Scheme}
 use Rattle.scheme.specs.declared.Instrument.{Instrument}
 use Rattle.scheme.specs.Instruments.{D, points, moving}
-use Rattle.scheme.specs.Step.{laplacian, biharmonic, numeratorOf, numerator, divisor}
+use Rattle.scheme.specs.Step.{laplacian, biharmonic, numerator, divisor}
 use Rattle.scheme.specs.Energy.{weight, pairSum, laplacianSum}
 use Rattle.scheme.proofs.Laws.Refusals.{InstrumentPasses}
-use Rattle.scheme.proofs.Demand3.Forms.{weighed, weighed-form, weighed-nonneg, held, held-form, stepForm, step-form, energy-is, laplacian-parts, stiffness-parts}
-use Rattle.scheme.proofs.Demand3.Bounds.{some-columns, some-rows, soft-or-held, energy-nonneg}
+use Rattle.scheme.proofs.Theorems.Forms.{weighed, weighed-form, weighed-nonneg, held, held-form, stepForm, step-form, energy-is, laplacian-parts, stiffness-parts}
+use Rattle.scheme.proofs.Theorems.Bounds.{some-columns, some-rows, soft-or-held, energy-nonneg}
 
 module _ (i : Instrument) where
   -- D+s times the next level, not rounded

@@ -1,24 +1,22 @@
 -- Demand 3, distance: after any list of calls newer lies within the bound of the book's newer.
 use mathlib.Core.Path.{_≡_, refl, sym, ap, ap₂, _∙_, subst, subst₂, fun-ext}
-use mathlib.Core.Bool.{Bool, true, false, _&&_, cond, true≢false}
+use mathlib.Core.Bool.{Bool, true, false, cond}
 use mathlib.Core.List.{List}
-use Prim.Native.Nat.{ℕ, zero, suc, _+_, _*_, _^_, _≤_, _<_}
+use Prim.Native.Nat.{ℕ, zero, suc, _+_, _*_, _≤_, _<_}
 use native.Mathlib.Nat as N
 use native.Mathlib.Omega.{arith}
 use borrow.Author.Tests.{eqb-true}
-use lib.Dec.{eqb}
-use lib.IntN.{ℤ, pos, negsuc, natAbs, _+ℤ_, _-ℤ_, _*ℤ_, *ℤ-zero}
+use lib.IntN.{ℤ, pos, negsuc, natAbs, _+ℤ_, _-ℤ_, _*ℤ_}
 use lib.ListN.{length}
 use Rattle.integers.specs.Sum.{sum}
 use Rattle.integers.proofs.Ring.{#_, con, _⊕_, _⊖_, _⊗_, _≈_, ring}
 use Rattle.integers.proofs.Order.{_⩽_, 0≤pos, 0<pos, pos≤, square-nonneg, nonneg-mul, *ℤ-cancel, +ℤ-mono, ≡-≤ℤ, ≤ℤ-≡}
-use Rattle.integers.proofs.Lin.{_⊴_, _*≤_, _*⊴_, _*≈_, _⇒_, ⊩_, lin}
+use Rattle.integers.proofs.Lin.{_⊴_, _*≤_, _*⊴_, _⇒_, ⊩_, lin}
 use Rattle.integers.proofs.Sum.{sum-mono, sum-scale}
 use Rattle.forms.proofs.Level.{Level, _⊞_, _⊡_, zeros, Still}
 use Rattle.forms.proofs.Energy.{Scheme}
 use Rattle.forms.proofs.Distance as Forms
 use Rattle.scheme.specs.declared.Settings.{Settings}
-use Rattle.scheme.specs.declared.Grid.{Grid}
 use Rattle.scheme.specs.declared.Instrument.{Instrument}
 use Rattle.scheme.specs.declared.Hit.{Hit}
 use Rattle.scheme.specs.declared.Hit.the-variants.{Absent}
@@ -26,17 +24,17 @@ use Rattle.scheme.specs.Lists.{point, square}
 use Rattle.scheme.specs.Instruments.{D, points, moving, freeEnd}
 use Rattle.scheme.specs.Step.{numerator, roundAway, forceOf, divisor, nextAt, nextLevel}
 use Rattle.scheme.specs.Energy.{weight, squares}
-use Rattle.scheme.specs.Book.{LastStep, noStep, stepOf, Book, fresh, scale, unroundedAt, unroundedStep, unroundedSteps, sameInstrument, goesOn, bookBlock, State, start, calls}
+use Rattle.scheme.specs.Book.{LastStep, stepOf, Book, fresh, scale, unroundedAt, unroundedStep, unroundedSteps, sameInstrument, goesOn, bookBlock, State, start, calls}
 use Rattle.scheme.specs.Claims.{WithinBound, Near, DistanceBound}
 use Rattle.scheme.proofs.Laws.Bools.{and-both}
 use Rattle.scheme.proofs.Laws.Rounding.{round-near}
 use Rattle.scheme.proofs.Laws.Step.{numerator-add, numerator-scale, length-next, next-point}
 use Rattle.scheme.proofs.Laws.Refusals.{InstrumentPasses}
 use Rattle.scheme.proofs.Laws.Calls.{levelsAfter}
-use Rattle.scheme.proofs.Demand3.Forms.{weighed, squares-are}
-use Rattle.scheme.proofs.Demand3.Instance.{freeStep, scheme}
-use Rattle.scheme.proofs.Demand3.Energy.{unrounded-newer, unrounded-older}
-use Rattle.scheme.proofs.Demand3.Effects.{stepped, Effect, nothing, steps, overwrites, list-keeps}
+use Rattle.scheme.proofs.Theorems.Forms.{weighed, squares-are}
+use Rattle.scheme.proofs.Theorems.Instance.{freeStep, scheme}
+use Rattle.scheme.proofs.Theorems.Energy.{unrounded-newer, unrounded-older}
+use Rattle.scheme.proofs.Theorems.Effects.{stepped, Effect, nothing, steps, overwrites, list-keeps}
 
 -- ---- what a step rounds off
 

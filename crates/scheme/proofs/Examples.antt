@@ -1,0 +1,75 @@
+-- Both tables of examples hold: each row by computing. A row that no longer holds is refused at its own line.
+use mathlib.Core.Path.{refl}
+use lib.Ieee.{ofBits, div, ofInt}
+use Rattle.integers.specs.Sum.{sum, sumOver}
+use Rattle.scheme.specs.Lists.{tabulate, someBelow, countBelow, only}
+use Rattle.scheme.specs.Instruments.{kindOf, sizeIn, stableIn, roundEdge, fixedIn, moving, freeIn}
+use Rattle.scheme.specs.Step.{beside, neighbours, laplacian, innerLaplacian, numerator, roundAway, nextAt, nextLevel, someBeyond, sampleOf, floatOf}
+use Rattle.scheme.specs.Table.{table}
+use Rattle.scheme.specs.Pluck.{pluckAt, pluckLevel}
+use Rattle.scheme.specs.Refusals.{fixedNotZero, blockRefusal, pluckRefusal, readingRefusal, instrumentRefusal}
+use Rattle.scheme.specs.Calls.{play, block, pluck, reading}
+use Rattle.scheme.specs.Energy.{weight, squares, later, pairSum, laplacianSum, energy}
+use Rattle.scheme.specs.Book.{unroundedAt, unroundedStep, unroundedSteps, goesOn, bookBlock, bookPluck, call, calls}
+use Rattle.scheme.specs.Examples.{A, B, C, D, E, F, G, H, I, J, ExamplesHold}
+use Rattle.scheme.specs.FurtherExamples.{freeEndTwice, halfFree, barWithLoss, freeWithHit, fixedRing, roundRing, membraneStep, kinds, lineSizes, membraneSizes, roundSizes, coefficients, stability, stiffness, lengths, hits, forces, pickUps, highPoints, fixedPoints, pluckKinds, pluckLengths, pluckCentres, pluckHeights, widths, readingRefusals, lowestFirst, samples, readings, plucked, pluckedDown, pluckedFree, pluckedBoth, ringListing, endedBlock, atOnce, blockTurnedDown, emptyBlock, energies, bookGoesOn, bookStartsAnew, pluckedBook, pluckThenStep, distances, FurtherHold}
+
+pub examples-hold : ExamplesHold
+unfolding tabulate only kindOf countBelow sumOver sizeIn stableIn roundEdge fixedIn moving freeIn beside neighbours laplacian innerLaplacian numerator roundAway nextAt nextLevel instrumentRefusal
+examples-hold A = refl
+examples-hold B = refl
+examples-hold C = refl
+examples-hold D = refl
+examples-hold E = refl
+examples-hold F = refl
+examples-hold G = refl
+examples-hold H = (λ c r e. simp e, λ c r e. simp e)
+examples-hold I = (λ c r e. simp e, λ c r e. simp e)
+examples-hold J = (refl, refl)
+
+pub further-hold : FurtherHold
+unfolding sum sumOver tabulate someBelow only kindOf sizeIn stableIn roundEdge fixedIn moving freeIn beside neighbours laplacian innerLaplacian numerator roundAway nextAt nextLevel someBeyond sampleOf floatOf table pluckAt pluckLevel fixedNotZero blockRefusal pluckRefusal readingRefusal instrumentRefusal play block pluck reading weight squares later pairSum laplacianSum energy unroundedAt unroundedStep unroundedSteps goesOn bookBlock bookPluck call calls ofBits div ofInt
+further-hold freeEndTwice = refl
+further-hold halfFree = (refl, refl)
+further-hold barWithLoss = refl
+further-hold freeWithHit = refl
+further-hold fixedRing = refl
+further-hold roundRing = refl
+further-hold membraneStep = refl
+further-hold kinds = refl
+further-hold lineSizes = refl
+further-hold membraneSizes = refl
+further-hold roundSizes = refl
+further-hold coefficients = refl
+further-hold stability = refl
+further-hold stiffness = refl
+further-hold lengths = refl
+further-hold hits = refl
+further-hold forces = refl
+further-hold pickUps = refl
+further-hold highPoints = refl
+further-hold fixedPoints = refl
+further-hold pluckKinds = refl
+further-hold pluckLengths = refl
+further-hold pluckCentres = refl
+further-hold pluckHeights = refl
+further-hold widths = refl
+further-hold readingRefusals = refl
+further-hold lowestFirst = refl
+further-hold samples = refl
+further-hold readings = (refl, refl, refl)
+further-hold plucked = refl
+further-hold pluckedDown = refl
+further-hold pluckedFree = (refl, refl)
+further-hold pluckedBoth = (refl, refl)
+further-hold ringListing = refl
+further-hold endedBlock = refl
+further-hold atOnce = (refl, refl)
+further-hold blockTurnedDown = refl
+further-hold emptyBlock = refl
+further-hold energies = (refl, refl, refl)
+further-hold bookGoesOn = refl
+further-hold bookStartsAnew = refl
+further-hold pluckedBook = refl
+further-hold pluckThenStep = refl
+further-hold distances = (refl, refl)
