@@ -127,9 +127,6 @@ pub square-nonneg : (a : ℤ) → pos 0 ⩽ a *ℤ a
 square-nonneg (pos n) = 0≤pos (n * n)
 square-nonneg (negsuc n) = 0≤pos (suc n * suc n)
 
-pub neg-mono : {a b : ℤ} → a ⩽ b → negℤ b ⩽ negℤ a
-neg-mono {a} {b} h = le-by (sub-nonneg h) (ring 2 (λ a b. ⊝ a ⊖ ⊝ b ≈ b ⊖ a) refl a b)
-
 -- ---- cases
 pub ≤-totalℕ : (a b : ℕ) → (a ≤ b) ⊎ (b ≤ a)
 ≤-totalℕ zero b = inl zero-le

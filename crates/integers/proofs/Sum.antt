@@ -1,10 +1,8 @@
 -- Laws of finite sums.
 use mathlib.Core.Path.{_≡_, refl, sym, _∙_, ap, ap₂}
-use mathlib.Core.Logic.{_≢_}
 use mathlib.Core.List.{List, [], _∷_, _++_}
 use Prim.Native.Nat.{ℕ, zero, suc, _+_, _<_}
 use native.Mathlib.Nat as N
-use native.Mathlib.Decide.{ℕ-discrete}
 use native.Mathlib.Omega.{arith}
 use lib.IntN.{ℤ, pos, negℤ, _+ℤ_, _-ℤ_, _*ℤ_, +ℤ-idl, +ℤ-idr, +ℤ-assoc, *ℤ-zero, zero-*ℤ}
 use lib.ListN.{length}
@@ -14,14 +12,6 @@ use Rattle.integers.proofs.Laws.{+ℤ-swap4, mul-addℤ}
 use Rattle.integers.proofs.Ring.{_⊕_, _⊖_, _⊗_, ⊝_, #_, _≈_, ring}
 use Rattle.integers.proofs.Order.{_⩽_, +ℤ-mono, nonneg-add, square-nonneg, ≤ℤ-of-eq, pos-suc}
 use Rattle.integers.proofs.Lin.{_⊴_, _*≤_, _*≈_, _⇒_, ⊩_, lin}
-
-pub sum-zero : (f : ℕ → ℤ) → sum 0 f ≡ pos 0
-unfolding sum
-sum-zero f = refl
-
-pub sum-suc : (n : ℕ) (f : ℕ → ℤ) → sum (suc n) f ≡ sum n f +ℤ f n
-unfolding sum
-sum-suc n f = refl
 
 pub sum-cong : (n : ℕ) {f g : ℕ → ℤ} → ((i : ℕ) → i < n → f i ≡ g i) → sum n f ≡ sum n g
 unfolding sum
@@ -35,14 +25,6 @@ pub sum-add : (n : ℕ) (f g : ℕ → ℤ) → sum n (λ i. f i +ℤ g i) ≡ s
 unfolding sum
 sum-add zero f g = refl
 sum-add (suc n) f g = ap (λ x. x +ℤ (f n +ℤ g n)) (sum-add n f g) ∙ +ℤ-swap4 (sum n f) (sum n g) (f n) (g n)
-
-pub sum-neg : (n : ℕ) (f : ℕ → ℤ) → sum n (λ i. negℤ (f i)) ≡ negℤ (sum n f)
-unfolding sum
-sum-neg zero f = refl
-sum-neg (suc n) f = ap (λ x. x +ℤ negℤ (f n)) (sum-neg n f) ∙ ring 2 (λ x y. ⊝ x ⊕ ⊝ y ≈ ⊝ (x ⊕ y)) refl (sum n f) (f n)
-
-pub sum-sub : (n : ℕ) (f g : ℕ → ℤ) → sum n (λ i. f i -ℤ g i) ≡ sum n f -ℤ sum n g
-sum-sub n f g = sum-add n f (λ i. negℤ (g i)) ∙ ap (λ x. sum n f +ℤ x) (sum-neg n g)
 
 pub sum-scale : (n : ℕ) (c : ℤ) (f : ℕ → ℤ) → sum n (λ i. c *ℤ f i) ≡ c *ℤ sum n f
 unfolding sum
@@ -66,21 +48,6 @@ pub sum-nonneg : (n : ℕ) {f : ℕ → ℤ} → ((i : ℕ) → i < n → pos 0 
 unfolding sum
 sum-nonneg zero h = ≤ℤ-refl (pos 0)
 sum-nonneg (suc n) h = nonneg-add (sum-nonneg n (λ i p. h i (omega arith))) (h n (omega arith))
-
-pub sum-swap : (n m : ℕ) (f : ℕ → ℕ → ℤ) → sum n (λ i. sum m (λ j. f i j)) ≡ sum m (λ j. sum n (λ i. f i j))
-unfolding sum
-sum-swap zero m f = sym (sum-0 m)
-sum-swap (suc n) m f = ap (λ x. x +ℤ sum m (λ j. f n j)) (sum-swap n m f) ∙ sym (sum-add m (λ j. sum n (λ i. f i j)) (λ j. f n j))
-
--- at most one place counts
-pub sum-one : (n k : ℕ) (f : ℕ → ℤ) → k < n → ((i : ℕ) → i < n → i ≢ k → f i ≡ pos 0) → sum n f ≡ f k
-unfolding sum
-sum-one zero k f p h = absurd (N.not-suc-le-zero p)
-sum-one (suc n) k f p h = go (ℕ-discrete n k) (λ q. sum-one n k f q (λ i l. h i (omega arith)))
-  where
-    go : Dec (n ≡ k) → (k < n → sum n f ≡ f k) → sum n f +ℤ f n ≡ f k
-    go (yes e) r = ap₂ _+ℤ_ (sum-vanish n (λ i l. h i (omega arith) (omega arith))) (ap f e) ∙ +ℤ-idl (f k)
-    go (no d) r = ap₂ _+ℤ_ (r (omega arith)) (h n (omega arith) d) ∙ +ℤ-idr (f k)
 
 -- splitting and shifting
 pub sum-split : (n m : ℕ) (f : ℕ → ℤ) → sum (n + m) f ≡ sum n f +ℤ sum m (λ i. f (n + i))

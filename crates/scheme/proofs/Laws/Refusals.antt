@@ -4,6 +4,7 @@ use mathlib.Core.Bool.{Bool, true, false, _&&_, _||_, true≢false}
 use mathlib.Core.List.{List, [], _∷_}
 use Prim.Native.Nat.{ℕ, _<_}
 use borrow.Author.Tests.{eqb-true, ltb-true, not-false}
+use mir.Facts.{and-yes}
 use lib.Dec.{T, ltb}
 use lib.IntN.{ℤ}
 use lib.ListN.{length}
@@ -35,14 +36,10 @@ abbrev refusing : List Check → Bool
 refusing [] = true
 refusing ((b ⇒ r) ∷ cs) = ltb 0 (number r) && refusing cs
 
-both : (a b : Bool) → T (a && b) → T a × T b
-both true b t = (tt, t)
-both false b t = absurd t
-
 pub none-applies : (cs : List Check) → T (refusing cs) → lowest cs ≡ Nothing → NoneApplies cs
 none-applies [] t e = tt
-none-applies ((true ⇒ r) ∷ cs) t e = absurd (subst (λ r. T (ltb 0 (number r))) e (both (ltb 0 (number r)) (refusing cs) t .0))
-none-applies ((false ⇒ r) ∷ cs) t e = (refl, none-applies cs (both (ltb 0 (number r)) (refusing cs) t .1) e)
+none-applies ((true ⇒ r) ∷ cs) t e = absurd (subst (λ r. T (ltb 0 (number r))) e (and-yes (ltb 0 (number r)) (refusing cs) t .0))
+none-applies ((false ⇒ r) ∷ cs) t e = (refl, none-applies cs (and-yes (ltb 0 (number r)) (refusing cs) t .1) e)
 
 pub applies-none : (cs : List Check) → NoneApplies cs → lowest cs ≡ Nothing
 applies-none [] n = refl

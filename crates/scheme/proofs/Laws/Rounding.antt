@@ -1,17 +1,13 @@
 -- Laws of `roundAway` and `sampleOf`.
 use mathlib.Core.Path.{_≡_, refl, sym, ap, _∙_, subst}
-use mathlib.Core.Bool.{Bool, true, false, not, cond}
 use Prim.Native.Nat.{ℕ, zero, suc, _+_, _-_, _*_, _/_, _^_, _≤_, _<_}
 use native.Mathlib.Nat.{div-eq-of-lt, div-mul-le-self, lt-div-mul-add, div-lt-iff-lt-mul}
 use native.Mathlib.Omega.{arith}
-use lib.Dec.{T, ltb, ltb→lt, nltb→le}
+use lib.Dec.{ltb, ltb→lt, nltb→le}
 use lib.IntN.{ℤ, pos, negsuc, negℤ, natAbs, subℕ, _+ℤ_, _-ℤ_, _*ℤ_, negℤ-negℤ}
+use Rattle.integers.proofs.Size.{cond-ind}
 use Rattle.scheme.specs.Instruments.{ceiling}
 use Rattle.scheme.specs.Step.{nearest, roundAway, sampleOf}
-
-cond-ind : {X : Type 0} (b : Bool) (x y : X) (P : X → Type 0) → (T b → P x) → (T (not b) → P y) → P (cond b x y)
-cond-ind true x y P f g = f tt
-cond-ind false x y P f g = g tt
 
 near : (m k q : ℕ) → 0 < k → (2 * m + k) / (2 * k) ≡ q → (2 * (k * q) ≤ 2 * m + k) × (2 * m ≤ 2 * (k * q) + k)
 near m k q h e =

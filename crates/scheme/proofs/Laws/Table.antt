@@ -1,16 +1,13 @@
 -- The table T keeps its rule: tests that are computed over the whole table, and laws that turn them into the rule at each entry.
 use mathlib.Core.Path.{refl, sym, subst, _∙_}
-use mathlib.Core.Bool.{Bool, true, false, _&&_}
+use mathlib.Core.Bool.{Bool, true, _&&_}
 use mathlib.Core.List.{List, [], _∷_}
 use Prim.Native.Nat.{ℕ, zero, suc, _+_, _-_, _≤_, _<_}
 use native.Mathlib.Nat.{add-zero, zero-add, add-suc, suc-add, le-of-suc-le-suc, not-suc-le-zero}
+use mir.Facts.{and-yes}
 use lib.Dec.{T, leb, eqb, leb→le, eqb→eq}
 use lib.ListN.{length, getD}
 use Rattle.scheme.specs.Table.{TableRule, table}
-
-both : (a b : Bool) → T (a && b) → T a × T b
-both true b t = (tt, t)
-both false b t = absurd t
 
 -- the test f passes at each place of the list, counted from i, and its entry
 abbrev every : (ℕ → ℕ → Bool) → ℕ → List ℕ → Bool
@@ -19,10 +16,10 @@ every f i (x ∷ xs) = f i x && every f (suc i) xs
 
 from : (f : ℕ → ℕ → Bool) (xs : List ℕ) (i : ℕ) → T (every f i xs) → (k : ℕ) → k < length xs → T (f (i + k) (getD xs k 0))
 from f [] i t k h = absurd (not-suc-le-zero h)
-from f (x ∷ xs) i t zero h = subst (λ (m : ℕ). T (f m x)) (sym (add-zero i)) (both (f i x) (every f (suc i) xs) t .0)
+from f (x ∷ xs) i t zero h = subst (λ (m : ℕ). T (f m x)) (sym (add-zero i)) (and-yes (f i x) (every f (suc i) xs) t .0)
 from f (x ∷ xs) i t (suc k) h =
     subst (λ (m : ℕ). T (f m (getD xs k 0))) (suc-add i k ∙ sym (add-suc i k))
-    (from f xs (suc i) (both (f i x) (every f (suc i) xs) t .1) k (le-of-suc-le-suc h))
+    (from f xs (suc i) (and-yes (f i x) (every f (suc i) xs) t .1) k (le-of-suc-le-suc h))
 
 -- no entry is below the one before it
 abbrev rising : List ℕ → Bool
@@ -33,8 +30,8 @@ rising (x ∷ y ∷ ys) = leb x y && rising (y ∷ ys)
 rises : (xs : List ℕ) → T (rising xs) → (k : ℕ) → suc k < length xs → getD xs k 0 ≤ getD xs (suc k) 0
 rises [] t k h = absurd (not-suc-le-zero h)
 rises (x ∷ []) t k h = absurd (not-suc-le-zero (le-of-suc-le-suc h))
-rises (x ∷ y ∷ ys) t zero h = leb→le x y (both (leb x y) (rising (y ∷ ys)) t .0)
-rises (x ∷ y ∷ ys) t (suc k) h = rises (y ∷ ys) (both (leb x y) (rising (y ∷ ys)) t .1) k (le-of-suc-le-suc h)
+rises (x ∷ y ∷ ys) t zero h = leb→le x y (and-yes (leb x y) (rising (y ∷ ys)) t .0)
+rises (x ∷ y ∷ ys) t (suc k) h = rises (y ∷ ys) (and-yes (leb x y) (rising (y ∷ ys)) t .1) k (le-of-suc-le-suc h)
 
 mirrored : ℕ → ℕ → Bool
 mirrored j x = eqb (x + getD table (1024 - j) 0) 65536
