@@ -3,6 +3,7 @@ pub mod Bools
 pub mod Lists
 pub mod Rounding
 pub mod Kinds
+pub mod Neighbours
 pub mod Step
 pub mod Refusals
 pub mod Ranges

@@ -6,3 +6,4 @@ pub mod Instance
 pub mod Energy
 pub mod Effects
 pub mod Distance
+pub mod Program

@@ -60,13 +60,17 @@ pub record AfterBlock : Type 0 where
   pub work : List ℤ
   pub samples : List ℤ
 
+-- the same of a call that was made: its answer, and what it left
+abbrev pub blockLeft : BlockAnswer → (older newer work samples : List ℤ) → AfterBlock
+blockLeft answer older newer work samples = record { answer = answer; older = older; newer = newer; work = work; samples = samples }
+
 -- "Work is all zeros after 13 and after every accepted block": n points
 abbrev pub withWorkZero : ℕ → AfterSteps → AfterBlock
 withWorkZero n p = record { answer = p .answer; older = p .older; newer = p .newer; work = replicate n (pos 0); samples = p .samples }
 
 -- "For 1 to 12: zero steps, .. every lent level and sample unchanged."
 abbrev pub blockRefused : Refusal → (older newer work samples : List ℤ) → AfterBlock
-blockRefused r older newer work samples = record { answer = record { steps = 0; refusal = r }; older = older; newer = newer; work = work; samples = samples }
+blockRefused r older newer work samples = blockLeft (record { steps = 0; refusal = r }) older newer work samples
 
 -- "The lowest number that applies answers, and a call for which none applies is carried out"
 unfoldable pub block : Instrument → (older newer work samples : List ℤ) → ℕ → Hit → AfterBlock
@@ -83,13 +87,17 @@ pub record AfterPluck : Type 0 where
   pub older : List ℤ
   pub newer : List ℤ
 
+-- the same of a call that was made
+abbrev pub pluckLeft : Refusal → (older newer : List ℤ) → AfterPluck
+pluckLeft refusal older newer = record { refusal = refusal; older = older; newer = newer }
+
 -- "Both levels are overwritten."
 abbrev pub overwritten : List ℤ → AfterPluck
-overwritten xs = record { refusal = Nothing; older = xs; newer = xs }
+overwritten xs = pluckLeft Nothing xs xs
 
 -- "every lent level .. unchanged"
 abbrev pub pluckRefused : Refusal → (older newer : List ℤ) → AfterPluck
-pluckRefused r older newer = record { refusal = r; older = older; newer = newer }
+pluckRefused r older newer = pluckLeft r older newer
 
 -- "centre c, half width w, height a"
 unfoldable pub pluck : Grid → (older newer : List ℤ) → ℕ → ℕ → ℤ → AfterPluck

@@ -9,5 +9,6 @@ pub mod Calls
 pub mod Energy
 pub mod Book
 pub mod Claims
+pub mod Program
 pub mod Examples
 pub mod FurtherExamples

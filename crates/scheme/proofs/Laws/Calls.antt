@@ -6,6 +6,7 @@ use mathlib.Core.Logic.{_⊎_, inl, inr}
 use Prim.Native.Nat.{ℕ, zero, suc, _≤_, _<_}
 use native.Mathlib.Omega.{arith}
 use lib.Dec.{ltb}
+use lib.Ieee.{binary64, ofInt}
 use lib.IntN.{ℤ, pos, natAbs}
 use lib.ListN.{length, length-replicate}
 use Rattle.scheme.specs.declared.Grid.{Grid}
@@ -15,11 +16,11 @@ use Rattle.scheme.specs.declared.Hit.the-variants.{Absent}
 use Rattle.scheme.specs.declared.Refusal.the-variants.{Nothing, NextBeyond}
 use Rattle.scheme.specs.Lists.{point}
 use Rattle.scheme.specs.Instruments.{points, fixed}
-use Rattle.scheme.specs.Step.{nextLevel, someBeyond, sampleOf}
+use Rattle.scheme.specs.Step.{nextLevel, someBeyond, sampleOf, floatOf}
 use Rattle.scheme.specs.Table.{table}
 use Rattle.scheme.specs.Pluck.{pluckAt, pluckLevel}
-use Rattle.scheme.specs.Refusals.{fixedNotZero, blockRefusal, pluckRefusal}
-use Rattle.scheme.specs.Calls.{accepted, AfterSteps, ended, oneMore, play, AfterBlock, withWorkZero, blockRefused, block, AfterPluck, overwritten, pluckRefused, pluck}
+use Rattle.scheme.specs.Refusals.{fixedNotZero, blockRefusal, pluckRefusal, readingRefusal}
+use Rattle.scheme.specs.Calls.{accepted, AfterSteps, ended, oneMore, play, AfterBlock, withWorkZero, blockRefused, block, AfterPluck, overwritten, pluckRefused, pluck, reading}
 use Rattle.scheme.specs.Claims.{LevelPasses}
 use Rattle.scheme.proofs.Laws.Bools.{cases}
 use Rattle.scheme.proofs.Laws.Lists.{length-tabulate, none-below}
@@ -218,3 +219,14 @@ module _ (g : Grid) (older newer : List ℤ) (c w : ℕ) (a : ℤ) where
           let l = length-tabulate (points g) (pluckAt table g c w a) in
           subst Kept (sym (pluck-done n)) (l ∙ sym (v .older-long), l ∙ sym (v .newer-long))
       go false e = subst Kept (sym (pluck-refused e)) (refl, refl)
+
+-- ---- the float reading
+
+module _ (g : Grid) (newer : List ℤ) (pick : ℕ) where
+  pub reading-done : readingRefusal g newer pick ≡ Nothing → reading g newer pick ≡ record { value = floatOf (point newer pick); refusal = Nothing }
+  unfolding reading
+  reading-done e = simp e
+
+  pub reading-refused : accepted (readingRefusal g newer pick) ≡ false → reading g newer pick ≡ record { value = ofInt binary64 (pos 0); refusal = readingRefusal g newer pick }
+  unfolding reading
+  reading-refused e = simp e

@@ -1,4 +1,4 @@
--- The facts of the grid that go by the kind: sizes are positive, how many neighbours a point has against its weight, where there is stiffness, and what stable means.
+-- The facts of the grid that go by the kind: the sizes that the table has, how many neighbours a point has against its weight, where there is stiffness, and what stable means.
 use mathlib.Core.Path.{_≡_, refl, sym, ap, _∙_, subst}
 use mathlib.Core.Bool.{Bool, true, false, _&&_, _||_, cond, true≢false}
 use mathlib.Core.List.{List}
@@ -6,15 +6,15 @@ use mathlib.Core.Logic.{_⊎_, inl, inr}
 use Prim.Native.Nat.{ℕ, _+_, _-_, _*_, _≤_, _<_}
 use native.Mathlib.Nat as N
 use native.Mathlib.Omega.{arith}
-use borrow.Author.Tests.{leb-true, eqb-true, le-ltb}
-use lib.Dec.{leb, ltb, eqb}
+use borrow.Author.Tests.{leb-true, eqb-true, le-leb, eq-eqb, le-ltb}
+use lib.Dec.{T, leb, ltb, eqb, lit≤}
 use lib.ListN.{length, length-append}
 use Rattle.scheme.specs.declared.Grid.{Grid}
 use Rattle.scheme.specs.Lists.{only}
 use Rattle.scheme.specs.Instruments.{D, Kind, unknown, fixedString, halfFreeString, freeString, bar, membrane, roundMembrane, kind, within, lineSize, sizeIn, stableIn, points, column, row, atEdge, freeIn, freeEnd}
 use Rattle.scheme.specs.Step.{beside}
 use Rattle.scheme.specs.Energy.{weight}
-use Rattle.scheme.proofs.Laws.Bools.{and-both}
+use Rattle.scheme.proofs.Laws.Bools.{and-both, and-yes, same}
 
 -- "two neighbours, or four"
 abbrev pub degree : Kind → ℕ
@@ -28,28 +28,61 @@ degree roundMembrane = 4
 
 -- ---- sizes
 
-within-low : (a b n : ℕ) → within a b n ≡ true → a ≤ n
-within-low a b n e = leb-true a n (and-both (leb a n) (leb n b) e .0)
+-- a number in a range
+pub within-is : (a b n : ℕ) → within a b n ≡ true → (a ≤ n) × (n ≤ b)
+within-is a b n e = let u = and-both (leb a n) (leb n b) e in (leb-true a n (u .0), leb-true n b (u .1))
+
+pub is-within : (a b n : ℕ) → a ≤ n → n ≤ b → within a b n ≡ true
+is-within a b n l h = and-yes (le-leb a n l) ∙ le-leb n b h
+
+pub within-one : (n r : ℕ) → within n n r ≡ eqb r n
+within-one n r =
+    same (λ e. let w = within-is n n r e in eq-eqb r n (omega arith))
+    (λ e. let q = eqb-true r n e in is-within n n r (omega arith) (omega arith))
 
 one-row : (c r : ℕ) → lineSize c r ≡ true → r ≡ 1
 one-row c r e = eqb-true r 1 (and-both (within 3 1024 c) (eqb r 1) e .1)
 
-line-positive : (c r : ℕ) → lineSize c r ≡ true → (0 < c) × (0 < r)
-line-positive c r e = (omega (arith, within-low 3 1024 c (and-both (within 3 1024 c) (eqb r 1) e .0)), omega (arith, one-row c r e))
+-- the sizes that the table has
+pub record Sized (c r : ℕ) : Type 0 where
+  pub columns-low : 3 ≤ c
+  pub rows-low : 1 ≤ r
+  pub rows-high : r ≤ 64
+  pub points-high : c * r ≤ 4096
 
-pub size-positive : (K : Kind) (c r : ℕ) → sizeIn K c r ≡ true → (0 < c) × (0 < r)
+-- 3..m columns and l..n rows
+sized-by : (m l n c r : ℕ) → T (leb 1 l) → T (leb n 64) → T (leb (m * n) 4096) → (within 3 m c && within l n r) ≡ true → Sized c r
+sized-by m l n c r tl tn tp e =
+    let p = and-both (within 3 m c) (within l n r) e in
+    let x = within-is 3 m c (p .0) in
+    let y = within-is l n r (p .1) in
+    record {
+      columns-low = x .0;
+      rows-low = N.le-trans (lit≤ tl) (y .0);
+      rows-high = N.le-trans (y .1) (lit≤ tn);
+      points-high = N.le-trans (N.mul-le-mul (x .1) (y .1)) (lit≤ tp);
+    }
+
+sized-line : (c r : ℕ) → lineSize c r ≡ true → Sized c r
+sized-line c r e = sized-by 1024 1 1 c r tt tt tt (ap (λ (b : Bool). within 3 1024 c && b) (within-one 1 r) ∙ e)
+
+-- a square is no larger
+sized-square : (c r : ℕ) → (within 3 64 c && eqb r c) ≡ true → Sized c r
+sized-square c r e =
+    let p = and-both (within 3 64 c) (eqb r c) e in
+    let x = within-is 3 64 c (p .0) in
+    let q = eqb-true r c (p .1) in
+    sized-by 64 3 64 c r tt tt tt (and-yes (p .0) ∙ is-within 3 64 r (omega arith) (omega arith))
+
+pub sized : (K : Kind) (c r : ℕ) → sizeIn K c r ≡ true → Sized c r
 unfolding sizeIn
-size-positive unknown c r e = absurd (true≢false (sym e))
-size-positive fixedString c r e = line-positive c r e
-size-positive halfFreeString c r e = line-positive c r e
-size-positive freeString c r e = line-positive c r e
-size-positive bar c r e = line-positive c r e
-size-positive membrane c r e =
-    let u = and-both (within 3 64 c) (within 3 64 r) e in
-    (omega (arith, within-low 3 64 c (u .0)), omega (arith, within-low 3 64 r (u .1)))
-size-positive roundMembrane c r e =
-    let u = and-both (within 3 64 c) (eqb r c) e in
-    let h = within-low 3 64 c (u .0) in (omega arith, omega (arith, eqb-true r c (u .1)))
+sized unknown c r e = absurd (true≢false (sym e))
+sized fixedString c r e = sized-line c r e
+sized halfFreeString c r e = sized-line c r e
+sized freeString c r e = sized-line c r e
+sized bar c r e = sized-line c r e
+sized membrane c r e = sized-by 64 3 64 c r tt tt tt e
+sized roundMembrane c r e = sized-square c r e
 
 -- ---- how many points stand beside one
 

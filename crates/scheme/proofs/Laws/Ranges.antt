@@ -19,6 +19,7 @@ use Rattle.scheme.specs.declared.Grid.{Grid}
 use Rattle.scheme.specs.declared.Instrument.{Instrument}
 use Rattle.scheme.specs.Instruments.{D, ceiling, kind, points, moving, freeEnd, sizeIn}
 use Rattle.scheme.specs.Step.{beside, neighbours, laplacian, innerLaplacian, biharmonic, numeratorOf}
+use Rattle.scheme.specs.Refusals.{wrongCoefficient}
 use Rattle.scheme.specs.Energy.{weight}
 use Rattle.scheme.proofs.Laws.Bools.{or-neither}
 use Rattle.scheme.proofs.Laws.Kinds.{degree, few, stable-means}
@@ -74,19 +75,23 @@ pub record Terms (c : Settings) (u l b p f : ℤ) : Type 0 where
   pub older : natAbs ((pos D -ℤ pos (c .s)) *ℤ p) ≤ D * ceiling
   pub force : natAbs (pos D *ℤ f) ≤ D * ceiling
 
+-- "Each is 0..65536."
+pub coefficients-small : (c : Settings) → wrongCoefficient c ≡ false → (c .q ≤ D) × (c .m ≤ D) × (c .s ≤ D)
+coefficients-small c e =
+    let qm = or-neither (ltb D (c .q) || ltb D (c .m)) (ltb D (c .s)) e in
+    let q = or-neither (ltb D (c .q)) (ltb D (c .m)) (qm .0) in
+    (ltb-false D (c .q) (q .0), ltb-false D (c .m) (q .1), ltb-false D (c .s) (qm .1))
+
 module _ (i : Instrument) (ok : InstrumentPasses i) where
   abbrev c : Settings
   c = i .settings
-
-  loss-small : c .s ≤ D
-  loss-small = ltb-false D (c .s) (or-neither (ltb D (c .q) || ltb D (c .m)) (ltb D (c .s)) (ok .coefficients) .1)
 
   pub numerator-terms : (newer older force : Level) → Within ceiling newer → Within ceiling older → Within ceiling force → (k : ℕ) → k < points (i .grid)
       → Terms c (newer k) (laplacian (i .grid) newer k) (biharmonic (i .grid) newer k) (older k) (force k)
   numerator-terms newer older force hn ho hf k p = record {
     own = omega (arith, size-mul (pos (2 * D)) (newer k), hn k);
     neighbouring = omega (arith, size-mul (pos (c .q)) l, size-mul (pos (c .m)) b, ql, mb, joint, e);
-    older = omega (arith, size-mul (pos D -ℤ pos (c .s)) (older k), N.mul-le-mul (size-less D (c .s) loss-small) (ho k));
+    older = omega (arith, size-mul (pos D -ℤ pos (c .s)) (older k), N.mul-le-mul (size-less D (c .s) (coefficients-small c (ok .coefficients) .2)) (ho k));
     force = omega (arith, size-mul (pos D) (force k), hf k);
   }
     where

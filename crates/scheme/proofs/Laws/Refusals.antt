@@ -1,24 +1,28 @@
 -- What it says that no refusal applies.
-use mathlib.Core.Path.{_≡_, refl, sym, subst}
-use mathlib.Core.Bool.{Bool, true, false, _&&_, _||_, true≢false}
+use mathlib.Core.Path.{_≡_, refl, sym, ap, _∙_, subst}
+use mathlib.Core.Bool.{Bool, true, false, not, _&&_, _||_, true≢false}
 use mathlib.Core.List.{List, [], _∷_}
-use Prim.Native.Nat.{ℕ, _<_}
-use borrow.Author.Tests.{eqb-true, ltb-true, not-false}
+use Prim.Native.Nat.{ℕ, _≤_, _<_}
+use native.Mathlib.Omega.{arith}
+use borrow.Author.Tests.{eqb-true, ltb-true, ltb-false, not-false}
 use mir.Facts.{and-yes}
 use lib.Dec.{T, ltb}
-use lib.IntN.{ℤ}
-use lib.ListN.{length}
+use lib.IntN.{ℤ, pos, negsuc, natAbs}
+use lib.ListN.{length, List·getD-eq-default}
+use Rattle.forms.proofs.Level.{Still}
 use Rattle.scheme.specs.declared.Grid.{Grid}
 use Rattle.scheme.specs.declared.Instrument.{Instrument}
 use Rattle.scheme.specs.declared.Hit.{Hit}
 use Rattle.scheme.specs.declared.Refusal.{Refusal}
 use Rattle.scheme.specs.declared.Refusal.the-variants.{Nothing, UnknownKind, WrongSize, SheetNumber, Coefficient, Unstable, WrongLength, NotMoving, TooStrong, PickUp, HalfWidth, PointBeyond, FixedNotZero, NextBeyond}
-use Rattle.scheme.specs.Instruments.{kind, points, sizeIn, stableIn, beyond, moving}
+use Rattle.scheme.specs.Lists.{point}
+use Rattle.scheme.specs.Instruments.{ceiling, kind, points, sizeIn, stableIn, beyond, fixed, moving}
 use Rattle.scheme.specs.Step.{someBeyond}
-use Rattle.scheme.specs.Refusals.{number, plucked, wrongCoefficient, wrongLength, notMoving, tooStrong, wrongWidth, fixedNotZero, Check, _⇒_, lowest, instrumentChecks, blockChecks, pluckChecks, instrumentRefusal, blockRefusal, pluckRefusal, ChecksInOrder}
+use Rattle.scheme.specs.Refusals.{number, plucked, wrongCoefficient, wrongLength, notMoving, tooStrong, wrongWidth, fixedNotZero, Check, _⇒_, lowest, instrumentChecks, blockChecks, pluckChecks, readingChecks, instrumentRefusal, blockRefusal, pluckRefusal, readingRefusal, ChecksInOrder}
 use Rattle.scheme.specs.Calls.{accepted}
 use Rattle.scheme.specs.Claims.{LevelPasses}
 use Rattle.scheme.proofs.Laws.Bools.{or-neither}
+use Rattle.scheme.proofs.Laws.Lists.{none-at}
 
 -- each call's checks stand in the order of all numbers: by computing
 pub checks-in-order : ChecksInOrder
@@ -32,7 +36,7 @@ NoneApplies [] = Unit {0}
 NoneApplies ((b ⇒ r) ∷ cs) = (b ≡ false) × NoneApplies cs
 
 -- each check of the list answers a refusal
-abbrev refusing : List Check → Bool
+abbrev pub refusing : List Check → Bool
 refusing [] = true
 refusing ((b ⇒ r) ∷ cs) = ltb 0 (number r) && refusing cs
 
@@ -67,6 +71,34 @@ accepted-is NextBeyond e = absurd (true≢false (sym e))
 
 pub right-length : (g : Grid) (xs : List ℤ) → wrongLength g xs ≡ false → length xs ≡ points g
 right-length g xs e = eqb-true (length xs) (points g) (not-false _ e)
+
+-- a level that passes is 0 at every number where nothing moves
+pub passes-still : (g : Grid) (xs : List ℤ) → LevelPasses g xs → Still (moving g) (point xs)
+unfolding fixedNotZero moving
+passes-still g xs v = record { still = λ k e. go k (ltb k (points g)) refl e }
+  where
+    zero-of : (z : ℤ) → natAbs z ≤ 0 → z ≡ pos 0
+    zero-of (pos n) h = let e : n ≡ 0 = omega arith in ap pos e
+    zero-of (negsuc n) h = absurd (omega arith)
+
+    here : (k : ℕ) (f : Bool) → k < points g → fixed g k ≡ f → not f ≡ false → point xs k ≡ pos 0
+    here k true p e t =
+        let q = none-at (length xs) (λ k. fixed g k && ltb 0 (natAbs (point xs k))) (v .fixed-zero) k (omega (arith, v .long)) in
+        zero-of (point xs k) (ltb-false 0 (natAbs (point xs k)) (ap (λ (f : Bool). f && ltb 0 (natAbs (point xs k))) (sym e) ∙ q))
+    here k false p e t = absurd (true≢false t)
+
+    go : (k : ℕ) (t : Bool) → ltb k (points g) ≡ t → (t && not (fixed g k)) ≡ false → point xs k ≡ pos 0
+    go k true e t = here k (fixed g k) (ltb-true k (points g) e) refl t
+    go k false e t = List·getD-eq-default xs (pos 0) (omega (arith, ltb-false k (points g) e, v .long))
+
+-- and lies within the ceiling at every number
+pub passes-low : (g : Grid) (xs : List ℤ) → LevelPasses g xs → (k : ℕ) → natAbs (point xs k) ≤ ceiling
+unfolding someBeyond
+passes-low g xs v k = go (ltb k (length xs)) refl
+  where
+    go : (t : Bool) → ltb k (length xs) ≡ t → natAbs (point xs k) ≤ ceiling
+    go true e = ltb-false ceiling (natAbs (point xs k)) (none-at (length xs) (λ k. beyond (point xs k)) (v .low) k (ltb-true k (length xs) e))
+    go false e = subst (λ (z : ℤ). natAbs z ≤ ceiling) (sym (List·getD-eq-default xs (pos 0) (ltb-false k (length xs) e))) (omega arith)
 
 -- 1, 2, 4 and 5 have failed
 pub record InstrumentPasses (i : Instrument) : Type 0 where
@@ -134,4 +166,20 @@ pluck-passes g older newer c w a e =
       centre-moving = not-false _ (n6 .1 .0);
       height-low = n6 .1 .1 .0;
       width-in = n6 .1 .1 .1 .0;
+    }
+
+-- each of a reading's tests has failed
+pub record ReadingPasses (g : Grid) (newer : List ℤ) (pick : ℕ) : Type 0 where
+  pub newer-passes : LevelPasses g newer
+  pub pick-in : pick < points g
+
+pub reading-passes : (g : Grid) (newer : List ℤ) (pick : ℕ) → readingRefusal g newer pick ≡ Nothing → ReadingPasses g newer pick
+unfolding readingRefusal
+reading-passes g newer pick e =
+    let n = none-applies (readingChecks g newer pick) tt e in
+    let n6 = n .1 .1 in
+    let n11 = n6 .1 .1 in
+    record {
+      newer-passes = record { long = right-length g newer (n6 .0); low = n11 .0; fixed-zero = n11 .1 .0 };
+      pick-in = ltb-true pick (points g) (not-false _ (n6 .1 .0));
     }

@@ -1,10 +1,13 @@
 -- Laws of `roundAway` and `sampleOf`.
 use mathlib.Core.Path.{_≡_, refl, sym, ap, _∙_, subst}
-use Prim.Native.Nat.{ℕ, zero, suc, _+_, _-_, _*_, _/_, _^_, _≤_, _<_}
-use native.Mathlib.Nat.{div-eq-of-lt, div-mul-le-self, lt-div-mul-add, div-lt-iff-lt-mul}
+use mathlib.Core.Bool.{true, false, true≢false}
+use Prim.Native.Nat.{ℕ, zero, suc, _+_, _-_, _*_, _/_, _^_, _≤_, _<_, zero-le}
+use native.Mathlib.Nat.{div-eq-of-lt, div-eq-of-lt-le, div-mul-le-self, lt-div-mul-add, div-lt-iff-lt-mul}
 use native.Mathlib.Omega.{arith}
+use borrow.Author.Tests.{le-ltb}
 use lib.Dec.{ltb, ltb→lt, nltb→le}
-use lib.IntN.{ℤ, pos, negsuc, negℤ, natAbs, subℕ, _+ℤ_, _-ℤ_, _*ℤ_, negℤ-negℤ}
+use lib.IntN.{ℤ, pos, negsuc, negℤ, natAbs, subℕ, _+ℤ_, _-ℤ_, _*ℤ_, +ℤ-idr, negℤ-negℤ}
+use lib.Signed.{ltZ, quotZ}
 use Rattle.integers.proofs.Size.{cond-ind}
 use Rattle.scheme.specs.Instruments.{ceiling}
 use Rattle.scheme.specs.Step.{nearest, roundAway, sampleOf}
@@ -36,6 +39,28 @@ round-near (pos (suc m)) k h =
     let w = near (suc m) k (nearest (suc m) k) h refl in
     gap (k * nearest (suc m) k) (suc m) k (w .1) (w .0)
 round-near (negsuc m) k h = neg-near m k (nearest (suc m) k) (near (suc m) k (nearest (suc m) k) h refl)
+
+-- ---- as code computes it: half of d is added away from zero, and the quotient is cut toward zero
+
+half-way : (m k q : ℕ) → q * k ≤ m + k / 2 → m + k / 2 < q * k + k → (2 * m + k) / (2 * k) ≡ q
+half-way m k q low high = div-eq-of-lt-le (2 * k) (omega arith) (omega arith)
+
+nearest-half : (m k : ℕ) → 0 < k → (m + k / 2) / k ≡ nearest m k
+nearest-half m k h = sym (half-way m k ((m + k / 2) / k) (div-mul-le-self (m + k / 2) k) (lt-div-mul-add h))
+
+pub round-up : (n : ℤ) (k : ℕ) → 0 < k → ltZ n (pos 0) ≡ false → quotZ (n +ℤ pos (k / 2)) (pos k) ≡ roundAway n k
+unfolding roundAway
+round-up (pos m) k h e = ap pos (nearest-half m k h)
+round-up (negsuc m) k h e = absurd (true≢false e)
+
+down : (m h k : ℕ) → k / 2 ≡ h → 0 < k → quotZ (negsuc m -ℤ pos h) (pos k) ≡ roundAway (negsuc m) k
+unfolding roundAway
+down m zero k e p = let z : suc m ≡ suc m + k / 2 = omega arith in ap (λ (n : ℤ). quotZ n (pos k)) (+ℤ-idr (negsuc m)) ∙ ap (λ (n : ℕ). negℤ (pos n)) (ap (λ (n : ℕ). n / k) z ∙ nearest-half (suc m) k p)
+down m (suc h) k e p = ap (λ (n : ℕ). negℤ (pos n)) (ap (λ (n : ℕ). n / k) (omega arith) ∙ nearest-half (suc m) k p)
+
+pub round-down : (n : ℤ) (k : ℕ) → 0 < k → ltZ n (pos 0) ≡ true → quotZ (n -ℤ pos (k / 2)) (pos k) ≡ roundAway n k
+round-down (pos m) k h e = absurd (true≢false (sym e ∙ le-ltb m 0 zero-le))
+round-down (negsuc m) k h e = down m (k / 2) k refl h
 
 -- odd: the quotient of −n is minus that of n
 pub round-odd : (n : ℤ) (d : ℕ) → 0 < d → roundAway (negℤ n) d ≡ negℤ (roundAway n d)

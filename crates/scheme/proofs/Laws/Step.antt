@@ -18,6 +18,7 @@ use Rattle.scheme.specs.declared.Hit.{Hit}
 use Rattle.scheme.specs.Lists.{tabulate, point}
 use Rattle.scheme.specs.Instruments.{D, ceiling, beyond, points, fixed, moving}
 use Rattle.scheme.specs.Step.{neighbours, laplacian, innerLaplacian, biharmonic, numeratorOf, numerator, roundAway, forceOf, divisor, nextAt, nextLevel, someBeyond}
+use Rattle.scheme.proofs.Laws.Bools.{and-both}
 use Rattle.scheme.proofs.Laws.Lists.{length-tabulate, getD-tabulate, point-tabulate, none-at, none-below}
 
 -- ---- moving and fixed
@@ -26,6 +27,11 @@ use Rattle.scheme.proofs.Laws.Lists.{length-tabulate, getD-tabulate, po
 pub outside-still : (g : Grid) (k : ℕ) → points g ≤ k → moving g k ≡ false
 unfolding moving
 outside-still g k h = ap (λ (t : Bool). t && not (fixed g k)) (le-ltb k (points g) h)
+
+-- what moves is a grid point
+pub moving-inside : (g : Grid) (k : ℕ) → moving g k ≡ true → k < points g
+unfolding moving
+moving-inside g k e = ltb-true k (points g) (and-both (ltb k (points g)) (not (fixed g k)) e .0)
 
 pub fixed-still : (g : Grid) (k : ℕ) → fixed g k ≡ true → moving g k ≡ false
 unfolding moving

@@ -22,7 +22,7 @@ use Rattle.scheme.specs.Energy.{weight, later, pairSum, laplacianSum, en
 use Rattle.scheme.proofs.Laws.Step.{laplacian-differences}
 use Rattle.scheme.proofs.Laws.Refusals.{InstrumentPasses}
 use Rattle.scheme.proofs.Theorems.Balance.{beside-balance}
-use Rattle.scheme.proofs.Laws.Kinds.{degree, size-positive, few, stable-means, stiff-held}
+use Rattle.scheme.proofs.Laws.Kinds.{degree, sized, few, stable-means, stiff-held}
 use Rattle.scheme.proofs.Theorems.Forms.{weighed, pair-form, laplacian-form, weighed-nonneg, pair-nonneg, laplacian-nonneg, squares-are}
 
 -- ---- no point has more than K/2 neighbours for each unit of weight
@@ -79,10 +79,10 @@ module _ (g : Grid) (hc : 0 < g .columns) (hr : 0 < g .rows) (K : ℕ) (deg : (k
 
 module _ (i : Instrument) (ok : InstrumentPasses i) where
   pub some-columns : 0 < i .grid .columns
-  some-columns = size-positive (kind (i .grid)) (i .grid .columns) (i .grid .rows) (ok .size) .0
+  some-columns = omega (arith, sized (kind (i .grid)) (i .grid .columns) (i .grid .rows) (ok .size) .columns-low)
 
   pub some-rows : 0 < i .grid .rows
-  some-rows = size-positive (kind (i .grid)) (i .grid .columns) (i .grid .rows) (ok .size) .1
+  some-rows = sized (kind (i .grid)) (i .grid .columns) (i .grid .rows) (ok .size) .rows-low
 
   -- where there is stiffness every weight is 2
   pub soft-or-held : (i .settings .m ≡ 0) ⊎ ((k : ℕ) → weight (i .grid) k ≡ 2)

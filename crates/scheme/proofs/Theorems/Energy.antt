@@ -1,13 +1,9 @@
 -- Demand 3, energy: never negative, never raised by a step without a hit, kept where there is no loss. Of every book that the unrounded scheme reaches.
 use mathlib.Core.Path.{_≡_, refl, sym, ap, ap₂, _∙_, fun-ext}
-use mathlib.Core.Bool.{Bool, true, false, not, _&&_, cond, true≢false}
+use mathlib.Core.Bool.{false, cond}
 use mathlib.Core.List.{List, [], _∷_}
-use Prim.Native.Nat.{ℕ, _≤_, _<_}
-use native.Mathlib.Omega.{arith}
-use borrow.Author.Tests.{ltb-true, ltb-false}
-use lib.Dec.{ltb}
-use lib.IntN.{ℤ, pos, negsuc, natAbs, _*ℤ_, *ℤ-zero}
-use lib.ListN.{length, List·getD-eq-default}
+use Prim.Native.Nat.{ℕ}
+use lib.IntN.{ℤ, pos, _*ℤ_, *ℤ-zero}
 use Rattle.integers.proofs.Ring.{#_, ⊝_, _⊕_, _⊗_, _≈_}
 use Rattle.integers.proofs.Order.{_⩽_, ≡-≤ℤ, ≤ℤ-≡}
 use Rattle.integers.proofs.Lin.{_*≈_, _⇒_, ⊩≈_, lin}
@@ -18,15 +14,14 @@ use Rattle.scheme.specs.declared.Instrument.{Instrument}
 use Rattle.scheme.specs.declared.Hit.{Hit}
 use Rattle.scheme.specs.declared.Hit.the-variants.{Absent}
 use Rattle.scheme.specs.Lists.{point, square}
-use Rattle.scheme.specs.Instruments.{D, points, fixed, moving}
+use Rattle.scheme.specs.Instruments.{D, moving}
 use Rattle.scheme.specs.Step.{numerator, divisor}
-use Rattle.scheme.specs.Refusals.{fixedNotZero}
 use Rattle.scheme.specs.Energy.{energy}
 use Rattle.scheme.specs.Book.{noStep, Book, fresh, scale, unroundedAt, unroundedStep}
-use Rattle.scheme.specs.Claims.{LevelPasses, Passes, unroundedRun, bookEnergy, EnergyNeverNegative, EnergyNeverRaised, EnergyKept}
-use Rattle.scheme.proofs.Laws.Lists.{point-scaled, none-at}
+use Rattle.scheme.specs.Claims.{Passes, unroundedRun, bookEnergy, EnergyNeverNegative, EnergyNeverRaised, EnergyKept}
+use Rattle.scheme.proofs.Laws.Lists.{point-scaled}
 use Rattle.scheme.proofs.Laws.Step.{tabulated}
-use Rattle.scheme.proofs.Laws.Refusals.{InstrumentPasses, instrument-passes}
+use Rattle.scheme.proofs.Laws.Refusals.{InstrumentPasses, instrument-passes, passes-still}
 use Rattle.scheme.proofs.Theorems.Forms.{weighed, held, energy-is}
 use Rattle.scheme.proofs.Theorems.Bounds.{energy-nonneg}
 use Rattle.scheme.proofs.Theorems.Instance.{freeStep, scheme}
@@ -57,25 +52,6 @@ unrounded-free i b = fun-ext (λ k. unrounded-newer i Absent b k ∙
 pub record StillBook (g : Grid) (b : Book) : Type 0 where
   pub newer-still : Still (moving g) (point (b .newer))
   pub older-still : Still (moving g) (point (b .older))
-
--- a level that passes is 0 at every number where nothing moves
-passes-still : (g : Grid) (xs : List ℤ) → LevelPasses g xs → Still (moving g) (point xs)
-unfolding fixedNotZero moving
-passes-still g xs v = record { still = λ k e. go k (ltb k (points g)) refl e }
-  where
-    zero-of : (z : ℤ) → natAbs z ≤ 0 → z ≡ pos 0
-    zero-of (pos n) h = let e : n ≡ 0 = omega arith in ap pos e
-    zero-of (negsuc n) h = absurd (omega arith)
-
-    here : (k : ℕ) (f : Bool) → k < points g → fixed g k ≡ f → not f ≡ false → point xs k ≡ pos 0
-    here k true p e t =
-        let q = none-at (length xs) (λ k. fixed g k && ltb 0 (natAbs (point xs k))) (v .fixed-zero) k (omega (arith, v .long)) in
-        zero-of (point xs k) (ltb-false 0 (natAbs (point xs k)) (ap (λ (f : Bool). f && ltb 0 (natAbs (point xs k))) (sym e) ∙ q))
-    here k false p e t = absurd (true≢false t)
-
-    go : (k : ℕ) (t : Bool) → ltb k (points g) ≡ t → (t && not (fixed g k)) ≡ false → point xs k ≡ pos 0
-    go k true e t = here k (fixed g k) (ltb-true k (points g) e) refl t
-    go k false e t = List·getD-eq-default xs (pos 0) (omega (arith, ltb-false k (points g) e, v .long))
 
 start-still : (i : Instrument) (older newer : List ℤ) → Passes i older newer → StillBook (i .grid) (fresh noStep older newer)
 start-still i older newer p = record { newer-still = passes-still (i .grid) newer (p .newer-passes); older-still = passes-still (i .grid) older (p .older-passes) }
