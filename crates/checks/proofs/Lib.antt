@@ -1,0 +1,6 @@
+pub mod KindLaws
+pub mod SearchLaws
+pub mod RoundLaws
+pub mod RunLaws
+pub mod LevelLaws
+pub mod RefusalLaws
