@@ -1,0 +1,14 @@
+pub mod Held
+pub mod ListLaws
+pub mod PlanLaws
+pub mod RunLaws
+pub mod ForceLaws
+pub mod PointLaws
+pub mod BesideLaws
+pub mod StringLaws
+pub mod BarLaws
+pub mod KindLaws
+pub mod HitLaws
+pub mod StepLaws
+pub mod PlayLaws
+pub mod CallLaws

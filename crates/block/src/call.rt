@@ -1,0 +1,85 @@
+// The call: its checks, its steps, and the levels back in their places.
+ghost use mathlib.Core.Path.{_≡_};
+ghost use mathlib.Core.Bool.{cond};
+ghost use lib.Dec.{ltb};
+ghost use lib.ListN.{length};
+ghost use Rattle.scheme.specs.declared.Refusal.the-variants.{Nothing, NextBeyond};
+ghost use Rattle.scheme.specs.Refusals.{blockRefusal};
+ghost use Rattle.scheme.specs.Calls.{block, blockLeft};
+ghost use Rattle.block.specs.Levels.{olderOf, newerOf};
+use crate::arithmetic::make_plan;
+use crate::levels::clear;
+use crate::levels::exchange;
+use crate::play::play;
+use checks::block_refusal;
+use checks::is_nothing;
+use scheme::BlockAnswer;
+use scheme::Hit;
+use scheme::Instrument;
+use scheme::Refusal;
+
+// The two levels back in their places.
+fn settle(older: &mut [i64], newer: &mut [i64], exchanged: bool)
+    requires { ⌜ length (now older) ≡ length (now newer) ⌝ }
+    ensures { λ _. ⌜ (now (older .exit) ≡ olderOf exchanged (now (older .entry)) (now (newer .entry))) × (now (newer .exit) ≡ newerOf exchanged (now (older .entry)) (now (newer .entry))) ⌝ }
+{
+    if exchanged {
+        exchange(older, newer);
+    }
+}
+
+// 13 where fewer steps were done than there are places.
+fn ending(done: usize, places: usize) -> Refusal
+    ensures { λ r. ⌜ r ≡ cond (ltb done places) NextBeyond Nothing ⌝ }
+{
+    if done < places {
+        Refusal::NextBeyond
+    } else {
+        Refusal::Nothing
+    }
+}
+
+// A block that 1 to 12 let pass.
+fn carry_out(
+    i: Instrument,
+    older: &mut [i64],
+    newer: &mut [i64],
+    work: &mut [i64],
+    samples: &mut [i16],
+    pick: usize,
+    hit: Hit,
+) -> BlockAnswer
+    requires { ⌜ blockRefusal i (now older) (now newer) (now work) pick hit ≡ Nothing ⌝ }
+    ensures { λ r. ⌜ blockLeft r (now (older .exit)) (now (newer .exit)) (now (work .exit)) (now (samples .exit)) ≡ block i (now (older .entry)) (now (newer .entry)) (now (work .entry)) (now (samples .entry)) pick hit ⌝ }
+{
+    let plan = make_plan(i);
+    clear(work);
+    let steps = play(plan, older, newer, work, samples, pick, hit);
+    clear(work);
+    settle(older, newer, steps.exchanged);
+    let refusal = ending(steps.done, samples.len());
+    BlockAnswer {
+        steps: steps.done,
+        refusal,
+    }
+}
+
+// As many steps as samples has places, the hit in the first; or what refuses them.
+// Ruled out: a sample given in two places; a step that is not undone when its last point passes the ceiling.
+pub fn block(
+    i: Instrument,
+    older: &mut [i64],
+    newer: &mut [i64],
+    work: &mut [i64],
+    samples: &mut [i16],
+    pick: usize,
+    hit: Hit,
+) -> BlockAnswer
+    ensures { λ r. ⌜ blockLeft r (now (older .exit)) (now (newer .exit)) (now (work .exit)) (now (samples .exit)) ≡ block i (now (older .entry)) (now (newer .entry)) (now (work .entry)) (now (samples .entry)) pick hit ⌝ }
+{
+    let refusal = block_refusal(i, older, newer, work.len(), pick, hit);
+    if !is_nothing(refusal) {
+        return BlockAnswer { steps: 0, refusal };
+    }
+    carry_out(i, older, newer, work, samples, pick, hit)
+}

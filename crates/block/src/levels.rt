@@ -1,0 +1,29 @@
+// Whole slices.
+ghost use mathlib.Core.Path.{_≡_};
+ghost use lib.IntN.{pos};
+ghost use lib.ListN.{length, replicate};
+
+// Puts 0 everywhere.
+pub fn clear(xs: &mut [i64])
+    ensures { λ _. ⌜ now (xs .exit) ≡ replicate (length (now (xs .entry))) (pos 0) ⌝ }
+{
+    let mut k = 0;
+    while k < xs.len() {
+        xs[k] = 0;
+        k += 1;
+    }
+}
+
+// Exchanges two slices of one length.
+pub fn exchange(xs: &mut [i64], ys: &mut [i64])
+    requires { ⌜ length (now xs) ≡ length (now ys) ⌝ }
+    ensures { λ _. ⌜ (now (xs .exit) ≡ now (ys .entry)) × (now (ys .exit) ≡ now (xs .entry)) ⌝ }
+{
+    let mut k = 0;
+    while k < xs.len() {
+        let x = xs[k];
+        xs[k] = ys[k];
+        ys[k] = x;
+        k += 1;
+    }
+}

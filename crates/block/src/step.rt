@@ -1,0 +1,60 @@
+// One step of a whole level.
+ghost use mathlib.Core.Path.{_≡_};
+ghost use Prim.Native.Nat.{_≤_};
+ghost use lib.ListN.{length};
+ghost use Rattle.scheme.specs.Instruments.{points};
+ghost use Rattle.scheme.specs.Step.{nextAt};
+ghost use Rattle.block.specs.Run.{RanTo};
+ghost use Rattle.block.specs.Levels.{Steppable, Stepped, Restored};
+use crate::arithmetic::Plan;
+use crate::rows::step_row;
+use checks::movable_run;
+use scheme::Hit;
+
+// Every moving point, row by row.
+fn step_rows(plan: Plan, older: &mut [i64], newer: &[i64], work: &mut [i64], hit: Hit) -> usize
+    requires { ⌜ Steppable plan hit (now older) (now newer) (now work) ⌝ }
+    ensures { λ r. ⌜ RanTo (nextAt (plan .instrument) hit (now (older .entry)) (now (newer .entry))) (now (older .entry)) (now (work .entry)) (now (older .exit)) (now (work .exit)) 0 (points (plan .instrument .grid)) r ⌝ }
+{
+    let g = plan.instrument.grid;
+    let columns = g.columns;
+    let rows = g.rows;
+    let mut row = 0;
+    let mut start = 0;
+    while row < rows {
+        let run = movable_run(g, row);
+        let to = start + run.to;
+        let at = step_row(plan, older, newer, work, start + run.from, to, hit);
+        if at < to {
+            return at;
+        }
+        row += 1;
+        start += columns;
+    }
+    start
+}
+
+// Puts the first n points of work back into older.
+fn restore(older: &mut [i64], work: &[i64], n: usize)
+    requires { ⌜ (n ≤ length (now older)) × (n ≤ length (now work)) ⌝ }
+    ensures { λ _. ⌜ Restored (now (older .entry)) (now (work .entry)) (now (older .exit)) n ⌝ }
+{
+    let mut k = 0;
+    while k < n {
+        older[k] = work[k];
+        k += 1;
+    }
+}
+
+// The next level in older where all its points lie within the ceiling; else older as it was.
+pub fn step(plan: Plan, older: &mut [i64], newer: &[i64], work: &mut [i64], hit: Hit) -> bool
+    requires { ⌜ Steppable plan hit (now older) (now newer) (now work) ⌝ }
+    ensures { λ r. ⌜ Stepped (plan .instrument) hit (now (older .entry)) (now (newer .entry)) (now (older .exit)) (now (work .exit)) r ⌝ }
+{
+    let at = step_rows(plan, older, newer, work, hit);
+    if at < newer.len() {
+        restore(older, work, at);
+        return false;
+    }
+    true
+}
