@@ -1,0 +1,56 @@
+use mathlib.Core.Path.{_≡_, sym, ap, _∙_, subst}
+use borrow.Author.Needs.{needs}
+use lib.ListN.{length}
+use mir.Syntax.{w64}
+use mir.Val.{toZ, ofZ}
+use Rattle.bounded.proofs.Num.{back}
+use Rattle.scheme.specs.Lists.{tabulate}
+use Rattle.pluck.specs.declared.shape.Shape.{Shape}
+use Rattle.pluck.specs.Shapes.{Shaped, shapeAt}
+use Rattle.pluck.proofs.ShapeLaws.{shapeOf, shaped, older-is, newer-is}
+use Rattle.pluck.proofs.call.carry_out.Statement.{statement}
+use Rattle.pluck.proofs.call.carry_out.Tie as tie
+
+-- the shape as the code makes it
+module _ (c : tie.After-movable-run) where
+  abbrev s : tie.Start
+  s = c .before
+
+  abbrev made : Shape
+  made = record { run = c .movable-run .result; centre = s .args .centre; width = s .args .half-width; height = toZ w64 (ofZ w64 (s .args .height)) }
+
+  made-is : made ≡ shapeOf (s .args .g) (s .args .centre) (s .args .half-width) (s .args .height)
+  made-is = λ j. record { run = c .movable-run .ensures j; centre = s .args .centre; width = s .args .half-width; height = back (s .args .height) (s .fits .height .sfits) j }
+
+  made-shaped : Shaped made
+  made-shaped = subst Shaped (sym made-is) (shaped (s .args .g) (s .args .older .now) (s .args .newer .now) (s .args .centre) (s .args .half-width) (s .args .height) (s .pre))
+
+movable-run-requires : tie.Need-movable-run-requires
+movable-run-requires c κs = search needs
+
+fill-requires : tie.Need-fill-requires
+fill-requires c κs = made-shaped (c .before)
+
+fill-requires-2 : tie.Need-fill-requires-2
+fill-requires-2 c κs = made-shaped (c .before .before .before .before)
+
+same-length : tie.Need-same-length
+same-length c = search needs
+
+same-length-2 : tie.Need-same-length-2
+same-length-2 c = search needs
+
+returns : tie.Need-returns
+returns c =
+    let m = c .before .before .before .before .before .before in
+    let a = s m .args in (
+      c .before .before .before .before .fill .ensures ∙ ap (λ (x : Shape). tabulate (length (a .older .now)) (shapeAt x)) (made-is m) ∙
+          older-is (a .g) (a .older .now) (a .newer .now) (a .centre) (a .half-width) (a .height) (s m .pre),
+      c .before .fill2 .ensures ∙ ap (λ (x : Shape). tabulate (length (a .newer .now)) (shapeAt x)) (made-is m) ∙
+          newer-is (a .g) (a .older .now) (a .newer .now) (a .centre) (a .half-width) (a .height) (s m .pre),
+    )
+
+pub carry-out-spec : {M : Type 1} → statement M
+carry-out-spec =
+    tie.close
+    (tie.spec movable-run-requires fill-requires fill-requires-2 same-length same-length-2 returns)
