@@ -1,4 +1,4 @@
--- Demand 3 of a program: what it saw of its calls of `block` and `pluck`, as far as they kept their promises.
+-- Demand 3 of a program, known by its calls of `block` and `pluck`: their arguments, their answers and what they left.
 use mathlib.Core.Path.{_≡_}
 use mathlib.Core.List.{List, [], _∷_}
 use Prim.Native.Nat.{ℕ}
@@ -38,7 +38,7 @@ unfoldable pub afterAll : List Made → State → State
 afterAll [] t = t
 afterAll (m ∷ ms) t = afterAll ms (after m t)
 
--- demand 3 of what the program saw
+-- demand 3 of the levels that the program holds
 abbrev pub ProgramBound : Type 0
 ProgramBound = (older newer : List ℤ) (ms : List Made) → AllKept ms (start older newer) →
     let t = afterAll ms (start older newer) in Near (t .newer) (t .book .n) (t .book .newer) (t .book .last)
