@@ -14,7 +14,7 @@ use Rattle.scheme.specs.declared.Instrument.{Instrument}
 use Rattle.scheme.specs.declared.Hit.{Hit}
 use Rattle.scheme.specs.declared.Refusal.{Refusal}
 use Rattle.scheme.specs.declared.Refusal.the-variants.{Nothing, UnknownKind, WrongSize}
-use Rattle.scheme.specs.Instruments.{points}
+use Rattle.scheme.specs.Instruments.{Kind, kindOf, within, points}
 use Rattle.scheme.specs.Step.{someBeyond}
 use Rattle.scheme.specs.Refusals.{number, known, plucked, wrongSize, fixedNotZero, Check, _⇒_, lowest, gridChecks, instrumentChecks, stateChecks, blockChecks, blockRefusal, pluckRefusal, readingRefusal, instrumentRefusal}
 use Rattle.scheme.specs.Calls.{accepted}
@@ -69,15 +69,13 @@ module _ {p s w q : Refusal} {b : Bool} (both : Parts p s w) (first : q ≡ p) (
 
 -- ---- the checks of calls
 
-pub grid-known : (g : Grid) → gridChecksTo 6 g ≡ gridChecks known g
-grid-known g = ap (λ (b : Bool). not b ⇒ UnknownKind ∷ wrongSize g ⇒ WrongSize ∷ []) (sym (known-is (g .kind)))
-
-pub grid-plucked : (g : Grid) → gridChecksTo 4 g ≡ gridChecks plucked g
-grid-plucked g = ap (λ (b : Bool). not b ⇒ UnknownKind ∷ wrongSize g ⇒ WrongSize ∷ []) (sym (plucked-is (g .kind)))
+-- 1 and 2 of a call that admits the kinds 1..n, then its others
+pub grid-parts : (n : ℕ) (admitted : Kind → Bool) → ((k : ℕ) → admitted (kindOf k) ≡ within 1 n k) → (g : Grid) (ds : List Check) → Parts (lowest (gridChecksTo n g)) (lowest ds) (lowest (gridChecks admitted g ++ ds))
+grid-parts n admitted is g ds = subst (λ (b : Bool). Parts (lowest (gridChecksTo n g)) (lowest ds) (lowest (not b ⇒ UnknownKind ∷ wrongSize g ⇒ WrongSize ∷ ds))) (sym (is (g .kind))) (parts (gridChecksTo n g) ds tt)
 
 pub instrument-parts : (i : Instrument) → Parts (lowest (gridChecksTo 6 (i .grid))) (lowest (settingsChecks i)) (instrumentRefusal i)
 unfolding instrumentRefusal
-instrument-parts i = subst (λ (cs : List Check). Parts (lowest (gridChecksTo 6 (i .grid))) (lowest (settingsChecks i)) (lowest (cs ++ settingsChecks i))) (grid-known (i .grid)) (parts (gridChecksTo 6 (i .grid)) (settingsChecks i) tt)
+instrument-parts i = grid-parts 6 known known-is (i .grid) (settingsChecks i)
 
 pub input-parts : (i : Instrument) (older newer work pick : ℕ) (h : Hit) → Parts (instrumentRefusal i) (lowest (lentChecks (i .grid) older newer work pick h)) (inputRefusal i older newer work pick h)
 unfolding instrumentRefusal inputRefusal
@@ -90,13 +88,11 @@ block-parts i older newer work pick h = parts (inputChecks i (length older) (len
 
 pub pluck-parts : (g : Grid) (older newer c w : ℕ) (a : ℤ) → Parts (lowest (gridChecksTo 4 g)) (lowest (centreChecks g older newer c w a)) (lentPluckRefusal g older newer c w a)
 unfolding lentPluckRefusal
-pluck-parts g older newer c w a =
-    subst (λ (cs : List Check). Parts (lowest (gridChecksTo 4 g)) (lowest (centreChecks g older newer c w a)) (lowest (cs ++ centreChecks g older newer c w a))) (grid-plucked g) (parts (gridChecksTo 4 g) (centreChecks g older newer c w a) tt)
+pluck-parts g older newer c w a = grid-parts 4 plucked plucked-is g (centreChecks g older newer c w a)
 
 pub reading-parts : (g : Grid) (newer : List ℤ) (pick : ℕ) → Parts (lowest (gridChecksTo 6 g)) (lowest (levelChecks g newer pick)) (readingRefusal g newer pick)
 unfolding readingRefusal
-reading-parts g newer pick =
-    subst (λ (cs : List Check). Parts (lowest (gridChecksTo 6 g)) (lowest (levelChecks g newer pick)) (lowest (cs ++ levelChecks g newer pick))) (grid-known g) (parts (gridChecksTo 6 g) (levelChecks g newer pick) tt)
+reading-parts g newer pick = grid-parts 6 known known-is g (levelChecks g newer pick)
 
 -- a block's input checks are the first part of its checks
 pub block-checks : (i : Instrument) (older newer work : List ℤ) (pick : ℕ) (h : Hit)

@@ -8,6 +8,7 @@ pub use levels::fixed_not_zero;
 pub use levels::is_beyond;
 pub use levels::some_beyond;
 pub use refusals::block_refusal;
+pub use refusals::grid_refusal;
 pub use refusals::input_refusal;
 pub use refusals::instrument_refusal;
 pub use refusals::is_nothing;

@@ -29,8 +29,8 @@ pub fn is_nothing(r: Refusal) -> bool
     false
 }
 
-// 1 and 2, where the call admits kinds 1..last.
-fn grid_refusal(g: Grid, last: usize) -> Refusal
+// 1 and 2, where the call admits kinds 1..last. Ruled out: two columns accepted; 65 columns of kind 5 accepted.
+pub fn grid_refusal(g: Grid, last: usize) -> Refusal
     ensures { λ r. ⌜ r ≡ lowest (gridChecksTo last g) ⌝ }
 {
     if !is_within(1, last, g.kind as usize) {

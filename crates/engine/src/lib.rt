@@ -9,3 +9,8 @@ pub use scheme::Instrument;
 pub use scheme::ReadingAnswer;
 pub use scheme::Refusal;
 pub use scheme::Settings;
+pub use sheet::Loss;
+pub use sheet::Sheet;
+pub use sheet::SheetAnswer;
+pub use sheet::Speed;
+pub use sheet::settings_for;

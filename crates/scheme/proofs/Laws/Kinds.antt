@@ -46,25 +46,27 @@ one-row c r e = eqb-true r 1 (and-both (within 3 1024 c) (eqb r 1) e .1)
 -- the sizes that the table has
 pub record Sized (c r : ℕ) : Type 0 where
   pub columns-low : 3 ≤ c
+  pub columns-high : c ≤ 1024
   pub rows-low : 1 ≤ r
   pub rows-high : r ≤ 64
   pub points-high : c * r ≤ 4096
 
 -- 3..m columns and l..n rows
-sized-by : (m l n c r : ℕ) → T (leb 1 l) → T (leb n 64) → T (leb (m * n) 4096) → (within 3 m c && within l n r) ≡ true → Sized c r
-sized-by m l n c r tl tn tp e =
+sized-by : (m l n c r : ℕ) → T (leb m 1024) → T (leb 1 l) → T (leb n 64) → T (leb (m * n) 4096) → (within 3 m c && within l n r) ≡ true → Sized c r
+sized-by m l n c r tm tl tn tp e =
     let p = and-both (within 3 m c) (within l n r) e in
     let x = within-is 3 m c (p .0) in
     let y = within-is l n r (p .1) in
     record {
       columns-low = x .0;
+      columns-high = N.le-trans (x .1) (lit≤ tm);
       rows-low = N.le-trans (lit≤ tl) (y .0);
       rows-high = N.le-trans (y .1) (lit≤ tn);
       points-high = N.le-trans (N.mul-le-mul (x .1) (y .1)) (lit≤ tp);
     }
 
 sized-line : (c r : ℕ) → lineSize c r ≡ true → Sized c r
-sized-line c r e = sized-by 1024 1 1 c r tt tt tt (ap (λ (b : Bool). within 3 1024 c && b) (within-one 1 r) ∙ e)
+sized-line c r e = sized-by 1024 1 1 c r tt tt tt tt (ap (λ (b : Bool). within 3 1024 c && b) (within-one 1 r) ∙ e)
 
 -- a square is no larger
 sized-square : (c r : ℕ) → (within 3 64 c && eqb r c) ≡ true → Sized c r
@@ -72,7 +74,7 @@ sized-square c r e =
     let p = and-both (within 3 64 c) (eqb r c) e in
     let x = within-is 3 64 c (p .0) in
     let q = eqb-true r c (p .1) in
-    sized-by 64 3 64 c r tt tt tt (and-yes (p .0) ∙ is-within 3 64 r (omega arith) (omega arith))
+    sized-by 64 3 64 c r tt tt tt tt (and-yes (p .0) ∙ is-within 3 64 r (omega arith) (omega arith))
 
 pub sized : (K : Kind) (c r : ℕ) → sizeIn K c r ≡ true → Sized c r
 unfolding sizeIn
@@ -81,7 +83,7 @@ sized fixedString c r e = sized-line c r e
 sized halfFreeString c r e = sized-line c r e
 sized freeString c r e = sized-line c r e
 sized bar c r e = sized-line c r e
-sized membrane c r e = sized-by 64 3 64 c r tt tt tt e
+sized membrane c r e = sized-by 64 3 64 c r tt tt tt tt e
 sized roundMembrane c r e = sized-square c r e
 
 -- ---- how many points stand beside one

@@ -1,0 +1,4 @@
+pub mod HalvesUp
+pub mod Fields
+pub mod Values
+pub mod Product

@@ -1,0 +1,86 @@
+// The player's sheet: from f64 numbers to an instrument's settings.
+mod coefficients;
+mod numbers;
+
+ghost use mathlib.Core.Path.{_≡_};
+ghost use Rattle.sheet.specs.Call.{instrumentAfter, sheetRefused, answerTo, sheetCall};
+ghost use Rattle.sheet.specs.Coefficients.{settingsOf};
+use crate::coefficients::Coefficients;
+use checks::grid_refusal;
+use checks::instrument_refusal;
+use checks::is_nothing;
+use scheme::Grid;
+use scheme::Instrument;
+use scheme::Refusal;
+use scheme::Settings;
+
+// A speed: hertz, which is wave speed over twice the length, or a tension with a density.
+pub enum Speed {
+    Hertz(f64),
+    Tension { tension: f64, density: f64 },
+}
+
+// A loss: a rate per second, or the seconds to a thousandth.
+pub enum Loss {
+    PerSecond(f64),
+    Seconds(f64),
+}
+
+// The player's sheet: rate in hertz, length in metres, bending κ², a speed and a loss.
+pub struct Sheet {
+    pub rate: f64,
+    pub length: f64,
+    pub bending: f64,
+    pub speed: Speed,
+    pub loss: Loss,
+}
+
+// A sheet's answer: what refused it, by the paper's `number`, and the settings, all zeros where something did.
+pub struct SheetAnswer {
+    pub settings: Settings,
+    pub refusal: Refusal,
+}
+
+fn refused(refusal: Refusal) -> SheetAnswer
+    ensures { λ r. ⌜ r ≡ sheetRefused refusal ⌝ }
+{
+    SheetAnswer {
+        settings: Settings::new(0, 0, 0),
+        refusal,
+    }
+}
+
+// The answer by 4 and 5: where 1 and 2 have let the grid pass, 5 is all that may refuse the instrument.
+fn answer(grid: Grid, c: Coefficients) -> SheetAnswer
+    ensures { λ r. ⌜ r ≡ answerTo (instrumentAfter grid c) (settingsOf c) ⌝ }
+{
+    if c.some_outside() {
+        return refused(Refusal::Coefficient);
+    }
+    let settings = c.settings();
+    let refusal = instrument_refusal(Instrument { grid, settings });
+    if !is_nothing(refusal) {
+        return refused(refusal);
+    }
+    SheetAnswer {
+        settings,
+        refusal: Refusal::Nothing,
+    }
+}
+
+// The settings of a sheet for a kind and its grid, or what refuses it.
+// Ruled out: a refused sheet's answer not all zeros; a coefficient refused before a number of the sheet.
+pub fn settings_for(grid: Grid, sheet: Sheet) -> SheetAnswer
+    ensures { λ r. ⌜ r ≡ sheetCall grid sheet ⌝ }
+{
+    let kind = grid.kind;
+    let columns = grid.columns;
+    let refusal = grid_refusal(grid, 6);
+    if !is_nothing(refusal) {
+        return refused(refusal);
+    }
+    if !numbers::are_allowed(kind, sheet) {
+        return refused(Refusal::SheetNumber);
+    }
+    answer(grid, Coefficients::of_sheet(columns, sheet))
+}
