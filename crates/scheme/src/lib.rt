@@ -45,6 +45,19 @@ pub struct Grid {
     pub rows: usize,
 }
 
+impl Grid {
+    // Ruled out: columns and rows exchanged; one row whatever is asked.
+    pub fn new(kind: u64, columns: usize, rows: usize) -> Grid
+        ensures { λ r. ⌜ r ≡ record { kind = kind; columns = columns; rows = rows } ⌝ }
+    {
+        Grid {
+            kind,
+            columns,
+            rows,
+        }
+    }
+}
+
 // A grid with its settings: what the steps of a block go by.
 pub struct Instrument {
     pub grid: Grid,
@@ -73,6 +86,30 @@ pub enum Refusal {
     PointBeyond,
     FixedNotZero,
     NextBeyond,
+}
+
+impl Refusal {
+    // The paper's number of each, 0 for none. Ruled out: 13 answered as 12; 3 answered as 0.
+    pub fn number(self) -> u64
+        ensures { λ r. ⌜ r ≡ number self ⌝ }
+    {
+        match self {
+            Refusal::Nothing => 0,
+            Refusal::UnknownKind => 1,
+            Refusal::WrongSize => 2,
+            Refusal::SheetNumber => 3,
+            Refusal::Coefficient => 4,
+            Refusal::Unstable => 5,
+            Refusal::WrongLength => 6,
+            Refusal::NotMoving => 7,
+            Refusal::TooStrong => 8,
+            Refusal::PickUp => 9,
+            Refusal::HalfWidth => 10,
+            Refusal::PointBeyond => 11,
+            Refusal::FixedNotZero => 12,
+            Refusal::NextBeyond => 13,
+        }
+    }
 }
 
 // A block's answer: the steps done, and what refused or ended it.
