@@ -1,0 +1,31 @@
+-- `request` meets its contract: the first line ends where the first line feed stands.
+use mathlib.Core.Path.{_∙_}
+use native.Mathlib.Omega.{arith}
+use borrow.Author.Needs.{needs}
+use lib.Seq.{length-take-le}
+use Rattle.line.specs.Requests.{lineFeed}
+use Rattle.line.proofs.ListLaws.{before-short}
+use Rattle.line.proofs.RequestLaws.{too-long, first-line}
+use Rattle.line.proofs.request.Statement.{statement}
+use Rattle.line.proofs.request.Tie as tie
+
+find-requires : tie.Need-find-requires
+find-requires c κs = search needs
+
+returns : tie.Need-returns
+returns c = too-long _ _ (c .before .find .ensures) (omega (arith, c .if1 .taken))
+
+slice-aggregate-line-request : tie.Need-slice-aggregate-line-request
+slice-aggregate-line-request c =
+    let bytes = c .before .before .before .before .args .bytes .now in
+    let n = c .before .before .find .result in
+    omega (arith, length-take-le n bytes (omega (arith, c .before .before .find .ensures, before-short lineFeed bytes)))
+
+line-request-requires : tie.Need-line-request-requires
+line-request-requires c κs = search needs
+
+returns-2 : tie.Need-returns-2
+returns-2 c = c .line-request .ensures ∙ first-line _ _ (c .before .before .before .find .ensures) (omega arith)
+
+pub request-spec : {M : Type 1} → statement M
+request-spec = tie.close (tie.spec find-requires returns slice-aggregate-line-request line-request-requires returns-2)

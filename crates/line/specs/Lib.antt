@@ -1,0 +1,5 @@
+pub mod Lists
+pub mod Requests
+pub mod Reading
+pub mod Examples
+pub mod Claims

@@ -1,0 +1,53 @@
+// The fields of a line.
+ghost use mathlib.Core.Path.{_≡_};
+ghost use lib.ListN.{length};
+ghost use Rattle.line.specs.Lists.{before};
+ghost use Rattle.line.specs.Reading.{NineRead};
+use crate::decimals::MOST;
+use crate::decimals::Whole;
+use crate::decimals::read_whole;
+
+pub const LINE_FEED: u8 = 10;
+
+pub const SPACE: u8 = 32;
+
+// Where the first byte that is sought stands; the length where there is none.
+pub fn find(bytes: &[u8], sought: u8) -> usize
+    ensures { λ r. ⌜ r ≡ length (before sought (now (bytes .entry))) ⌝ }
+{
+    let mut i = 0;
+    while i < bytes.len() {
+        if bytes[i] == sought {
+            return i;
+        }
+        i += 1;
+    }
+    i
+}
+
+pub enum Rest {
+    At(usize),
+    Wrong,
+}
+
+// The values of the first nine fields, a space after each, and where the tenth begins.
+pub fn read_nine(line: &[u8], values: &mut [u64; 9]) -> Rest
+    requires { ⌜ length (now values) ≡ 9 ⌝ }
+    ensures { λ r. ⌜ NineRead (now (line .entry)) (now (values .exit)) r ⌝ }
+{
+    let mut at = 0;
+    let mut i = 0;
+    while i < 9 {
+        let end = at + find(&line[at..], SPACE);
+        if end == line.len() {
+            return Rest::Wrong;
+        }
+        let Whole::Is(n) = read_whole(&line[at..end], MOST) else {
+            return Rest::Wrong;
+        };
+        values[i] = n;
+        at = end + 1;
+        i += 1;
+    }
+    Rest::At(at)
+}

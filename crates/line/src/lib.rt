@@ -1,0 +1,60 @@
+// The line of the program `ring`: ten numbers, or `input`.
+mod decimals;
+mod fields;
+mod types;
+
+ghost use mathlib.Core.Path.{_≡_};
+ghost use Rattle.line.specs.Requests.{lineRequest, requestOf};
+use crate::decimals::Force;
+use crate::decimals::read_force;
+use crate::fields::LINE_FEED;
+use crate::fields::Rest;
+use crate::fields::SPACE;
+use crate::fields::find;
+use crate::fields::read_nine;
+pub use types::Numbers;
+pub use types::Request;
+
+// What a whole line asks for.
+fn line_request(line: &[u8]) -> Request
+    ensures { λ r. ⌜ r ≡ lineRequest (now (line .entry)) ⌝ }
+{
+    let mut values = [0u64; 9];
+    let Rest::At(at) = read_nine(line, &mut values) else {
+        return Request::Input;
+    };
+    let last = &line[at..];
+    if find(last, SPACE) < last.len() {
+        return Request::Input;
+    }
+    let Force::Is(force) = read_force(last) else {
+        return Request::Input;
+    };
+    if 8192 < values[7] {
+        return Request::Input;
+    }
+    Request::Run(Numbers {
+        kind: values[0],
+        columns: values[1] as usize,
+        rows: values[2] as usize,
+        q: values[3],
+        m: values[4],
+        s: values[5],
+        pick: values[6] as usize,
+        steps: values[7] as usize,
+        point: values[8] as usize,
+        force,
+    })
+}
+
+// What the first line of the bytes asks for; the first 256 bytes of the input are enough (`FirstBytesTell`).
+// Ruled out: two spaces taken as one; a force of −2⁶³ turned down.
+pub fn request(bytes: &[u8]) -> Request
+    ensures { λ r. ⌜ r ≡ requestOf (now (bytes .entry)) ⌝ }
+{
+    let end = find(bytes, LINE_FEED);
+    if 255 < end {
+        return Request::Input;
+    }
+    line_request(&bytes[..end])
+}

@@ -1,0 +1,20 @@
+// The answer, and the ten numbers in the order of the line.
+
+pub struct Numbers {
+    pub kind: u64,
+    pub columns: usize,
+    pub rows: usize,
+    pub q: u64,
+    pub m: u64,
+    pub s: u64,
+    pub pick: usize,
+    pub steps: usize,
+    pub point: usize,
+    pub force: i64,
+}
+
+// What the program does: print `input`, or run.
+pub enum Request {
+    Input,
+    Run(Numbers),
+}
