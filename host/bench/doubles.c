@@ -1,0 +1,101 @@
+#include "plain.h"
+#include "edges.h"
+
+struct factors {
+    double q, m, keep, lose;
+};
+
+static void put(const struct factors *x, const double *p, const double *u, double *next, size_t k, double l, double b, double f)
+{
+    next[k] = (2 * u[k] + x->q * l - x->m * b - x->keep * p[k] + f) * x->lose;
+}
+
+static double supported(const struct instrument *i, const double *u, size_t k)
+{
+    return k == 0 || k + 1 == i->columns ? 0 : u[k - 1] + u[k + 1] - 2 * u[k];
+}
+
+static double laplacian(const struct instrument *i, const double *u, size_t k)
+{
+    size_t c = i->columns;
+    if (i->rows > 1)
+        return u[k - 1] + u[k + 1] + u[k - c] + u[k + c] - 4 * u[k];
+    if (k == 0)
+        return 2 * (u[1] - u[0]);
+    if (k + 1 == c)
+        return 2 * (u[k - 1] - u[k]);
+    return u[k - 1] + u[k + 1] - 2 * u[k];
+}
+
+static double biharmonic(const struct instrument *i, const double *u, size_t k)
+{
+    return i->kind == 4 ? supported(i, u, k - 1) + supported(i, u, k + 1) - 2 * supported(i, u, k) : 0;
+}
+
+static void string_points(const struct factors *x, const double *p, const double *u, double *next, size_t a, size_t e)
+{
+    for (size_t k = a; k < e; k++)
+        put(x, p, u, next, k, u[k - 1] + u[k + 1] - 2 * u[k], 0, 0);
+}
+
+static void bar_points(const struct factors *x, const double *p, const double *u, double *next, size_t a, size_t e)
+{
+    for (size_t k = a; k < e; k++)
+        put(x, p, u, next, k, u[k - 1] + u[k + 1] - 2 * u[k], u[k - 2] - 4 * u[k - 1] + 6 * u[k] - 4 * u[k + 1] + u[k + 2], 0);
+}
+
+static void membrane_points(const struct factors *x, const double *p, const double *u, double *next, size_t a, size_t e, size_t c)
+{
+    for (size_t k = a; k < e; k++)
+        put(x, p, u, next, k, u[k - 1] + u[k + 1] + u[k - c] + u[k + c] - 4 * u[k], 0, 0);
+}
+
+static void point(const struct instrument *i, const struct factors *x, const double *p, const double *u, double *next, size_t k, double f)
+{
+    put(x, p, u, next, k, laplacian(i, u, k), biharmonic(i, u, k), f);
+}
+
+/* The points whose neighbours are not all on the grid, then the others. */
+static void line_step(const struct instrument *i, const struct factors *x, const double *p, const double *u, double *next)
+{
+    size_t c = i->columns;
+    if (i->kind == 3)
+        point(i, x, p, u, next, 0, 0);
+    if (i->kind == 2 || i->kind == 3)
+        point(i, x, p, u, next, c - 1, 0);
+    if (i->kind != 4) {
+        string_points(x, p, u, next, 1, c - 1);
+        return;
+    }
+    point(i, x, p, u, next, 1, 0);
+    point(i, x, p, u, next, c - 2, 0);
+    bar_points(x, p, u, next, 2, c - 2);
+}
+
+static void grid_step(const struct instrument *i, const struct factors *x, const double *p, const double *u, double *next, const size_t first[64])
+{
+    size_t c = i->columns;
+    for (size_t row = 1; row + 1 < i->rows; row++)
+        membrane_points(x, p, u, next, row * c + first[row], row * c + c - first[row], c);
+}
+
+void double_block(const struct instrument *i, double *levels[3], float *samples, size_t places, size_t pick_up,
+                  size_t hit, double force)
+{
+    struct factors x = {i->q / 65536.0, i->m / 65536.0, 1 - i->s / 65536.0, 1 / (1 + i->s / 65536.0)};
+    size_t first[64];
+    first_moving(i, first);
+    for (size_t n = 0; n < places; n++) {
+        double *next = levels[2];
+        if (i->rows == 1)
+            line_step(i, &x, levels[0], levels[1], next);
+        else
+            grid_step(i, &x, levels[0], levels[1], next, first);
+        if (n == 0)
+            point(i, &x, levels[0], levels[1], next, hit, force);
+        levels[2] = levels[0];
+        levels[0] = levels[1];
+        levels[1] = next;
+        samples[n] = (float)next[pick_up];
+    }
+}

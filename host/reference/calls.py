@@ -1,0 +1,96 @@
+"""The four calls as functions of their arguments and the lent levels.
+
+Each gives back its answer and the lent levels, work and samples afterwards; the lists handed over
+are not changed. kind, columns, rows, q, m, s, pick-up, point, centre and half width are whole
+numbers 0..2^64-1; force, height and the points of levels are signed 64-bit; a level may have any
+length. A refused call gives back what it was lent, except for 13.
+"""
+
+import refusals as r
+import sheet as sheets
+from pluck import pluck_level
+from step import next_level, reading as float_reading, sample
+
+
+def block(kind, columns, rows, q, m, s, older, newer, work, samples, pick_up, hit):
+    """((steps, refusal), older, newer, work, samples); hit is None or (point, force)."""
+    grid, settings = (kind, columns, rows), (q, m, s)
+    refusal = r.lowest({
+        1: lambda: r.unknown_kind(kind),
+        2: lambda: r.outside_table(*grid),
+        4: lambda: r.bad_coefficient(settings),
+        5: lambda: r.not_stable(kind, settings),
+        6: lambda: r.bad_length(columns, rows, (older, newer, work)),
+        # "with 7 and 8 only if a hit is given".
+        7: lambda: hit is not None and r.not_moving(grid, hit[0]),
+        8: lambda: hit is not None and r.beyond(hit[1]),
+        9: lambda: r.not_a_point(columns, rows, pick_up),
+        11: lambda: r.some_beyond((older, newer)),
+        12: lambda: r.fixed_not_zero(grid, (older, newer)),
+    })
+    if refusal:
+        # "For 1 to 12: zero steps, ... every lent level and sample unchanged."
+        return (0, refusal), older, newer, work, samples
+    # "A block has as many steps as the lent sample buffer has places".
+    samples = list(samples)
+    steps = 0
+    for place in range(len(samples)):
+        # "the hit, if any, acts in its first step".
+        following = next_level(grid, settings, older, newer, hit if place == 0 else None)
+        if r.some_beyond((following,)):
+            # "For 13: the count of steps done, the levels after exactly those".
+            refusal = 13
+            break
+        older, newer = newer, following
+        samples[place] = sample(newer[pick_up])
+        steps += 1
+    # "Work is all zeros after 13 and after every accepted block."
+    return (steps, refusal), older, newer, [0] * len(work), samples
+
+
+def pluck(kind, columns, rows, older, newer, centre, half_width, height):
+    """(refusal, older, newer)."""
+    refusal = r.lowest({
+        1: lambda: r.unknown_pluck_kind(kind),
+        2: lambda: r.outside_table(kind, columns, rows),
+        6: lambda: r.bad_length(columns, rows, (older, newer)),
+        7: lambda: r.not_moving((kind, columns, rows), centre),
+        8: lambda: r.beyond(height),
+        10: lambda: r.bad_half_width(columns, half_width),
+    })
+    if refusal:
+        return refusal, older, newer
+    # "Both levels are overwritten."
+    level = pluck_level(kind, columns, centre, half_width, height)
+    return 0, level, list(level)
+
+
+def reading(kind, columns, rows, newer, pick_up):
+    """(refusal, value)."""
+    grid = (kind, columns, rows)
+    refusal = r.lowest({
+        1: lambda: r.unknown_kind(kind),
+        2: lambda: r.outside_table(*grid),
+        6: lambda: r.bad_length(columns, rows, (newer,)),
+        9: lambda: r.not_a_point(columns, rows, pick_up),
+        11: lambda: r.some_beyond((newer,)),
+        12: lambda: r.fixed_not_zero(grid, (newer,)),
+    })
+    # "and answers 0 when refused".
+    return (refusal, 0.0) if refusal else (0, float_reading(newer[pick_up]))
+
+
+def sheet(kind, columns, rows, record):
+    """(refusal, (q, m, s))."""
+    # The operations are total, but columns is a size only after 1 and 2.
+    work_out = lambda: sheets.coefficients(columns, record)
+    refusal = r.lowest({
+        1: lambda: r.unknown_kind(kind),
+        2: lambda: r.outside_table(kind, columns, rows),
+        3: lambda: r.bad_sheet(kind, record),
+        # "with 4 and 5 on the coefficients it works out".
+        4: lambda: r.bad_coefficient(work_out()),
+        5: lambda: r.not_stable(kind, work_out()),
+    })
+    # "a sheet's answer all zeros".
+    return (refusal, (0, 0, 0)) if refusal else (0, work_out())

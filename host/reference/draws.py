@@ -1,0 +1,241 @@
+"""Random arguments for the calls: mostly sensible, some edge values, some wild 64-bit numbers."""
+
+import math
+import random
+import struct
+
+from instrument import CEILING, D, fixed_points, moving, size_in_table
+from sheet import Sheet
+
+U64 = 2**64
+EDGES = (0, 1, 2, 3, 2**15, 2**16, 2**31 - 1, 2**31, 2**32 - 1, 2**32, 2**32 + 1, 2**62, 2**62 + 1,
+         2**63 - 1, 2**63, 2**63 + 1, U64 - 2, U64 - 1)
+SIGNED_EDGES = (0, 1, -1, CEILING, -CEILING, CEILING + 1, -CEILING - 1, 2**31, -2**31, 2**43, -2**43,
+                2**62, -2**62, 2**63 - 1, -2**63, -2**63 + 1)
+SIDES = (3, 3, 4, 4, 5, 6, 7, 8, 11)
+
+
+def from_bits(bits):
+    return struct.unpack("<d", struct.pack("<Q", bits))[0]
+
+
+def to_bits(x):
+    return struct.unpack("<Q", struct.pack("<d", x))[0]
+
+
+FLOAT_EDGES = (0.0, -0.0, 5e-324, -5e-324, 2.2250738585072014e-308, 2.225073858507201e-308,
+               1.7976931348623157e308, -1.7976931348623157e308, math.inf, -math.inf, math.nan,
+               1.0, -1.0, 0.5, 2.0, 65536.0, 1.0 / 65536, 0.5 / 65536, 1e-160, 1e160, 1.5e154, 1e-154)
+
+
+class Draws(random.Random):
+    """A seeded source; odds is the share of spoiled arguments."""
+
+    odds = 0.02
+
+    def rarely(self, share=None):
+        return self.random() < (self.odds if share is None else share)
+
+    def wild(self):
+        """An unsigned 64-bit number."""
+        if self.rarely(0.5):
+            return self.choice(EDGES)
+        return self.getrandbits(self.randint(1, 64))
+
+    def wild_signed(self):
+        if self.rarely(0.5):
+            return self.choice(SIGNED_EDGES)
+        return self.getrandbits(self.randint(1, 64)) - 2**63 if self.rarely(0.5) else \
+            self.randint(-CEILING - 2, CEILING + 2)
+
+    def kind(self, last=6):
+        if self.rarely():
+            return self.choice((0, 7, 5, 6, self.wild()))
+        return self.randint(1, last)
+
+    def size(self, kind, large=0.008):
+        """(columns, rows), right for the kind most of the time."""
+        if self.rarely():
+            return self.wrong_size(kind)
+        if kind in (5, 6):
+            columns = self.choice((31, 63, 64)) if self.rarely(large) else self.choice(SIDES)
+            rows = columns if kind == 6 else self.choice((columns, self.choice(SIDES)))
+            return columns, rows
+        if self.rarely(large):
+            return self.choice((255, 512, 1023, 1024)), 1
+        return (self.randint(3, 12) if self.rarely(0.9) else self.randint(3, 70)), 1
+
+    def wrong_size(self, kind):
+        columns, rows = self.choice(((2, 1), (1025, 1), (3, 0), (3, 2), (0, 0), (2, 2), (65, 65), (65, 3),
+                                     (3, 65), (3, 4), (4, 3), (2**32, 2**32), (2**63, 2),
+                                     (self.wild(), 1), (5, self.wild()), (self.wild(), self.wild())))
+        return columns, rows
+
+    def settings(self, kind):
+        """(q, m, s), accepted most of the time, often at the limit of stability."""
+        s = self.choice((0, 0, 1, 8, 65535, 65536, self.randint(0, D), self.randint(0, 300)))
+        m = 0
+        if kind == 4:
+            m = self.choice((0, 1, D // 4, self.randint(0, D // 4)))
+            limit = D - 4 * m
+        else:
+            limit = D // 2 if kind in (5, 6) else D
+        q = self.choice((0, limit, limit, self.randint(0, limit), self.randint(0, limit)))
+        if self.rarely():
+            q = self.choice((limit + 1, D + 1, D, self.wild()))
+        if self.rarely():
+            m = self.choice((1, D // 4 + 1, D, D + 1, self.wild()))
+        if self.rarely():
+            s = self.choice((D + 1, self.wild()))
+        return q, m, s
+
+    def level(self, grid, length=None):
+        """A level, most of the time of the right length, within the ceiling and 0 at fixed points."""
+        kind, columns, rows = grid
+        known = kind in range(1, 7) and size_in_table(*grid)
+        if length is None:
+            length = columns * rows if known else self.randint(0, 12)
+            if self.rarely(self.odds / 2):
+                length = self.choice((0, 1, max(length - 1, 0), length + 1, length + 2))
+        reach = self.choice((0, 1, 3, 1000, 2**28, 2**40, CEILING // 8, CEILING // 3, CEILING))
+        if self.rarely(0.2):
+            level = [self.choice((-reach, reach, 0)) for _ in range(length)]
+        else:
+            level = [self.randint(-reach, reach) for _ in range(length)]
+        if known and length == columns * rows:
+            for point in fixed_points(*grid):
+                level[point] = 0
+        if length and self.rarely(self.odds / 2):
+            level[self.randrange(length)] = self.choice((1, -1, CEILING + 1, -CEILING - 1, self.wild_signed()))
+        return level
+
+    def levels(self, grid):
+        """Older and newer; often close to each other, so that blocks go on for long."""
+        older = self.level(grid)
+        if self.rarely(0.4):
+            return older, self.level(grid)
+        step = self.choice((0, 1, 5, 2**20, 2**36))
+        newer = [value + self.randint(-step, step) if value else 0 for value in older]
+        return older, [max(-2**63, min(2**63 - 1, value)) for value in newer]
+
+    def point(self, grid, must_move=False):
+        kind, columns, rows = grid
+        if self.rarely():
+            return self.choice((0, columns - 1 & U64 - 1, columns * rows % U64, self.wild()))
+        if kind in range(1, 7) and size_in_table(*grid):
+            if must_move:
+                return self.choice(moving(*grid))[0]
+            return self.randrange(columns * rows)
+        return self.randint(0, 20)
+
+    def force(self):
+        if self.rarely():
+            return self.wild_signed()
+        reach = self.choice((0, 1, 1000, 2**28, 2**36, CEILING // 2, CEILING))
+        return self.choice((reach, -reach, self.randint(-reach, reach)))
+
+    def hit(self, grid):
+        return None if self.rarely(0.4) else (self.point(grid, True), self.force())
+
+    def samples(self, most=8):
+        count = self.choice((0, 1, 1, 2, 3, self.randint(0, most), self.randint(0, most)))
+        if self.rarely(0.02):
+            count = self.choice((20, 60, 200)) + self.randint(0, 20)
+        return [self.randint(-32768, 32767) for _ in range(count)]
+
+    def half_width(self, columns):
+        if self.rarely():
+            return self.choice((0, columns % U64, self.wild()))
+        return self.randint(1, columns - 1) if 3 <= columns <= 1024 else self.randint(1, 9)
+
+    def float(self, low, high):
+        """A number of the sheet between about 10^low and 10^high, or an edge, or any 64 bits."""
+        if self.rarely():
+            return self.choice(FLOAT_EDGES)
+        if self.rarely():
+            return from_bits(self.getrandbits(64))
+        x = math.ldexp(self.uniform(1.0, 2.0), self.randint(math.floor(3.33 * low), math.floor(3.33 * high)))
+        return float(round(x)) if x > 100.0 and self.rarely(0.3) else x
+
+    def nudge(self, x, reach=2):
+        """x, or a float a few places beside it."""
+        return from_bits(min(max(to_bits(abs(x)) + self.randint(-reach, reach), 0), to_bits(1.7e308)))
+
+    def half(self, limit):
+        """A half over 65536, most often below limit/65536, or a float beside it."""
+        k = self.choice((0, 1, limit - 1, limit, limit + 1, self.randint(0, limit), self.randint(0, limit)))
+        return self.nudge((max(k, 0) + 0.5) / D, 1)
+
+    def targets(self, kind):
+        """R, mu^2 and the loss to aim at: at or beside halves."""
+        m = self.choice((0.0, self.half(self.choice((1, 10, D // 4))))) if kind == 4 or self.rarely() else 0.0
+        limit = D // 2 if kind in (5, 6) else max(D - int(4 * m * D), 0) if kind == 4 else D
+        return self.half(limit), m, self.half(D)
+
+    def plain_sheet(self, kind, columns):
+        """Rate 1 and spacing 1: the coefficients are the sheet's own numbers."""
+        r, m, loss = self.targets(kind)
+        return Sheet(1.0, float(columns - 1), m, ("tension", r, 1.0), ("per second", loss))
+
+    def aimed_sheet(self, kind, columns):
+        """Random rate, length and density; the rest aimed at halves, so that the order of operations shows."""
+        r, m, loss = self.targets(kind)
+        rate, length, density = self.uniform(1000, 96000), self.uniform(0.1, 3), self.uniform(0.001, 9)
+        h = length / (columns - 1)
+        speed = ("tension", self.nudge(r * rate * rate * h * h * density), density)
+        if kind not in (5, 6) and self.rarely(0.5):
+            speed = ("hertz", self.nudge(math.sqrt(r) * rate / (2 * (columns - 1))))
+        per_second = self.nudge(loss * rate)
+        losses = self.choice((("per second", per_second), ("seconds", self.nudge(6.907755278982137 / (loss * rate)))))
+        return Sheet(rate, length, self.nudge(m * rate * rate * h * h * h * h) if m else 0.0, speed, losses)
+
+    def sensible_sheet(self, kind):
+        speed = ("hertz", self.float(0, 3.5))
+        if kind in (5, 6) or self.rarely(0.5):
+            speed = ("tension", self.float(-1, 3), self.float(-4, 0))
+        bending = 0.0 if kind != 4 or self.rarely(0.3) else self.float(-3, 3)
+        loss = self.choice((("per second", self.float(-2, 3)), ("seconds", self.float(-2, 2)),
+                            ("per second", 0.0)))
+        return Sheet(self.float(3.5, 5.5), self.float(-1, 1), bending, speed, loss)
+
+    def wild_float(self):
+        return self.choice((self.choice(FLOAT_EDGES), from_bits(self.getrandbits(64)),
+                            from_bits(self.getrandbits(63)), 1.0, self.float(-5, 5)))
+
+    def wild_sheet(self):
+        rate, length, bending, one, two, three = (self.wild_float() for _ in range(6))
+        return Sheet(rate, length, bending, self.choice((("hertz", one), ("tension", one, two))),
+                     self.choice((("per second", three), ("seconds", three))))
+
+    def sheet(self, kind, columns):
+        if self.rarely(0.1) or not 3 <= columns <= 1024:
+            return self.wild_sheet()
+        sheet = self.choice((self.plain_sheet, self.aimed_sheet, self.aimed_sheet))(kind, columns) \
+            if self.rarely(0.7) else self.sensible_sheet(kind)
+        return self.spoiled(sheet) if self.rarely(2 * self.odds) else sheet
+
+    def spoiled(self, sheet):
+        """One number of the sheet replaced by an edge or any 64 bits."""
+        x = self.wild_float()
+        place = self.choice(("rate", "length", "bending", "speed", "density", "loss"))
+        if place == "loss":
+            return sheet._replace(loss=(sheet.loss[0], x))
+        if place == "density" and sheet.speed[0] == "tension":
+            return sheet._replace(speed=(*sheet.speed[:2], x))
+        if place in ("speed", "density"):
+            return sheet._replace(speed=(sheet.speed[0], x, *sheet.speed[2:]))
+        return sheet._replace(**{place: x})
+
+
+def same_size_grids(grid):
+    """Grids (kind, columns, rows) with as many points as this one."""
+    kind, columns, rows = grid
+    size = columns * rows
+    found = [(k, size, 1) for k in range(1, 5) if size_in_table(k, size, 1)]
+    for side in range(3, 65):
+        if size % side == 0 and size_in_table(5, side, size // side):
+            found.append((5, side, size // side))
+            if side * side == size:
+                found.append((6, side, side))
+    return found
+

@@ -1,0 +1,47 @@
+"""Vector files for a program that interprets them: calls.txt and sheets.txt.
+
+    python3 generate.py DIR          writes both
+    python3 generate.py --check DIR  says whether the files there are what it would write
+
+A file is a sequence of decimal numbers, one record per line, ended by 0:
+    1 which length v0 v1 ..   the lent buffer (0 older, 1 newer, 2 work, 3 samples) is now this
+    2 which length v0 v1 ..   the lent buffer must be this now
+    3 kind columns rows q m s pickup hit point force steps refusal
+    4 kind columns rows centre halfwidth height refusal
+    5 kind columns rows pickup valuebits refusal
+    6 kind columns rows rate length bending speedkind speed1 speed2 losskind loss q m s refusal
+"""
+
+import pathlib
+import sys
+
+from call_vectors import call_records
+from sheet_vectors import sheet_records
+
+
+def text(records):
+    return "".join(" ".join(map(str, record)) + "\n" for record in (*records, (0,)))
+
+
+def main():
+    arguments = sys.argv[1:]
+    check = arguments[:1] == ["--check"]
+    if len(arguments) != 1 + check:
+        raise SystemExit(__doc__)
+    folder = pathlib.Path(arguments[-1])
+    status = 0
+    for name, records in (("calls.txt", call_records()), ("sheets.txt", sheet_records())):
+        written = text(records).encode("ascii")
+        if not check:
+            (folder / name).write_bytes(written)
+            print(f"{name}: {len(records)} records, {len(written)} bytes")
+        elif (folder / name).is_file() and (folder / name).read_bytes() == written:
+            print(f"{name}: as generated")
+        else:
+            print(f"{name}: not as generated")
+            status = 1
+    return status
+
+
+if __name__ == "__main__":
+    sys.exit(main())

@@ -1,0 +1,184 @@
+"""The C library through ctypes, the reference in the same form, and stand-ins for the library.
+
+Both sides take the C functions' plain arguments, with buffers as lists, and give back
+    block:   (refusal, steps, older, newer, work, samples)
+    pluck:   (refusal, older, newer)
+    reading: (refusal, bits of the value, newer)
+    sheet:   (refusal, q, m, s)
+"""
+
+import ctypes
+import importlib
+import sys
+import tempfile
+from array import array
+
+import calls
+import must_fail
+from draws import to_bits
+from sheet import Sheet
+
+U64, I64, SIZE, F64, PLACE = (ctypes.c_uint64, ctypes.c_int64, ctypes.c_size_t, ctypes.c_double,
+                              ctypes.c_void_p)
+LEVEL = (PLACE, SIZE)
+SIGNATURES = {
+    "block": (U64, SIZE, SIZE, U64, U64, U64, *LEVEL, *LEVEL, *LEVEL, PLACE, SIZE, SIZE, U64, SIZE, I64, PLACE),
+    "pluck": (U64, SIZE, SIZE, *LEVEL, *LEVEL, SIZE, SIZE, I64),
+    "reading": (U64, SIZE, SIZE, *LEVEL, SIZE, PLACE),
+    "sheet": (U64, SIZE, SIZE, F64, F64, F64, U64, F64, F64, U64, F64, PLACE, PLACE, PLACE),
+}
+GUARD = 21930
+MODULES = ("instrument", "step", "pluck", "sheet", "refusals", "calls")
+
+
+class Overwritten(Exception):
+    """The library wrote outside a lent buffer."""
+
+
+class Lent:
+    """A buffer between two guards; code is the array's type code."""
+
+    def __init__(self, code, values):
+        self.cells = array(code, (GUARD, *values, GUARD))
+        self.place = self.cells.buffer_info()[0] + self.cells.itemsize
+        self.length = len(values)
+
+    def values(self):
+        first, *values, last = self.cells.tolist()
+        if (first, last) != (GUARD, GUARD):
+            raise Overwritten
+        return values
+
+
+class Library:
+    """The four functions of a library, given as {name: C function}."""
+
+    def __init__(self, functions):
+        self.functions = functions
+
+    def block(self, kind, columns, rows, q, m, s, older, newer, work, samples, pick_up, hit, point, force):
+        a, b, c, d, steps = (Lent("q", older), Lent("q", newer), Lent("q", work), Lent("h", samples),
+                             Lent("Q", [GUARD]))
+        refusal = self.functions["block"](
+            kind, columns, rows, q, m, s, a.place, a.length, b.place, b.length, c.place, c.length,
+            d.place, d.length, pick_up, hit, point, force, steps.place)
+        return refusal, steps.values()[0], a.values(), b.values(), c.values(), d.values()
+
+    def pluck(self, kind, columns, rows, older, newer, centre, half_width, height):
+        a, b = Lent("q", older), Lent("q", newer)
+        refusal = self.functions["pluck"](kind, columns, rows, a.place, a.length, b.place, b.length,
+                                          centre, half_width, height)
+        return refusal, a.values(), b.values()
+
+    def reading(self, kind, columns, rows, newer, pick_up):
+        a, value = Lent("q", newer), Lent("Q", [GUARD])
+        refusal = self.functions["reading"](kind, columns, rows, a.place, a.length, pick_up, value.place)
+        return refusal, value.values()[0], a.values()
+
+    def sheet(self, kind, columns, rows, *numbers):
+        q, m, s = (Lent("Q", [GUARD]) for _ in range(3))
+        refusal = self.functions["sheet"](kind, columns, rows, *numbers, q.place, m.place, s.place)
+        return refusal, q.values()[0], m.values()[0], s.values()[0]
+
+
+def open_library(path):
+    """The library at path, its functions named buvcsolta_..."""
+    handle = ctypes.CDLL(path)
+    functions = {}
+    for name, signature in SIGNATURES.items():
+        function = getattr(handle, "buvcsolta_" + name)
+        function.argtypes, function.restype = signature, U64
+        functions[name] = function
+    return Library(functions)
+
+
+class Reference:
+    """A calls module in the form of a library."""
+
+    def __init__(self, module=calls):
+        self.calls = module
+
+    def block(self, kind, columns, rows, q, m, s, older, newer, work, samples, pick_up, hit, point, force):
+        (steps, refusal), *after = self.calls.block(
+            kind, columns, rows, q, m, s, older, newer, work, samples, pick_up, (point, force) if hit else None)
+        return (refusal, steps, *after)
+
+    def pluck(self, *arguments):
+        return self.calls.pluck(*arguments)
+
+    def reading(self, kind, columns, rows, newer, pick_up):
+        refusal, value = self.calls.reading(kind, columns, rows, newer, pick_up)
+        return refusal, to_bits(value), newer
+
+    def sheet(self, kind, columns, rows, rate, length, bending, speed_kind, speed, density, loss_kind, loss):
+        record = Sheet(rate, length, bending,
+                       ("tension", speed, density) if speed_kind else ("hertz", speed),
+                       ("seconds" if loss_kind else "per second", loss))
+        refusal, settings = self.calls.sheet(kind, columns, rows, record)
+        return (refusal, *settings)
+
+
+def cells(code, place, length):
+    return (code * length).from_address(place)
+
+
+def stand_in(module=calls):
+    """A library made of the calls of a module, behind C functions of the same signatures."""
+    reference = Reference(module)
+
+    def block(kind, columns, rows, q, m, s, older, older_length, newer, newer_length, work, work_length,
+              samples, samples_length, pick_up, hit, point, force, steps):
+        lent = [cells(I64, older, older_length), cells(I64, newer, newer_length),
+                cells(I64, work, work_length), cells(ctypes.c_int16, samples, samples_length)]
+        refusal, cells(SIZE, steps, 1)[0], *after = reference.block(
+            kind, columns, rows, q, m, s, *(list(buffer) for buffer in lent), pick_up, hit, point, force)
+        for buffer, values in zip(lent, after):
+            buffer[:] = values
+        return refusal
+
+    def pluck(kind, columns, rows, older, older_length, newer, newer_length, centre, half_width, height):
+        lent = [cells(I64, older, older_length), cells(I64, newer, newer_length)]
+        refusal, lent[0][:], lent[1][:] = reference.pluck(
+            kind, columns, rows, list(lent[0]), list(lent[1]), centre, half_width, height)
+        return refusal
+
+    def reading(kind, columns, rows, newer, length, pick_up, value):
+        refusal, cells(U64, value, 1)[0], _ = reference.reading(
+            kind, columns, rows, list(cells(I64, newer, length)), pick_up)
+        return refusal
+
+    def sheet(*arguments):
+        *plain, q, m, s = arguments
+        refusal, cells(U64, q, 1)[0], cells(U64, m, 1)[0], cells(U64, s, 1)[0] = reference.sheet(*plain)
+        return refusal
+
+    def total(function):
+        """A wrong stand-in may fail; 99 is no refusal number."""
+        def answer(*arguments):
+            try:
+                return function(*arguments)
+            except (IndexError, ValueError, TypeError, ZeroDivisionError):
+                return 99
+        return answer
+
+    functions = {"block": block, "pluck": pluck, "reading": reading, "sheet": sheet}
+    return Library({name: ctypes.CFUNCTYPE(U64, *SIGNATURES[name])(total(function))
+                    for name, function in functions.items()})
+
+
+def calls_from(folder):
+    """The calls module of another copy of these files."""
+    ours = {name: sys.modules.pop(name) for name in MODULES if name in sys.modules}
+    sys.path.insert(0, str(folder))
+    try:
+        return importlib.import_module("calls")
+    finally:
+        sys.path.pop(0)
+        sys.modules.update(ours)
+
+
+def wrong_stand_in(edit):
+    """A stand-in with one of the wrong edits of must_fail.py."""
+    with tempfile.TemporaryDirectory() as folder:
+        must_fail.wrong_copy(edit, folder)
+        return stand_in(calls_from(folder))

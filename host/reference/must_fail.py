@@ -1,0 +1,116 @@
+"""Wrong edits: each is applied to a copy of the modules, and test_reference.py must fail there.
+
+    python3 must_fail.py
+"""
+
+import os
+import pathlib
+import shutil
+import subprocess
+import sys
+import tempfile
+
+HERE = pathlib.Path(__file__).resolve().parent
+
+# (what is wrong, file, text, text in its place)
+EDITS = (
+    ("negative halves upward", "step.py", "-magnitude if numerator < 0 else magnitude",
+     "(2 * numerator + denominator) // (2 * denominator)"),
+    ("halves toward zero", "step.py", "(2 * abs(numerator) + denominator) //",
+     "(2 * abs(numerator) + denominator - 1) //"),
+    ("divided by D", "step.py", "round_half_away(value, D + s)", "round_half_away(value, D)"),
+    ("D+s for D-s", "step.py", "- (D - s) * older", "- (D + s) * older"),
+    ("B added", "step.py", "- m * second", "+ m * second"),
+    ("B without its second Laplacian", "step.py", "laplacians(grid, first) if m else first", "first"),
+    ("force divided by D", "step.py", "result[point] += D * force", "result[point] += force"),
+    ("sample toward zero", "step.py", "return value // 2**28", "return int(value / 2**28)"),
+    ("reading over 2^42", "step.py", "2.0**43", "2.0**42"),
+    ("free end takes its neighbour once", "instrument.py", "return 2 * (level[near[0]] - u)",
+     "return level[near[0]] - 2 * u"),
+    ("free end not doubled", "instrument.py", "return 2 * (level[near[0]] - u)", "return level[near[0]] - u"),
+    ("membrane factor 2(1-R)", "instrument.py", "total - len(near) * u", "total - 2 * u"),
+    ("round edge moves", "instrument.py", ">= (columns - 1) ** 2", "> (columns - 1) ** 2"),
+    ("stiffness counted twice, not four times", "instrument.py", "q + 4 * m <= D", "q + 2 * m <= D"),
+    ("membrane stable up to D", "instrument.py", "return 2 * q <= D", "return q <= D"),
+    ("kind 2 free at point 0", "instrument.py", "return point == 0", "return point == columns - 1"),
+    ("the ceiling itself is beyond", "refusals.py", "max(level) > CEILING", "max(level) >= CEILING"),
+    ("force at 2^63 passes", "refusals.py", "return abs(value) > CEILING", "return value > CEILING"),
+    ("highest number answers", "refusals.py", "in sorted(tests):", "in sorted(tests, reverse=True):"),
+    ("minus zero is negative", "refusals.py", "x < 0.0 for x", "math.copysign(1.0, x) < 0.0 for x"),
+    ("density may be zero", "refusals.py", "above_zero.append(sheet.speed[2])", "pass"),
+    ("hertz for membranes", "refusals.py", 'return sheet.speed[0] == "hertz" and kind in (5, 6)', "return False"),
+    ("pick-up one too far", "refusals.py", "return point >= columns * rows", "return point > columns * rows"),
+    ("half width up to columns", "refusals.py", "<= columns - 1", "<= columns"),
+    ("work not cleared", "calls.py", "[0] * len(work), samples", "work, samples"),
+    ("work's length not looked at", "calls.py", "(older, newer, work)),", "(older, newer)),"),
+    ("hit in each step", "calls.py", "hit if place == 0 else None", "hit"),
+    ("levels of the failed step kept", "calls.py", "refusal = 13\n", "refusal, newer = 13, following\n"),
+    ("sample written before the ceiling is tested", "calls.py", "        if r.some_beyond((following,)):",
+     "        samples[place] = sample(following[pick_up])\n        if r.some_beyond((following,)):"),
+    ("one sample for ever", "calls.py", "samples[place] = sample", "samples[0] = sample"),
+    ("steps once and repeats its sample", "calls.py", "older, newer = newer, following",
+     "older, newer = (older, newer) if place else (newer, following)"),
+    ("count of steps not that of the levels", "calls.py", "steps += 1", "steps = len(samples)"),
+    ("13 before the first step", "calls.py", "if r.some_beyond((following,)):", "if True:"),
+    ("levels never touched", "calls.py", "older, newer = newer, following", "pass"),
+    ("refusal of everything", "refusals.py", "return kind not in KINDS", "return True"),
+    ("pluck leaves older", "calls.py", "return 0, level, list(level)", "return 0, older, level"),
+    ("pluck rounded down", "pluck.py", "cut_toward_zero(height * T[i], 65536)", "height * T[i] // 65536"),
+    ("entries of T rounded down", "pluck.py", "half = 2 ** (bits - 1)", "half = 0"),
+    ("entry i rounded up", "pluck.py", "i = 1024 * (half_width - distance) // half_width",
+     "i = -(-1024 * (half_width - distance) // half_width)"),
+    ("sheet's halves down", "sheet.py", "numerator + denominator) //", "numerator + denominator - 1) //"),
+    ("sheet rounded by a float addition", "sheet.py", "return (2 * 65536 * numerator + denominator) // (2 * denominator)",
+     "return int(min(x * 65536.0, 1e6) + 0.5)"),
+    ("tension divided in another order", "sheet.py", "divide(divide(tension, density), sheet.rate * sheet.rate)",
+     "divide(tension, density * (sheet.rate * sheet.rate))"),
+    ("hertz multiplied in another order", "sheet.py", "(2.0 * sheet.speed[1]) * g, sheet.rate)",
+     "2.0 * g, sheet.rate) * sheet.speed[1]"),
+    ("another decay constant", "sheet.py", "6.907755278982137, number", "6.907755278982136, number"),
+    ("book goes on after a change of settings", "book.py", "if used != self.last:", "if self.last is None:"),
+    ("book takes a refused pluck", "book.py", "if refusal == 0:", "if True:"),
+    ("free end counts whole in the energy", "book.py", "first -= sum(", "first -= 0 * sum("),
+    ("free end counts whole in the distance", "book.py", "2 * sum(squares) - sum(", "2 * sum(squares) - 0 * sum("),
+    ("bound of n + 1 steps", "book.py", "(self.n * (self.n + 1) * self.scale)",
+     "((self.n + 1) * (self.n + 2) * self.scale)"),
+)
+
+
+def wrong_copy(edit, folder):
+    """Copies the modules to folder with one edit applied; the text must stand there once."""
+    _, name, old, new = edit
+    for path in HERE.glob("*.py"):
+        shutil.copy(path, folder)
+    path = pathlib.Path(folder) / name
+    text = path.read_text()
+    if text.count(old) != 1:
+        raise SystemExit(f"{name}: {text.count(old)} places for {old!r}")
+    path.write_text(text.replace(old, new))
+
+
+def tests_pass(folder):
+    environment = {**os.environ, "PYTHONDONTWRITEBYTECODE": "1"}
+    run = subprocess.run([sys.executable, "test_reference.py", "--failfast"], cwd=folder,
+                         env=environment, capture_output=True)
+    if any(word in run.stderr for word in (b"SyntaxError", b"NameError", b"ImportError", b"TypeError")):
+        raise SystemExit(run.stderr.decode() + "the edit does not run")
+    return run.returncode == 0
+
+
+def main():
+    if not tests_pass(HERE):
+        raise SystemExit("test_reference.py fails without any edit")
+    survived = []
+    for edit in EDITS:
+        with tempfile.TemporaryDirectory() as folder:
+            wrong_copy(edit, folder)
+            if tests_pass(folder):
+                survived.append(edit[0])
+    for name in survived:
+        print("survived:", name)
+    print(len(EDITS) - len(survived), "wrong edits refused")
+    return 1 if survived else 0
+
+
+if __name__ == "__main__":
+    sys.exit(main())

@@ -1,0 +1,46 @@
+"""One step: the numerator, its rounding, the sample and the float reading."""
+
+from instrument import D, laplacians, moving
+
+
+def numerators(grid, settings, older, newer, hit):
+    """"2D x u + q x L - m x B - (D-s) x p + D x f" at moving points, 0 at fixed ones.
+
+    hit is None or (point, force).
+    """
+    q, m, s = settings
+    first = laplacians(grid, newer)
+    # "B is L taken of L, where L counts as 0 at the supported ends": laplacians gives 0 there.
+    second = laplacians(grid, first) if m else first
+    result = [0] * len(newer)
+    for point, _ in moving(*grid):
+        result[point] = (2 * D * newer[point] + q * first[point] - m * second[point]
+                         - (D - s) * older[point])
+    if hit is not None:
+        # "f is the hit's force in units at the hit point, else 0".
+        point, force = hit
+        result[point] += D * force
+    return result
+
+
+def round_half_away(numerator, denominator):
+    """"rounded to nearest, halves away from zero", for a denominator above 0."""
+    magnitude = (2 * abs(numerator) + denominator) // (2 * denominator)
+    return -magnitude if numerator < 0 else magnitude
+
+
+def next_level(grid, settings, older, newer, hit):
+    """"divided by D+s and rounded"; "Fixed points remain 0"."""
+    s = settings[2]
+    return [round_half_away(value, D + s)
+            for value in numerators(grid, settings, older, newer, hit)]
+
+
+def sample(value):
+    """"newer at the pick-up point divided by 2^28 and rounded down"."""
+    return value // 2**28
+
+
+def reading(value):
+    """"the point converted to f64 and divided once by 2^43"."""
+    return float(value) / 2.0**43

@@ -1,0 +1,424 @@
+"""Tests of the reference: the paper's examples, its rules for T, energy and distance, each refusal."""
+
+import math
+import unittest
+from fractions import Fraction
+
+import book
+import calls
+import draws
+import instrument
+import pluck
+import sheet
+import step
+from instrument import CEILING, D
+from sheet import Sheet
+
+PLAIN = Sheet(1.0, 2.0, 0.0, ("tension", 0.25, 1.0), ("per second", 0.0))
+
+
+def one_step(grid, settings, older, newer, hit=None):
+    """The level after one accepted step."""
+    size = len(newer)
+    (steps, refusal), left, new, work, samples = calls.block(
+        *grid, *settings, older, newer, [7] * size, [5], 0, hit)
+    assert (steps, refusal, left, work) == (1, 0, newer, [0] * size)
+    return new
+
+
+def refusal_at_rest(kind, columns, rows, q, m):
+    """The refusal of a block of no steps, all levels 0."""
+    level = [0] * (columns * rows)
+    return calls.block(kind, columns, rows, q, m, 0, level, level, level, [], 0, None)[0][1]
+
+
+class Examples(unittest.TestCase):
+    """The table of examples, the slip at free ends, the sheet and the listing of ring."""
+
+    def middle(self, q, s, older, newer):
+        return one_step((1, 3, 1), (q, 0, s), [0, older, 0], [0, newer, 0])[1]
+
+    def test_a_to_e(self):
+        self.assertEqual(one_step((1, 3, 1), (65536, 0, 0), [0, 1000, 0], [0, 1000, 0]), [0, -1000, 0])
+        level = [0, 0, 0, 0, 1000, 0, 0, 0, 0]
+        self.assertEqual(one_step((5, 3, 3), (32768, 0, 0), level, level)[4], -1000)
+        self.assertEqual(self.middle(16384, 0, 1, 1), 1)
+        self.assertEqual(self.middle(16384, 0, -1, -1), -1)
+        self.assertEqual(self.middle(0, 65536, 7, 3), 3)
+
+    def test_f_and_the_slip(self):
+        zeros = [0, 0, 0]
+        self.assertEqual(one_step((3, 3, 1), (65536, 0, 0), zeros, [4, 0, 0]), [0, 4, 0])
+        self.assertEqual(one_step((3, 3, 1), (65536, 0, 0), zeros, [0, 4, 0]), [8, 0, 8])
+        self.assertEqual(one_step((2, 3, 1), (65536, 0, 0), zeros, [0, 4, 0]), [0, 0, 8])
+
+    def test_g(self):
+        self.assertEqual(one_step((4, 5, 1), (0, 16384, 0), [0] * 5, [0, 0, 8, 0, 0]), [0, 8, 4, 8, 0])
+
+    def test_supported_ends(self):
+        # L is 0 at point 0, so B at point 1 is L(2) - 2 L(1) = 8 + 2*16 = 40; 2*8 - 40/4 = 6.
+        self.assertEqual(one_step((4, 5, 1), (0, 16384, 0), [0] * 5, [0, 8, 0, 0, 0]), [0, 6, 8, -2, 0])
+
+    def test_h_and_i(self):
+        self.assertEqual([refusal_at_rest(4, 3, 1, q, 1) for q in (65532, 65533)], [0, 5])
+        for kind in (5, 6):
+            self.assertEqual([refusal_at_rest(kind, 3, 3, q, 0) for q in (32768, 32769)], [0, 5])
+
+    def test_j(self):
+        self.assertEqual(len(instrument.moving(6, 7, 7)), 25)
+        self.assertEqual(len(instrument.moving(6, 8, 8)), 32)
+
+    def test_moving_points_have_two_or_four_neighbours(self):
+        for kind, columns, rows, counts in ((1, 9, 1, {2}), (2, 9, 1, {1, 2}), (3, 9, 1, {1, 2}),
+                                            (4, 9, 1, {2}), (5, 5, 4, {4}), (6, 16, 16, {4})):
+            found = {len(near) for _, near in instrument.moving(kind, columns, rows)}
+            self.assertEqual(found, counts)
+
+    def test_bound_of_the_paper(self):
+        """"with N = 100 the bound is below one sample unit squared (2^56) up to n = 10,361"."""
+        below = lambda n: 100 * n**2 * (n + 1) ** 2 < 16 * 2**56
+        self.assertTrue(below(10361))
+        self.assertFalse(below(10362))
+
+    def test_sheet(self):
+        record = Sheet(48000.0, 1.0, 0.0, ("hertz", 100.0), ("per second", 6.0))
+        self.assertEqual(calls.sheet(1, 101, 1, record), (0, (11378, 0, 8)))
+
+    def test_ring(self):
+        kind, columns, rows, q, m, s, pick_up, steps, point, force = map(
+            int, "1 3 1 65536 0 0 1 4 1 268435456".split())
+        rest = [0] * (columns * rows)
+        (done, refusal), _, _, _, samples = calls.block(
+            kind, columns, rows, q, m, s, rest, rest, rest, [0] * steps, pick_up, (point, force))
+        lines = [f"{number} {value}" for number, value in enumerate(samples[:done], 1)]
+        lines.append(f"done {done} {refusal}")
+        self.assertEqual(lines, ["1 1", "2 0", "3 -1", "4 0", "done 4 0"])
+
+
+class Steps(unittest.TestCase):
+    def test_rounding_against_fractions(self):
+        draw = draws.Draws("rounding")
+        for _ in range(2000):
+            denominator = draw.randint(D, 2 * D)
+            numerator = draw.choice((draw.randint(-9, 9) * denominator + denominator // 2,
+                                     draw.randint(-10**20, 10**20)))
+            exact = Fraction(numerator, denominator)
+            away = math.floor(abs(exact) + Fraction(1, 2)) * (1 if exact >= 0 else -1)
+            self.assertEqual(step.round_half_away(numerator, denominator), away)
+
+    def test_sample_and_reading(self):
+        grid, level = (3, 3, 1), [-1, CEILING, -CEILING]
+        values = [calls.reading(*grid, level, point) for point in range(3)]
+        self.assertEqual(values, [(0, -2.0**-43), (0, 32767 / 32768), (0, -32767 / 32768)])
+        for point, expected in enumerate((-1, 32767, -32767)):
+            answer, _, newer, _, samples = calls.block(
+                *grid, 0, 0, 0, level, level, [0] * 3, [9, 9], point, None)
+            self.assertEqual((answer, newer, samples), ((2, 0), level, [expected] * 2))
+
+    def test_hit_acts_once(self):
+        answer, older, newer, _, _ = calls.block(
+            1, 3, 1, 0, 0, 0, [0] * 3, [0] * 3, [0] * 3, [0] * 3, 1, (1, 10))
+        self.assertEqual((answer, older, newer), ((3, 0), [0, 20, 0], [0, 30, 0]))
+
+    def test_loss(self):
+        # (2D*100 - (D-s)*40) / (D+s) with s = D/2: (200 - 20) / 1.5 = 120.
+        self.assertEqual(one_step((1, 3, 1), (0, 0, D // 2), [0, 40, 0], [0, 100, 0]), [0, 120, 0])
+
+    def test_hit_with_loss(self):
+        self.assertEqual(one_step((1, 3, 1), (0, 0, D), [0] * 3, [0] * 3, (1, 10)), [0, 5, 0])
+
+    def test_no_steps(self):
+        level = [0, CEILING, 0]
+        answer = calls.block(1, 3, 1, D, 0, 0, [0] * 3, level, [1, 2, 3], [], 1, (1, CEILING))
+        self.assertEqual(answer, ((0, 0), [0] * 3, level, [0] * 3, []))
+
+    def test_thirteen(self):
+        # With q 0 and s 0 the middle grows by a fixed amount; the ceiling is met exactly, then passed.
+        grow = CEILING // 7
+        for steps_before in (0, 1, 3):
+            newer = CEILING - steps_before * grow
+            older = [0, newer - grow, 0]
+            answer, left, new, work, samples = calls.block(
+                1, 3, 1, 0, 0, 0, older, [0, newer, 0], [4, 5, 6], [77] * 5, 1, None)
+            self.assertEqual(answer, (steps_before, 13))
+            self.assertEqual(new, [0, CEILING, 0])
+            self.assertEqual(left, [0, CEILING - grow, 0])
+            self.assertEqual(work, [0] * 3)
+            self.assertEqual(samples[steps_before:], [77] * (5 - steps_before))
+            self.assertEqual(samples[:steps_before],
+                             [(newer + (k + 1) * grow) // 2**28 for k in range(steps_before)])
+
+
+class Pluck(unittest.TestCase):
+    def test_rule_of_t(self):
+        t = pluck.T
+        self.assertEqual((len(t), t[0], t[1024]), (1025, 0, 65536))
+        self.assertEqual(sorted(t), list(t))
+        self.assertTrue(all(t[j] + t[1024 - j] == 65536 for j in range(1025)))
+
+    def test_t_is_not_in_doubt(self):
+        """The nearest half is at least 2^-20 away; the error is below 2^-120 (see pluck.py)."""
+        bits, more = pluck.BITS, 2 * pluck.BITS
+        pi, finer_pi = pluck.pi_units(bits), pluck.pi_units(more)
+        for j in range(1025):
+            value, finer = pluck.entry_units(j, bits, pi), pluck.entry_units(j, more, finer_pi)
+            self.assertLess(abs((value << bits) - finer), 2 ** (more - 120))
+            to_half = abs(value % 2**bits - 2 ** (bits - 1))
+            self.assertGreater(to_half, 2 ** (bits - 20))
+            self.assertLess(abs(pluck.T[j] * 2**bits - value), 2 ** (bits - 1))
+            self.assertLess(abs(pluck.T[j] - 32768 * (1 - math.cos(math.pi * j / 1024))), 0.50001)
+
+    def test_levels(self):
+        # Entry 512 of T is 32768: -3/2 is cut to -1.
+        refusal, older, newer = calls.pluck(1, 5, 1, [9] * 5, [-(2**63)] * 5, 2, 2, -3)
+        self.assertEqual((refusal, older, newer), (0, [0, -1, -3, -1, 0], [0, -1, -3, -1, 0]))
+        _, older, newer = calls.pluck(3, 4, 1, [9] * 4, [9] * 4, 0, 3, 65536)
+        self.assertEqual(older, [65536, pluck.T[682], pluck.T[341], 0])
+        self.assertEqual(older, newer)
+
+    def test_nearly_all_of_t(self):
+        _, older, _ = calls.pluck(3, 1024, 1, [0] * 1024, [0] * 1024, 0, 1023, 65536)
+        self.assertEqual(older, [65536] + list(pluck.T[1022::-1]))
+        _, mirrored, _ = calls.pluck(3, 1024, 1, [0] * 1024, [0] * 1024, 1023, 1023, 65536)
+        self.assertEqual(mirrored, older[::-1])
+
+
+def as_float(x):
+    """The double nearest to an exact fraction: whole-number division in Python rounds correctly."""
+    return x.numerator / x.denominator
+
+
+class SheetNumbers(unittest.TestCase):
+    def test_order_against_fractions(self):
+        """Each operation exactly in fractions, then rounded to the nearest double, in the paper's order."""
+        draw = draws.Draws("sheet")
+        over = lambda x, y: as_float(Fraction(x) / Fraction(y))
+        times = lambda x, y: as_float(Fraction(x) * Fraction(y))
+        for _ in range(300):
+            columns = draw.randint(3, 1024)
+            rate, length, bending, pitch, tension, density, number = (
+                draw.uniform(1.0, 1000.0) for _ in range(7))
+            g = columns - 1
+            h = over(length, g)
+            hertz = Sheet(rate, length, bending, ("hertz", pitch), ("per second", number))
+            z = over(times(times(2, pitch), g), rate)
+            self.assertEqual(sheet.squared_courant(columns, hertz), times(z, z))
+            tight = Sheet(rate, length, bending, ("tension", tension, density), ("seconds", number))
+            expected = over(over(over(tension, density), times(rate, rate)), times(h, h))
+            self.assertEqual(sheet.squared_courant(columns, tight), expected)
+            expected = over(over(over(bending, times(rate, rate)), times(h, h)), times(h, h))
+            self.assertEqual(sheet.stiffness(columns, tight), expected)
+            self.assertEqual(sheet.loss(hertz), over(number, rate))
+            self.assertEqual(sheet.loss(tight), over(over(6.907755278982137, number), rate))
+
+    def test_nearest(self):
+        half = 0.5 / 65536
+        self.assertEqual([sheet.nearest(x) for x in (0.0, -0.0, 5e-324, 1.0, 1.7976931348623157e308)],
+                         [0, 0, 0, 65536, int(1.7976931348623157e308) * 65536])
+        self.assertEqual([sheet.nearest(x) for x in (math.inf, -math.inf, math.nan)], [None] * 3)
+        for k in (0, 1, 2, 7, 65535, 65536):
+            x = k / 65536 + half
+            found = [sheet.nearest(v) for v in (math.nextafter(x, 0.0), x, math.nextafter(x, 9.0))]
+            self.assertEqual(found, [k, k + 1, k + 1])
+
+    def test_division(self):
+        d = sheet.divide
+        self.assertEqual([d(1.0, 0.0), d(-1.0, 0.0), d(1.0, -0.0), d(math.inf, 0.0), d(1e308, 1e-308)],
+                         [math.inf, -math.inf, -math.inf, math.inf, math.inf])
+        self.assertTrue(all(math.isnan(x) for x in (d(0.0, 0.0), d(math.nan, 0.0), d(1.0, math.nan))))
+
+    def answer(self, kind=1, columns=3, rows=1, **changes):
+        return calls.sheet(kind, columns, rows, PLAIN._replace(**changes))
+
+    def test_accepted(self):
+        self.assertEqual(self.answer(), (0, (16384, 0, 0)))
+        self.assertEqual(self.answer(bending=-0.0, loss=("per second", -0.0)), (0, (16384, 0, 0)))
+        self.assertEqual(self.answer(speed=("tension", -0.0, 1.0)), (0, (0, 0, 0)))
+        self.assertEqual(self.answer(kind=4, bending=0.125), (0, (16384, 8192, 0)))
+        self.assertEqual(self.answer(kind=6, rows=3), (0, (16384, 0, 0)))
+        self.assertEqual(self.answer(loss=("per second", 1.0)), (0, (16384, 0, 65536)))
+
+    def test_refused(self):
+        for refusal, changes in (
+                (1, {"kind": 0}), (1, {"kind": 7}), (2, {"columns": 2}), (2, {"rows": 2}),
+                (2, {"kind": 6, "rows": 4}), (3, {"rate": 0.0}), (3, {"rate": -0.0}),
+                (3, {"length": 0.0}), (3, {"length": -1.0}), (3, {"bending": -5e-324}),
+                (3, {"bending": math.inf}), (3, {"speed": ("hertz", math.nan)}),
+                (3, {"speed": ("tension", 1.0, 0.0)}), (3, {"speed": ("tension", -1.0, 1.0)}),
+                (3, {"loss": ("seconds", 0.0)}), (3, {"loss": ("seconds", -0.0)}),
+                (3, {"loss": ("per second", -1.0)}), (3, {"kind": 5, "rows": 3, "speed": ("hertz", 0.0)}),
+                (4, {"speed": ("tension", 2.0, 1.0)}), (4, {"loss": ("per second", 1.0 + 0.5 / 65536)}),
+                (4, {"length": 5e-324}), (4, {"rate": 5e-324}), (4, {"bending": 1.5}),
+                (5, {"bending": 0.125}), (5, {"kind": 5, "rows": 3, "speed": ("tension", 0.75, 1.0)}),
+                (5, {"kind": 4, "bending": 0.25, "speed": ("tension", 0.25, 1.0)})):
+            self.assertEqual(self.answer(**changes), (refusal, (0, 0, 0)), changes)
+
+
+class Refusals(unittest.TestCase):
+    """Each number of block, pluck and reading; a refused call leaves everything as it was."""
+
+    block_base = dict(kind=1, columns=4, rows=1, q=D, m=0, s=3, older=[0, 5, 6, 0], newer=[0, 7, 8, 0],
+                      work=[1, 2, 3, 4], samples=[11, 12], pick_up=1, hit=(1, 100))
+    high, low = CEILING + 1, -CEILING - 1
+
+    def block_causes(self):
+        return ((1, dict(kind=0)), (1, dict(kind=7)), (2, dict(columns=2)), (2, dict(rows=2)),
+                (2, dict(columns=2**32, rows=2**32)), (4, dict(q=D + 1)), (4, dict(m=2**64 - 1)),
+                (4, dict(s=D + 1)), (5, dict(m=1)), (5, dict(kind=4, m=1)),
+                (6, dict(work=[0] * 3)), (6, dict(older=[0] * 5)), (6, dict(newer=[])),
+                (7, dict(hit=(0, 1))), (7, dict(hit=(4, 1))), (7, dict(hit=(2**64 - 1, 1))),
+                (8, dict(hit=(1, self.high))), (8, dict(hit=(2, -2**63))), (9, dict(pick_up=4)),
+                (9, dict(pick_up=2**64 - 1)), (11, dict(older=[0, self.low, 0, 0])),
+                (11, dict(newer=[0, 0, 0, self.high])), (12, dict(older=[1, 0, 0, 0])),
+                (12, dict(newer=[0, 0, 0, -1])))
+
+    def test_block(self):
+        for refusal, change in self.block_causes():
+            case = {**self.block_base, **change}
+            expected = ((0, refusal), case["older"], case["newer"], case["work"], case["samples"])
+            self.assertEqual(calls.block(**case), expected, change)
+            self.assertEqual(calls.block(**{**case, "samples": []})[0], (0, refusal), change)
+
+    def test_block_accepted(self):
+        for change in ({}, dict(hit=None), dict(pick_up=0), dict(hit=(1, CEILING - 200)), dict(s=D),
+                       dict(hit=(1, -CEILING + 200)), dict(kind=4), dict(kind=4, m=D // 4, q=0)):
+            answer, *_, work, _ = calls.block(**{**self.block_base, **change})
+            self.assertEqual((answer, work), ((2, 0), [0] * 4), change)
+
+    def test_block_pairs(self):
+        for low, first in self.block_causes():
+            for high, second in self.block_causes():
+                if low < high and not set(first) & set(second):
+                    answer = calls.block(**{**self.block_base, **second, **first})[0]
+                    self.assertEqual(answer, (0, low), (first, second))
+
+    def test_no_hit_no_7_or_8(self):
+        case = {**self.block_base, "hit": None, "pick_up": 9}
+        self.assertEqual(calls.block(**case)[0], (0, 9))
+
+    def test_pluck(self):
+        base = dict(kind=4, columns=4, rows=1, older=[9] * 4, newer=[8] * 4, centre=1, half_width=2, height=5)
+        for refusal, change in ((1, dict(kind=5)), (1, dict(kind=0)), (1, dict(kind=6, columns=4, rows=4)),
+                                (2, dict(columns=1025)), (2, dict(rows=0)), (6, dict(older=[0] * 3)),
+                                (6, dict(newer=[0] * 5)), (7, dict(centre=0)), (7, dict(centre=4)),
+                                (8, dict(height=self.high)), (8, dict(height=-2**63)),
+                                (10, dict(half_width=0)), (10, dict(half_width=4)),
+                                (8, dict(height=self.low, half_width=0)), (7, dict(centre=3, height=self.low))):
+            case = {**base, **change}
+            self.assertEqual(calls.pluck(**case), (refusal, case["older"], case["newer"]), change)
+        for change in (dict(height=CEILING), dict(height=-CEILING), dict(half_width=3), dict(half_width=1)):
+            self.assertEqual(calls.pluck(**{**base, **change})[0], 0)
+
+    def test_reading(self):
+        base = dict(kind=2, columns=3, rows=1, newer=[0, 2**43 - 2**28, -2**42], pick_up=2)
+        self.assertEqual(calls.reading(**base), (0, -0.5))
+        for refusal, change in ((1, dict(kind=9)), (2, dict(columns=2)), (6, dict(newer=[0] * 4)),
+                                (9, dict(pick_up=3)), (11, dict(newer=[0, 0, self.low])),
+                                (11, dict(newer=[self.high, 0, 0])), (12, dict(newer=[1, 0, 0])),
+                                (9, dict(pick_up=3, newer=[1, 0, self.high]))):
+            self.assertEqual(calls.reading(**{**base, **change}), (refusal, 0.0), change)
+
+    def test_fixed_points_of_each_kind(self):
+        for grid in ((1, 5, 1), (2, 5, 1), (3, 5, 1), (4, 5, 1), (5, 4, 5), (6, 7, 7)):
+            size = grid[1] * grid[2]
+            moving = instrument.moving_set(*grid)
+            for point in range(size):
+                level = [0] * size
+                level[point] = 1
+                self.assertEqual(calls.reading(*grid, level, 0)[0], 0 if point in moving else 12)
+
+
+def accepted_start(draw):
+    """A grid, settings and two levels that 1, 2, 4, 5, 11 and 12 let pass."""
+    draw.odds = 0.0
+    kind = draw.randint(1, 6)
+    grid = (kind, *draw.size(kind, large=0.0))
+    return grid, draw.settings(kind), *draw.levels(grid)
+
+
+class Book(unittest.TestCase):
+    def test_energy(self):
+        """Never negative, never raised without a hit, kept without loss."""
+        draw = draws.Draws("energy")
+        for _ in range(250):
+            grid, settings, older, newer = accepted_start(draw)
+            scale, divisor = 1, D + settings[2]
+            before = book.energy(grid, settings, older, newer)
+            self.assertGreaterEqual(before, 0)
+            for _ in range(6):
+                hit = draw.hit(grid) if draw.rarely(0.3) else None
+                older, newer, scale = book.unrounded_step(grid, settings, older, newer, scale, hit)
+                after = book.energy(grid, settings, older, newer)
+                self.assertGreaterEqual(after, 0)
+                if hit is None:
+                    self.assertLessEqual(after, before * divisor**2)
+                    if settings[2] == 0:
+                        self.assertEqual(after, before * divisor**2)
+                before = after
+
+    def test_energy_by_hand(self):
+        # Kind 3, newer "1 0 0", older zeros: only the first sum, and the free end counts half.
+        self.assertEqual(book.energy((3, 3, 1), (D, 0, 0), [0, 0, 0], [1, 0, 0]), D)
+        # Kind 4, both "0 1 0": two pairs and L = -2.
+        self.assertEqual(book.energy((4, 3, 1), (5, 7, 0), [0, 1, 0], [0, 1, 0]), 2 * 5 * 2 + 2 * 7 * 4)
+
+    def test_distance_by_hand(self):
+        kept = book.Book([0] * 3, [0] * 3)
+        kept.block(3, 3, 1, 0, 0, 0, [0] * 3, [0] * 3, None, 1)
+        self.assertEqual((kept.n, kept.scale, kept.newer), (1, D, [0] * 3))
+        self.assertEqual(kept.distance([2, 3, 0]), (4 + 2 * 9) * D**2)
+        # The bound is 3 * 1 * 4 / 16 = 3/4: a free end may be 1 away, the middle may not.
+        self.assertTrue(kept.within_bound([1, 0, 0]))
+        self.assertFalse(kept.within_bound([0, 1, 0]))
+
+    def test_rules(self):
+        zeros, ones = [0] * 3, [0, 1, 0]
+        kept = book.Book(zeros, ones)
+        self.assertTrue(kept.within_bound(ones))
+        self.assertFalse(kept.within_bound(zeros))
+        kept.block(1, 3, 1, D, 0, 0, zeros, zeros, (1, 5), 0)
+        self.assertEqual((kept.n, kept.last, kept.newer), (0, None, ones))
+        kept.block(1, 3, 1, D, 0, 1, zeros, ones, (1, 5), 2)
+        self.assertEqual((kept.n, kept.scale), (2, (D + 1) ** 2))
+        # u1 = 5 D/(D+1); u2 = 0 - (D-1)/(D+1), both times (D+1)^2.
+        self.assertEqual((kept.older, kept.newer), ([0, 5 * D * (D + 1), 0], [0, -(D - 1) * (D + 1), 0]))
+        kept.pluck(1, 3, 1, zeros, zeros, 0, 1, 9)
+        self.assertEqual(kept.n, 2)
+        kept.block(1, 3, 1, D, 0, 1, [0, 9, 0], [0, 9, 0], None, 1)
+        self.assertEqual(kept.n, 3)
+        kept.block(1, 3, 1, D, 0, 2, [0, 4, 0], [0, 3, 0], None, 1)
+        self.assertEqual((kept.n, kept.newer), (1, [0, -(D - 2) * 4, 0]))
+        kept.block(3, 3, 1, D, 0, 2, zeros, zeros, None, 1)
+        self.assertEqual((kept.n, kept.last), (1, ((3, 3, 1), (D, 0, 2))))
+        kept.pluck(3, 3, 1, zeros, zeros, 0, 1, 9)
+        self.assertEqual((kept.n, kept.scale, kept.older, kept.newer), (0, 1, [9, 0, 0], [9, 0, 0]))
+
+    def test_bound_on_random_lists(self):
+        draw = draws.Draws("lists")
+        far = 0
+        for _ in range(150):
+            draw.odds = 0.0
+            grid, settings, older, newer = accepted_start(draw)
+            kept = book.Book(older, newer)
+            for _ in range(6):
+                if draw.rarely(0.25):
+                    grid = draw.choice(draws.same_size_grids(grid))
+                    settings = draw.settings(grid[0])
+                draw.odds = 0.02
+                if draw.rarely(0.15):
+                    args = (*grid, older, newer, draw.point(grid, True), draw.half_width(grid[1]), draw.force())
+                    kept.pluck(*args)
+                    _, older, newer = calls.pluck(*args)
+                else:
+                    hit = draw.hit(grid)
+                    answer, after_older, after_newer, _, _ = calls.block(
+                        *grid, *settings, older, newer, [0] * len(newer), draw.samples(), 0, hit)
+                    kept.block(*grid, *settings, older, newer, hit, answer[0])
+                    older, newer = after_older, after_newer
+                self.assertTrue(kept.within_bound(newer))
+                far += kept.n > 0 and kept.distance(newer) > 0
+        self.assertGreater(far, 50)
+
+
+if __name__ == "__main__":
+    unittest.main()
