@@ -8,6 +8,7 @@ ghost use Rattle.scheme.specs.Refusals.{blockRefusal};
 ghost use Rattle.scheme.specs.Calls.{block, blockLeft};
 ghost use Rattle.block.specs.Levels.{olderOf, newerOf};
 use crate::arithmetic::make_plan;
+use crate::edges::row_edges;
 use crate::levels::clear;
 use crate::levels::exchange;
 use crate::play::play;
@@ -53,8 +54,11 @@ fn carry_out(
     ensures { λ r. ⌜ blockLeft r (now (older .exit)) (now (newer .exit)) (now (work .exit)) (now (samples .exit)) ≡ block i (now (older .entry)) (now (newer .entry)) (now (work .entry)) (now (samples .entry)) pick hit ⌝ }
 {
     let plan = make_plan(i);
+    let mut from = [0; 64];
+    let mut to = [0; 64];
+    row_edges(plan.instrument.grid, &mut from, &mut to);
     clear(work);
-    let steps = play(plan, older, newer, work, samples, pick, hit);
+    let steps = play(plan, &from, &to, older, newer, work, samples, pick, hit);
     clear(work);
     settle(older, newer, steps.exchanged);
     let refusal = ending(steps.done, samples.len());

@@ -1,6 +1,7 @@
 // A block: as many steps of an instrument as the lent sample buffer has places.
 mod arithmetic;
 mod call;
+mod edges;
 mod levels;
 mod play;
 mod points;

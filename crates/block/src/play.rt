@@ -8,6 +8,7 @@ ghost use Rattle.scheme.specs.Step.{sampleOf};
 ghost use Rattle.scheme.specs.Calls as Calls;
 ghost use Rattle.scheme.proofs.Laws.Calls.{hitAfter};
 ghost use Rattle.scheme.proofs.Laws.Ranges.{Within};
+ghost use Rattle.block.specs.Edges.{EdgesOf};
 ghost use Rattle.block.specs.Levels.{Steppable, Stepped, Played, olderOf, newerOf};
 use crate::arithmetic::Plan;
 use crate::arithmetic::sample;
@@ -24,6 +25,8 @@ fn hit_of(hit: Hit, j: usize) -> Hit
 // A step with the two levels in their roles.
 fn step_in_roles(
     plan: Plan,
+    from: &[usize; 64],
+    to: &[usize; 64],
     older: &mut [i64],
     newer: &mut [i64],
     work: &mut [i64],
@@ -31,12 +34,13 @@ fn step_in_roles(
     exchanged: bool,
 ) -> bool
     requires { ⌜ Steppable plan hit (olderOf exchanged (now older) (now newer)) (newerOf exchanged (now older) (now newer)) (now work) ⌝ }
+    requires { ⌜ EdgesOf (plan .instrument .grid) (now from) (now to) ⌝ }
     ensures { λ r. ⌜ Stepped (plan .instrument) hit (olderOf exchanged (now (older .entry)) (now (newer .entry))) (newerOf exchanged (now (older .entry)) (now (newer .entry))) (olderOf exchanged (now (older .exit)) (now (newer .exit))) (now (work .exit)) r × (newerOf exchanged (now (older .exit)) (now (newer .exit)) ≡ newerOf exchanged (now (older .entry)) (now (newer .entry))) ⌝ }
 {
     if exchanged {
-        step(plan, newer, older, work, hit)
+        step(plan, from, to, newer, older, work, hit)
     } else {
-        step(plan, older, newer, work, hit)
+        step(plan, from, to, older, newer, work, hit)
     }
 }
 
@@ -61,6 +65,8 @@ pub struct Steps {
 // A step for each place of samples, until the next would put a point beyond the ceiling.
 pub fn play(
     plan: Plan,
+    from: &[usize; 64],
+    to: &[usize; 64],
     older: &mut [i64],
     newer: &mut [i64],
     work: &mut [i64],
@@ -69,13 +75,14 @@ pub fn play(
     hit: Hit,
 ) -> Steps
     requires { ⌜ Steppable plan hit (now older) (now newer) (now work) × (pick < points (plan .instrument .grid)) ⌝ }
+    requires { ⌜ EdgesOf (plan .instrument .grid) (now from) (now to) ⌝ }
     ensures { λ r. ⌜ Played (Calls.play (plan .instrument) pick hit (now (older .entry)) (now (newer .entry)) (now (samples .entry))) (length (now (samples .entry))) r (now (older .exit)) (now (newer .exit)) (now (work .exit)) (now (samples .exit)) ⌝ }
 {
     let mut j = 0;
     let mut exchanged = false;
     while j < samples.len() {
         let h = hit_of(hit, j);
-        if !step_in_roles(plan, older, newer, work, h, exchanged) {
+        if !step_in_roles(plan, from, to, older, newer, work, h, exchanged) {
             return Steps { done: j, exchanged };
         }
         samples[j] = sample_in_roles(older, newer, pick, exchanged);

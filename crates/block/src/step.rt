@@ -5,15 +5,24 @@ ghost use lib.ListN.{length};
 ghost use Rattle.scheme.specs.Instruments.{points};
 ghost use Rattle.scheme.specs.Step.{nextAt};
 ghost use Rattle.block.specs.Run.{RanTo};
+ghost use Rattle.block.specs.Edges.{EdgesOf};
 ghost use Rattle.block.specs.Levels.{Steppable, Stepped, Restored};
 use crate::arithmetic::Plan;
 use crate::rows::step_row;
-use checks::movable_run;
 use scheme::Hit;
 
-// Every moving point, row by row.
-fn step_rows(plan: Plan, older: &mut [i64], newer: &[i64], work: &mut [i64], hit: Hit) -> usize
+// Every moving point, row by row: from and to have the moving columns of each row.
+fn step_rows(
+    plan: Plan,
+    from: &[usize; 64],
+    to: &[usize; 64],
+    older: &mut [i64],
+    newer: &[i64],
+    work: &mut [i64],
+    hit: Hit,
+) -> usize
     requires { ⌜ Steppable plan hit (now older) (now newer) (now work) ⌝ }
+    requires { ⌜ EdgesOf (plan .instrument .grid) (now from) (now to) ⌝ }
     ensures { λ r. ⌜ RanTo (nextAt (plan .instrument) hit (now (older .entry)) (now (newer .entry))) (now (older .entry)) (now (work .entry)) (now (older .exit)) (now (work .exit)) 0 (points (plan .instrument .grid)) r ⌝ }
 {
     let g = plan.instrument.grid;
@@ -22,10 +31,9 @@ fn step_rows(plan: Plan, older: &mut [i64], newer: &[i64], work: &mut [i64], hit
     let mut row = 0;
     let mut start = 0;
     while row < rows {
-        let run = movable_run(g, row);
-        let to = start + run.to;
-        let at = step_row(plan, older, newer, work, start + run.from, to, hit);
-        if at < to {
+        let end = start + to[row];
+        let at = step_row(plan, older, newer, work, start + from[row], end, hit);
+        if at < end {
             return at;
         }
         row += 1;
@@ -47,12 +55,23 @@ fn restore(older: &mut [i64], work: &[i64], n: usize)
 }
 
 // The next level in older where all its points lie within the ceiling; else older as it was.
-pub fn step(plan: Plan, older: &mut [i64], newer: &[i64], work: &mut [i64], hit: Hit) -> bool
+pub fn step(
+    plan: Plan,
+    from: &[usize; 64],
+    to: &[usize; 64],
+    older: &mut [i64],
+    newer: &[i64],
+    work: &mut [i64],
+    hit: Hit,
+) -> bool
     requires { ⌜ Steppable plan hit (now older) (now newer) (now work) ⌝ }
+    requires { ⌜ EdgesOf (plan .instrument .grid) (now from) (now to) ⌝ }
     ensures { λ r. ⌜ Stepped (plan .instrument) hit (now (older .entry)) (now (newer .entry)) (now (older .exit)) (now (work .exit)) r ⌝ }
 {
-    let at = step_rows(plan, older, newer, work, hit);
-    if at < newer.len() {
+    // A part that is all of newer: pointer and length travel apart. As a pair they are read in one load, which waits for the caller's two stores.
+    let n = newer.len();
+    let at = step_rows(plan, from, to, older, &newer[..n], work, hit);
+    if at < n {
         restore(older, work, at);
         return false;
     }

@@ -11,7 +11,7 @@ use Rattle.block.proofs.play.step_in_roles.Tie as tie
 -- in each branch: what the caller showed, and what is answered
 module _ (s : tie.Start) {b : Bool} (e : s .args .exchanged ≡ b) where
   given : Steppable (s .args .plan) (s .args .hit) (olderOf b (s .args .older .now) (s .args .newer .now)) (newerOf b (s .args .older .now) (s .args .newer .now)) (s .args .work .now)
-  given = subst (λ (b : Bool). Steppable (s .args .plan) (s .args .hit) (olderOf b (s .args .older .now) (s .args .newer .now)) (newerOf b (s .args .older .now) (s .args .newer .now)) (s .args .work .now)) e (s .pre)
+  given = subst (λ (b : Bool). Steppable (s .args .plan) (s .args .hit) (olderOf b (s .args .older .now) (s .args .newer .now)) (newerOf b (s .args .older .now) (s .args .newer .now)) (s .args .work .now)) e (s .pre .0)
 
   abbrev Answer : Bool → List ℤ → List ℤ → List ℤ → Bool → Type 0
   Answer b older newer work r =
@@ -22,10 +22,10 @@ module _ (s : tie.Start) {b : Bool} (e : s .args .exchanged ≡ b) where
   answer older newer work r a = subst (λ (b : Bool). Answer b older newer work r) (sym e) a
 
 step-requires : tie.Need-step-requires
-step-requires c κs = given (c .before .before .before .before) (c .before .before .before .if1 .taken)
+step-requires c κs = (given (c .before .before .before .before) (c .before .before .before .if1 .taken), c .before .before .before .before .pre .1)
 
 step-requires-2 : tie.Need-step-requires-2
-step-requires-2 c κs = given (c .before .before .before .before) (c .before .before .before .if1 .left)
+step-requires-2 c κs = (given (c .before .before .before .before) (c .before .before .before .if1 .left), c .before .before .before .before .pre .1)
 
 same-length : tie.Need-same-length
 same-length c = search needs
@@ -39,7 +39,7 @@ same-length-3 c = search needs
 returns : tie.Need-returns
 returns c = let s = c .before .before .before .before .before .before .before in
     let r = c .before .before .step in
-    answer s (c .before .before .before .before .before .before .if1 .taken) (s .args .older .now) (r .last .1 .0) (r .last .1 .1 .1 .0) (r .result) (r .ensures, refl)
+    answer s (c .before .before .before .before .before .before .if1 .taken) (s .args .older .now) (r .last .1 .1 .1 .0) (r .last .1 .1 .1 .1 .1 .0) (r .result) (r .ensures, refl)
 
 same-length-4 : tie.Need-same-length-4
 same-length-4 c = search needs
@@ -53,7 +53,7 @@ same-length-6 c = search needs
 returns-2 : tie.Need-returns-2
 returns-2 c = let s = c .before .before .before .before .before .before .before in
     let r = c .before .before .step2 in
-    answer s (c .before .before .before .before .before .before .if1 .left) (r .last .1 .0) (s .args .newer .now) (r .last .1 .1 .1 .0) (r .result) (r .ensures, refl)
+    answer s (c .before .before .before .before .before .before .if1 .left) (r .last .1 .1 .1 .0) (s .args .newer .now) (r .last .1 .1 .1 .1 .1 .0) (r .result) (r .ensures, refl)
 
 pub step-in-roles-spec : {M : Type 1} → statement M
 step-in-roles-spec =

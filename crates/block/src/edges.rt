@@ -1,0 +1,22 @@
+// The moving columns of every row: worked out once, for all the steps of a block.
+ghost use Prim.Native.Nat.{_≤_};
+ghost use lib.ListN.{length};
+ghost use Rattle.block.specs.Edges.{EdgesOf};
+use checks::movable_run;
+use scheme::Grid;
+
+// For each row its first moving column, and the column after its last.
+// Ruled out: every row taken as the first.
+pub fn row_edges(g: Grid, from: &mut [usize], to: &mut [usize])
+    requires { ⌜ (g .rows ≤ length (now from)) × (g .rows ≤ length (now to)) ⌝ }
+    ensures { λ _. ⌜ EdgesOf g (now (from .exit)) (now (to .exit)) ⌝ }
+{
+    let rows = g.rows;
+    let mut row = 0;
+    while row < rows {
+        let run = movable_run(g, row);
+        from[row] = run.from;
+        to[row] = run.to;
+        row += 1;
+    }
+}
