@@ -1,14 +1,13 @@
 -- The paper's line, and both sides of each border, as one table: proved by computation (`examples-hold`).
 use mathlib.Core.Path.{_≡_}
 use mathlib.Core.List.{List, [], _∷_, _++_, map}
-use Prim.Native.Char.{code}
 use Prim.Native.Nat.{ℕ}
-use Prim.Native.String as S
 use Prim.Native.String.{String}
 use lib.IntN.{ℤ, pos, negℤ}
 use lib.ListN.{replicate}
 use Rattle.line.specs.declared.types.Request.{Request}
 use Rattle.line.specs.declared.types.Request.the-variants.{Input, Run}
+use Rattle.line.specs.Lists.{text}
 use Rattle.line.specs.Requests.{requestOf}
 
 -- what was read, and what it asks for
@@ -21,11 +20,6 @@ pub record Example : Type 0 where
 infix 5 _gives_
 abbrev _gives_ : List ℕ → Request → Example
 bs gives r = record { bytes = bs; request = r }
-
--- the bytes of a text
-unfoldable pub text : String → List ℕ
-text S.[] = []
-text (S._∷_ c cs) = code c ∷ text cs
 
 abbrev zeros : ℕ → List ℕ
 zeros n = replicate n 48

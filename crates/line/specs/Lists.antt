@@ -1,7 +1,10 @@
 -- Lists: what the definitions are written with. Nothing here is of the paper.
 use mathlib.Core.Bool.{Bool, true, _&&_, cond}
 use mathlib.Core.List.{List, [], _∷_}
+use Prim.Native.Char.{code}
 use Prim.Native.Nat.{ℕ}
+use Prim.Native.String as S
+use Prim.Native.String.{String}
 use lib.Dec.{eqb}
 
 -- every element passes the test
@@ -25,3 +28,8 @@ splitOn s [] = [] ∷ []
 splitOn s (b ∷ bs) =
     let rest = splitOn s bs in
     cond (eqb b s) ([] ∷ rest) (onFirst b rest)
+
+-- the bytes of a text
+unfoldable pub text : String → List ℕ
+text S.[] = []
+text (S._∷_ c cs) = code c ∷ text cs

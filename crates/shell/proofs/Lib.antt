@@ -1,0 +1,4 @@
+pub mod Examples
+pub mod PlayLaws
+pub mod TextLaws
+pub mod AnswerLaws

@@ -1,0 +1,76 @@
+-- `put_pair` meets its contract: four texts, one after the other.
+use mathlib.Core.Path.{_≡_, refl, sym, ap, _∙_}
+use native.Mathlib.Omega.{arith}
+use borrow.Author.Needs.{needs}
+use lib.IntN.{ℤ}
+use lib.ListN.{length}
+use mir.Syntax.{w16}
+use mir.Val.{toZ, ofZ}
+use mir.ValLaws.{toZ-ofZ}
+use Rattle.line.specs.Lists.{text}
+use Rattle.shell.specs.Text.{decimal, signed, pairLine}
+use Rattle.shell.proofs.TextLaws.{put-put, put-same, pair-parts}
+use Rattle.shell.proofs.text.put_pair.Statement.{statement}
+use Rattle.shell.proofs.text.put_pair.Tie as tie
+
+value-is : (c : tie.Start) → signed (toZ w16 (ofZ w16 (c .args .value))) ≡ signed (c .args .value)
+value-is c = ap signed (toZ-ofZ w16 (c .args .value) (c .fits .value))
+
+-- the texts before each
+abbrev first : tie.After-put-bytes-arg2 → tie.After-put-decimal
+first c = c .before .before .before .before
+
+abbrev second : tie.After-put-signed-arg → tie.After-put-bytes
+second c = c .before .before .before
+
+abbrev third : tie.After-put-bytes-arg4 → tie.After-put-signed
+third c = c .before .before .before .before
+
+put-decimal-requires : tie.Need-put-decimal-requires
+put-decimal-requires c κs = let s = c .before .before in omega (arith, pair-parts (s .args .number) (s .args .value))
+
+slice-aggregate-put-bytes : tie.Need-slice-aggregate-put-bytes
+slice-aggregate-put-bytes c = refl
+
+put-bytes-requires : tie.Need-put-bytes-requires
+put-bytes-requires c κs = let p = first c in let s = p .before .before .before in omega (arith, pair-parts (s .args .number) (s .args .value), p .put-decimal .ensures .ends)
+
+put-signed-requires : tie.Need-put-signed-requires
+put-signed-requires c κs = let q = second c in
+    let p = first (q .before) in
+    let s = p .before .before .before in
+    omega (arith, pair-parts (s .args .number) (s .args .value), ap length (value-is s), p .put-decimal .ensures .ends, q .put-bytes .ensures .ends)
+
+slice-aggregate-put-bytes-2 : tie.Need-slice-aggregate-put-bytes-2
+slice-aggregate-put-bytes-2 c = refl
+
+put-bytes-requires-2 : tie.Need-put-bytes-requires-2
+put-bytes-requires-2 c κs = let r = third c in
+    let q = second (r .before) in
+    let p = first (q .before) in
+    let s = p .before .before .before in
+    omega (arith, pair-parts (s .args .number) (s .args .value), ap length (value-is s), p .put-decimal .ensures .ends, q .put-bytes .ensures .ends, r .put-signed .ensures .ends)
+
+same-length : tie.Need-same-length
+same-length c = search needs
+
+returns : tie.Need-returns
+unfolding pairLine text
+returns c = let e = c .before .before in
+    let r = third (e .before) in
+    let q = second (r .before) in
+    let p = first (q .before) in
+    put-put (p .put-decimal .ensures) (put-put (q .put-bytes .ensures) (put-put (put-same (value-is (p .before .before .before)) (r .put-signed .ensures)) (e .put-bytes2 .ensures)))
+
+pub put-pair-spec : {M : Type 1} → statement M
+put-pair-spec =
+    tie.close
+    (tie.spec
+    put-decimal-requires
+    slice-aggregate-put-bytes
+    put-bytes-requires
+    put-signed-requires
+    slice-aggregate-put-bytes-2
+    put-bytes-requires-2
+    same-length
+    returns)

@@ -1,0 +1,68 @@
+// The whole of what is printed, in a lent buffer.
+ghost use mathlib.Core.Path.{_≡_};
+ghost use Prim.Native.Nat.{_≤_};
+ghost use lib.IntN.{pos};
+ghost use lib.ListN.{length, take, replicate};
+ghost use Rattle.io.specs.Counts.{Counts};
+ghost use Rattle.shell.specs.Play.{played};
+ghost use Rattle.shell.specs.Answer.{playedText, runText, answer, room, Answered};
+use crate::playing::play;
+use crate::text::put_bytes;
+use crate::text::put_done;
+use crate::text::put_steps;
+use line::Numbers;
+use line::Request;
+use line::request;
+
+// Room for every answer: 8192 lines of at most 12 bytes, and a last line.
+const ROOM: usize = 98320;
+
+fn put_played(out: &mut [u8], n: Numbers, samples: &mut [i16]) -> usize
+    requires { ⌜ (room ≤ length (now out)) × (length (now samples) ≤ 8192) ⌝ }
+    ensures { λ r. ⌜ (r ≤ room) × (take r (now (out .exit)) ≡ playedText (played n (now (samples .entry)))) ⌝ }
+{
+    let answer = play(n, samples);
+    let done = answer.steps;
+    let refusal = answer.refusal;
+    let end = put_steps(out, &samples[..done]);
+    put_done(out, end, done as u64, refusal.number())
+}
+
+fn silence() -> [i16; 8192]
+    ensures { λ r. ⌜ r ≡ replicate 8192 (pos 0) ⌝ }
+{
+    [0i16; 8192]
+}
+
+fn put_run(out: &mut [u8], n: Numbers) -> usize
+    requires { ⌜ (room ≤ length (now out)) × (n .steps ≤ 8192) ⌝ }
+    ensures { λ r. ⌜ (r ≤ room) × (take r (now (out .exit)) ≡ runText n) ⌝ }
+{
+    let mut samples = silence();
+    let steps = n.steps;
+    put_played(out, n, &mut samples[..steps])
+}
+
+// What is printed for the bytes read, where there is room.
+fn put_answer(out: &mut [u8], bytes: &[u8]) -> usize
+    requires { ⌜ room ≤ length (now out) ⌝ }
+    ensures { λ r. ⌜ (r ≤ room) × (take r (now (out .exit)) ≡ answer (now (bytes .entry))) ⌝ }
+{
+    let asked = request(bytes);
+    match asked {
+        Request::Input => put_bytes(out, 0, b"input\n"),
+        Request::Run(n) => put_run(out, n),
+    }
+}
+
+// What `ring` prints for the bytes of its standard input, at the start of out, and how many bytes that is; 0 where out has no room for every answer.
+// Ruled out: the count printed where the refusal's number should stand; the lines numbered from 0.
+pub fn answer(out: &mut [u8], bytes: &[u8]) -> usize
+    ensures { λ r. ⌜ Counts r (now (out .exit)) ⌝ }
+    ensures { λ r. ⌜ Answered (now (bytes .entry)) (now (out .entry)) r (now (out .exit)) ⌝ }
+{
+    if out.len() < ROOM {
+        return 0;
+    }
+    put_answer(out, bytes)
+}

@@ -1,0 +1,101 @@
+// What was compared, and the lines that say so.
+use crate::reader::Fault;
+use libc::STDOUT_FILENO;
+use std::num::wrapping_add_u64;
+
+pub struct Tally {
+    pub records: u64,
+    pub levels: u64,
+    pub blocks: u64,
+    pub plucks: u64,
+    pub readings: u64,
+    pub sheets: u64,
+    pub differences: u64,
+}
+
+// At most this many differences of a file have a line.
+const LINES: u64 = 20;
+
+pub fn say(text: &[u8]) {
+    io::write_all(STDOUT_FILENO, text);
+}
+
+fn say_count(n: u64, what: &[u8]) {
+    io::print_decimal(STDOUT_FILENO, n);
+    say(what);
+}
+
+fn one_more(n: u64) -> u64 {
+    wrapping_add_u64(n, 1)
+}
+
+impl Tally {
+    pub fn new() -> Tally {
+        Tally {
+            records: 0,
+            levels: 0,
+            blocks: 0,
+            plucks: 0,
+            readings: 0,
+            sheets: 0,
+            differences: 0,
+        }
+    }
+
+    fn counted(mut self, opcode: u64) -> Tally {
+        self.records = one_more(self.records);
+        match opcode {
+            2 => self.levels = one_more(self.levels),
+            3 => self.blocks = one_more(self.blocks),
+            4 => self.plucks = one_more(self.plucks),
+            5 => self.readings = one_more(self.readings),
+            6 => self.sheets = one_more(self.sheets),
+            _ => {}
+        }
+        self
+    }
+
+    // The start of a line on the present record.
+    fn start(self, path: &[u8]) {
+        say(path);
+        say(b": record ");
+        say_count(self.records, b": ");
+    }
+
+    // A record, and whether it is met.
+    pub fn record(self, path: &[u8], opcode: u64, is_met: bool) -> Tally {
+        let mut tally = self.counted(opcode);
+        if is_met {
+            return tally;
+        }
+        if tally.differences < LINES {
+            tally.start(path);
+            say(b"opcode ");
+            say_count(opcode, b" differs\n");
+        }
+        tally.differences = one_more(tally.differences);
+        tally
+    }
+
+    pub fn fault(self, path: &[u8], fault: Fault) {
+        self.start(path);
+        match fault {
+            Fault::NotNumber => say(b"not a number\n"),
+            Fault::NotFitting => say(b"a number does not fit\n"),
+            Fault::Unknown => say(b"an unknown opcode or buffer\n"),
+            Fault::Length => say(b"a length above the buffers\n"),
+            _ => say(b"no opcode 0 at the end\n"),
+        }
+    }
+
+    pub fn counts(self, path: &[u8]) {
+        say(path);
+        say(b": ");
+        say_count(self.blocks, b" blocks, ");
+        say_count(self.plucks, b" plucks, ");
+        say_count(self.readings, b" readings, ");
+        say_count(self.sheets, b" sheets, ");
+        say_count(self.levels, b" levels compared, ");
+        say_count(self.differences, b" differences\n");
+    }
+}
