@@ -1,10 +1,10 @@
 -- Whole levels: what a step and the steps of a block leave in the lent slices.
 use mathlib.Core.Path.{_≡_}
-use mathlib.Core.Bool.{Bool, true, false, cond, not}
+use mathlib.Core.Bool.{Bool, false, cond, not}
 use mathlib.Core.List.{List}
 use Prim.Native.Nat.{ℕ, _≤_, _<_}
 use lib.Dec.{ltb}
-use lib.IntN.{ℤ, pos}
+use lib.IntN.{ℤ}
 use lib.ListN.{length}
 use Rattle.forms.proofs.Level.{Still}
 use Rattle.scheme.specs.declared.Grid.{Grid}

@@ -12,7 +12,7 @@ use lib.IntN.{ℤ, pos, natAbs}
 use lib.ListN.{length, getD, set, length-set}
 use lib.Seq.{getD-set-same, getD-set-other}
 use Rattle.scheme.specs.declared.Grid.{Grid}
-use Rattle.scheme.specs.Lists.{tabulate, point}
+use Rattle.scheme.specs.Lists.{tabulate}
 use Rattle.scheme.specs.Instruments.{Kind, unknown, fixedString, halfFreeString, freeString, bar, membrane, roundMembrane, ceiling, kind, points, within, lineSize, sizeIn, moving}
 use Rattle.scheme.specs.Table.{table}
 use Rattle.scheme.specs.Pluck.{distanceFrom, pluckValue, pluckAt, pluckLevel}

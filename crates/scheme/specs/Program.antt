@@ -11,7 +11,7 @@ use Rattle.scheme.specs.declared.Refusal.{Refusal}
 use Rattle.scheme.specs.Table.{table}
 use Rattle.scheme.specs.Pluck.{pluckLevel}
 use Rattle.scheme.specs.Calls.{accepted, block, blockLeft, pluck, pluckLeft}
-use Rattle.scheme.specs.Book.{Book, bookBlock, bookPluck, noStep, fresh, State, start}
+use Rattle.scheme.specs.Book.{bookBlock, bookPluck, State, start}
 use Rattle.scheme.specs.Claims.{Near}
 
 -- a call that was made: its arguments but the two levels, what it answered, and what it left in the slices lent to it

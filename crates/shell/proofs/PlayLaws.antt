@@ -1,6 +1,6 @@
 -- What is played: sizes, unknown kinds, and the block at rest.
 use mathlib.Core.Path.{_≡_, refl, sym, ap, _∙_, subst}
-use mathlib.Core.Bool.{Bool, true, false, not, _&&_, cond}
+use mathlib.Core.Bool.{Bool, true, false}
 use mathlib.Core.List.{List, _∷_}
 use Prim.Native.Nat.{ℕ, zero, suc, _*_, _/_, _≤_}
 use native.Mathlib.Nat.{div-lt-iff-lt-mul, pos-of-ne-zero}
@@ -8,18 +8,18 @@ use native.Mathlib.Omega.{arith}
 use borrow.Author.Tests.{lt-ltb, ltb-true, ltb-false}
 use lib.Dec.{ltb}
 use lib.IntN.{ℤ, pos}
-use lib.ListN.{take, replicate, length}
+use lib.ListN.{take, replicate}
 use Rattle.scheme.specs.declared.Instrument.{Instrument}
 use Rattle.scheme.specs.declared.Hit.{Hit}
 use Rattle.scheme.specs.declared.Refusal.{Refusal}
 use Rattle.scheme.specs.declared.Refusal.the-variants.{UnknownKind, WrongSize}
 use Rattle.scheme.specs.Instruments.{kind, points}
-use Rattle.scheme.specs.Refusals.{known, Check, _⇒_, lowest, blockRefusal}
+use Rattle.scheme.specs.Refusals.{known, blockRefusal}
 use Rattle.scheme.specs.Calls.{AfterBlock, accepted, block, blockRefused}
-use Rattle.scheme.proofs.Laws.Bools.{cases, same, and-yes}
+use Rattle.scheme.proofs.Laws.Bools.{same, and-yes}
 use Rattle.scheme.proofs.Laws.Calls.{block-refused}
 use Rattle.line.specs.declared.types.Numbers.{Numbers}
-use Rattle.shell.specs.Play.{gridOf, instrumentOf, hitOf, rest, isTooLarge, Heard, heard, heardOf, fromRest, played}
+use Rattle.shell.specs.Play.{gridOf, instrumentOf, hitOf, isTooLarge, heard, heardOf, fromRest, played}
 
 -- a product compared by a division
 pub above-is : (columns rows : ℕ) → (rows ≡ 0 → ⊥) → ltb (1024 / rows) columns ≡ ltb 1024 (columns * rows)

@@ -1,7 +1,6 @@
 -- The paper's line with its listing, and a line for each special rule, as one table: proved by computation (`examples-hold`).
 use mathlib.Core.Path.{_≡_}
 use mathlib.Core.List.{List, [], _∷_, map}
-use Prim.Native.Nat.{ℕ}
 use Prim.Native.String.{String}
 use Rattle.line.specs.Lists.{text}
 use Rattle.shell.specs.Answer.{answer}

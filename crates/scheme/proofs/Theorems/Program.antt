@@ -1,11 +1,10 @@
 -- A program whose calls keep their promises is a run of the definitions, so the bound holds of it.
 use mathlib.Core.Path.{_≡_, refl, sym, ap, _∙_, subst}
 use mathlib.Core.List.{List, [], _∷_, map}
-use lib.IntN.{ℤ}
 use Rattle.scheme.specs.Calls.{accepted, AfterBlock, AfterPluck}
 use Rattle.scheme.specs.Table.{table}
 use Rattle.scheme.specs.Pluck.{pluckLevel}
-use Rattle.scheme.specs.Book.{Book, bookBlock, bookPluck, Call, blockCall, pluckCall, State, start, call, calls}
+use Rattle.scheme.specs.Book.{bookBlock, bookPluck, Call, blockCall, pluckCall, State, start, call, calls}
 use Rattle.scheme.specs.Claims.{Near}
 use Rattle.scheme.specs.Program.{Made, blockMade, pluckMade, Kept, after, AllKept, afterAll, ProgramBound}
 use Rattle.scheme.proofs.Theorems.Distance.{distance-bound}

@@ -1,5 +1,5 @@
 -- `read_line` is safe and ends: each read leaves fewer bytes to fill.
-use mathlib.Core.Path.{_≡_, refl}
+use mathlib.Core.Path.{_≡_}
 use Prim.Native.Nat.{_-_, _≤_}
 use native.Mathlib.Omega.{arith}
 use borrow.Author.Needs.{needs}

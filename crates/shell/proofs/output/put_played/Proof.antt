@@ -2,13 +2,11 @@
 use mathlib.Core.Path.{_≡_, sym, ap, _∙_}
 use native.Mathlib.Omega.{arith}
 use borrow.Author.Needs.{needs}
-use mathlib.Core.List.{List}
 use Prim.Native.Nat.{ℕ, _≤_, _<_}
-use lib.IntN.{ℤ}
 use lib.ListN.{length, take}
 use lib.Seq.{length-take-le}
 use Rattle.scheme.specs.Refusals.{number}
-use Rattle.shell.specs.Play.{Heard, played}
+use Rattle.shell.specs.Play.{Heard}
 use Rattle.shell.specs.Text.{stepLines, doneLine}
 use Rattle.shell.specs.Answer.{playedText}
 use Rattle.shell.proofs.TextLaws.{put-put, put-same, done-length}

@@ -1,5 +1,5 @@
 -- `is_above` meets its contract: the quotient is compared in the product's place.
-use mathlib.Core.Path.{_≡_, sym, ap, _∙_}
+use mathlib.Core.Path.{sym, ap, _∙_}
 use Prim.Native.Nat.{ℕ, _*_}
 use native.Mathlib.Nat.{mul-zero}
 use borrow.Author.Needs.{needs}

@@ -1,6 +1,5 @@
 -- `is_known` meets its contract: the kinds are numbered 1 to 6.
-use mathlib.Core.Path.{_≡_, refl, sym, ap, _∙_}
-use mathlib.Core.Bool.{true}
+use mathlib.Core.Path.{sym, ap, _∙_}
 use native.Mathlib.Omega.{arith}
 use Rattle.scheme.specs.Refusals.{known}
 use Rattle.scheme.proofs.Laws.Kinds.{is-within}

@@ -1,5 +1,5 @@
 -- `is_too_large` meets its contract: the size counts for a known kind alone.
-use mathlib.Core.Path.{_≡_, sym, _∙_}
+use mathlib.Core.Path.{sym, _∙_}
 use borrow.Author.Needs.{needs}
 use Rattle.scheme.proofs.Laws.Bools.{and-yes, and-no}
 use Rattle.shell.proofs.playing.is_too_large.Statement.{statement}

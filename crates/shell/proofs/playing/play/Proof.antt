@@ -1,6 +1,5 @@
 -- `play` meets its contract: by that of `block`, over the first points of its arrays.
-use mathlib.Core.Path.{_≡_, sym, ap, ap₂, _∙_}
-use mathlib.Core.Bool.{Bool, true, false}
+use mathlib.Core.Path.{_≡_, sym, ap, _∙_}
 use mathlib.Core.List.{List}
 use Prim.Native.Nat.{ℕ, _≤_}
 use native.Mathlib.Omega.{arith}
@@ -9,9 +8,8 @@ use lib.IntN.{ℤ, pos}
 use lib.ListN.{length, take, replicate, length-replicate}
 use lib.Seq.{length-take-le}
 use Rattle.scheme.specs.declared.Instrument.{Instrument}
-use Rattle.scheme.specs.declared.Hit.{Hit}
 use Rattle.scheme.specs.Calls.{block}
-use Rattle.shell.specs.Play.{gridOf, instrumentOf, isTooLarge, heardOf}
+use Rattle.shell.specs.Play.{gridOf, isTooLarge, heardOf}
 use Rattle.shell.proofs.PlayLaws.{too-large, plays}
 use Rattle.shell.proofs.playing.play.Statement.{statement}
 use Rattle.shell.proofs.playing.play.Tie as tie

@@ -1,14 +1,13 @@
 -- `put_pair` meets its contract: four texts, one after the other.
-use mathlib.Core.Path.{_≡_, refl, sym, ap, _∙_}
+use mathlib.Core.Path.{_≡_, refl, ap}
 use native.Mathlib.Omega.{arith}
 use borrow.Author.Needs.{needs}
-use lib.IntN.{ℤ}
 use lib.ListN.{length}
 use mir.Syntax.{w16}
 use mir.Val.{toZ, ofZ}
 use mir.ValLaws.{toZ-ofZ}
 use Rattle.line.specs.Lists.{text}
-use Rattle.shell.specs.Text.{decimal, signed, pairLine}
+use Rattle.shell.specs.Text.{signed, pairLine}
 use Rattle.shell.proofs.TextLaws.{put-put, put-same, pair-parts}
 use Rattle.shell.proofs.text.put_pair.Statement.{statement}
 use Rattle.shell.proofs.text.put_pair.Tie as tie
