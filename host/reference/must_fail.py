@@ -1,4 +1,4 @@
-"""Wrong edits: each is applied to a copy of the modules, and test_reference.py must fail there.
+"""Wrong edits: each is applied to a copy of the modules, and the tests must fail there.
 
     python3 must_fail.py
 """
@@ -73,7 +73,23 @@ EDITS = (
     ("free end counts whole in the distance", "book.py", "2 * sum(squares) - sum(", "2 * sum(squares) - 0 * sum("),
     ("bound of n + 1 steps", "book.py", "(self.n * (self.n + 1) * self.scale)",
      "((self.n + 1) * (self.n + 2) * self.scale)"),
+    ("256 bytes taken", "ring.py", "len(line) > 255", "len(line) > 256"),
+    ("two spaces taken", "ring.py", "[0-9]+ )", "[0-9]+ +)"),
+    ("minus on every number", "ring.py", "(?:[0-9]+ )", "(?:-?[0-9]+ )"),
+    ("plus taken", "ring.py", "-?[0-9]+\")", "[-+]?[0-9]+\")"),
+    ("match at the start alone", "ring.py", "TEN_DECIMALS.fullmatch", "TEN_DECIMALS.match"),
+    ("8193 steps taken", "ring.py", "numbers[7] > 8192", "numbers[7] > 8193"),
+    ("2^63 taken", "ring.py", "number < 2**63", "number <= 2**63"),
+    ("-2^63 is input", "ring.py", "-2**63 <= number", "-2**63 < number"),
+    ("no hit for force 0", "ring.py", "pick_up, (point, force))", "pick_up, (point, force) if force else None)"),
+    ("1025 points admitted", "ring.py", "points > 1024", "points > 1025"),
+    ("unknown kind answered 2", "ring.py", "columns * rows if kind in KINDS else 0", "columns * rows"),
+    ("numbered from 0", "ring.py", "f\"{number} {samples", "f\"{number - 1} {samples"),
+    ("steps asked for the count", "ring.py", "done {count} ", "done {numbers[7]} "),
 )
+
+# The files that a library has no part in.
+BESIDE = ("book.py", "ring.py")
 
 
 def wrong_copy(edit, folder):
@@ -88,9 +104,13 @@ def wrong_copy(edit, folder):
     path.write_text(text.replace(old, new))
 
 
-def tests_pass(folder):
+def tests_of(file):
+    return "test_ring.py" if file == "ring.py" else "test_reference.py"
+
+
+def tests_pass(folder, tests):
     environment = {**os.environ, "PYTHONDONTWRITEBYTECODE": "1"}
-    run = subprocess.run([sys.executable, "test_reference.py", "--failfast"], cwd=folder,
+    run = subprocess.run([sys.executable, tests, "--failfast"], cwd=folder,
                          env=environment, capture_output=True)
     if any(word in run.stderr for word in (b"SyntaxError", b"NameError", b"ImportError", b"TypeError")):
         raise SystemExit(run.stderr.decode() + "the edit does not run")
@@ -98,13 +118,14 @@ def tests_pass(folder):
 
 
 def main():
-    if not tests_pass(HERE):
-        raise SystemExit("test_reference.py fails without any edit")
+    for tests in ("test_reference.py", "test_ring.py"):
+        if not tests_pass(HERE, tests):
+            raise SystemExit(f"{tests} fails without any edit")
     survived = []
     for edit in EDITS:
         with tempfile.TemporaryDirectory() as folder:
             wrong_copy(edit, folder)
-            if tests_pass(folder):
+            if tests_pass(folder, tests_of(edit[1])):
                 survived.append(edit[0])
     for name in survived:
         print("survived:", name)

@@ -62,7 +62,7 @@ def main():
         fault = play_file(open_library(sys.argv[1]), sys.argv[2])
         print(fault or "every record holds")
         return 1 if fault else 0
-    edits = [edit for edit in must_fail.EDITS if edit[1] != "book.py"]
+    edits = [edit for edit in must_fail.EDITS if edit[1] not in must_fail.BESIDE]
     files = [f"{sys.argv[2]}/{name}.txt" for name in ("calls", "sheets")]
     survived = [edit[0] for edit in edits if not any(play_file(wrong_stand_in(edit), path) for path in files)]
     print(*(f"not found: {name}" for name in survived), sep="\n", end="\n" if survived else "")

@@ -1,0 +1,89 @@
+"""Tests of ring.py: the paper's listing, both sides of each rule of its passage."""
+
+import unittest
+
+from instrument import CEILING
+from ring import ring
+
+PAPER = b"1 3 1 65536 0 0 1 4 1 268435456"
+
+
+def line(kind=1, columns=3, rows=1, q=65536, m=0, s=0, pick_up=1, steps=4, point=1, force=2**28):
+    """A line, by default the paper's."""
+    return f"{kind} {columns} {rows} {q} {m} {s} {pick_up} {steps} {point} {force}".encode()
+
+
+class Listing(unittest.TestCase):
+    def test_paper(self):
+        self.assertEqual(line(), PAPER)
+        for end in (b"", b"\n", b"\nmore", b"\n" + PAPER):
+            self.assertEqual(ring(PAPER + end), "1 1\n2 0\n3 -1\n4 0\ndone 4 0\n")
+
+    def test_hit_is_always_given(self):
+        """Point 0 is fixed: a hit there is refused 7, "force 0 too"."""
+        self.assertEqual(ring(line(point=0, force=0)), "done 0 7\n")
+        self.assertEqual(ring(line(force=0, steps=2)), "1 0\n2 0\ndone 2 0\n")
+        self.assertEqual(ring(line(force="-0", steps=1)), "1 0\ndone 1 0\n")
+
+    def test_sample_rounded_down(self):
+        self.assertEqual(ring(line(force=-1, steps=1)), "1 -1\ndone 1 0\n")
+
+    def test_no_steps(self):
+        self.assertEqual(ring(line(steps=0)), "done 0 0\n")
+        self.assertEqual(ring(line(steps=0, pick_up=3)), "done 0 9\n")
+
+    def test_thirteen_after_some_steps(self):
+        # With q 0 and s 0 the middle grows by the force in each step.
+        self.assertEqual(ring(line(q=0, steps=8192, force=CEILING)), "1 32767\ndone 1 13\n")
+        self.assertEqual(ring(line(q=0, steps=8192, force=-(CEILING // 2))), "1 -16384\n2 -32767\ndone 2 13\n")
+
+    def test_more_than_1024_points(self):
+        self.assertEqual(ring(line(kind=5, columns=32, rows=32, q=0, point=33, steps=1)), "1 0\ndone 1 0\n")
+        self.assertEqual(ring(line(kind=5, columns=41, rows=25, q=0, point=42, steps=1)), "done 0 2\n")
+        self.assertEqual(ring(line(kind=6, columns=33, rows=33, q=65537)), "done 0 2\n")
+        self.assertEqual(ring(line(columns=1024, steps=0)), "done 0 0\n")
+        self.assertEqual(ring(line(columns=1025, steps=0)), "done 0 2\n")
+        self.assertEqual(ring(line(columns=2**32, rows=2**32)), "done 0 2\n")
+
+    def test_unknown_kind_of_any_size(self):
+        for kind in (0, 7, 2**63 - 1):
+            for columns, rows in ((3, 1), (0, 0), (2**63 - 1, 2**63 - 1)):
+                self.assertEqual(ring(line(kind=kind, columns=columns, rows=rows)), "done 0 1\n")
+
+    def test_refusals(self):
+        for number, text in ((2, line(rows=2)), (4, line(q=65537)), (5, line(m=1)), (7, line(point=3)),
+                             (8, line(force=CEILING + 1)), (8, line(force=-(2**63))), (9, line(pick_up=3))):
+            self.assertEqual(ring(text), f"done 0 {number}\n")
+
+
+class Input(unittest.TestCase):
+    def assert_input(self, *texts):
+        for text in texts:
+            self.assertEqual(ring(text), "input\n", text)
+
+    def test_fields(self):
+        self.assert_input(b"", b"\n", b"\n" + PAPER, PAPER[2:], PAPER + b" 0", b" " + PAPER, PAPER + b" ",
+                          PAPER.replace(b" ", b"  ", 1), PAPER.replace(b" ", b"\t", 1), PAPER + b"\r\n", PAPER + b"\0")
+
+    def test_digits_only(self):
+        self.assert_input(line(force="+1"), line(force="-"), line(force="--1"), line(force="1-"), line(force="1.0"),
+                          line(force="0x1"), line(force="1_0"), line(force=""), line(kind="-1"), line(point="-0"),
+                          line(force="\u0661"))
+
+    def test_signed_64_bits(self):
+        self.assertEqual(ring(line(force=2**63 - 1)), "done 0 8\n")
+        self.assertEqual(ring(line(columns=2**63 - 1)), "done 0 2\n")
+        self.assert_input(line(force=2**63), line(force=-(2**63) - 1), line(kind=2**63), line(steps=2**64 + 4))
+
+    def test_steps(self):
+        self.assertEqual(ring(line(steps=8192, pick_up=3)), "done 0 9\n")
+        self.assert_input(line(steps=8193), line(steps=8193, kind=0))
+
+    def test_bytes_of_the_line(self):
+        for end in (b"", b"\n", b"\n" * 9):
+            self.assertEqual(ring(b"0" * 224 + PAPER + end), ring(PAPER))
+            self.assert_input(b"0" * 225 + PAPER + end)
+
+
+if __name__ == "__main__":
+    unittest.main()
