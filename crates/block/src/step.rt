@@ -68,7 +68,7 @@ pub fn step(
     requires { ⌜ EdgesOf (plan .instrument .grid) (now from) (now to) ⌝ }
     ensures { λ r. ⌜ Stepped (plan .instrument) hit (now (older .entry)) (now (newer .entry)) (now (older .exit)) (now (work .exit)) r ⌝ }
 {
-    // A part that is all of newer: pointer and length travel apart. As a pair they are read in one load, which waits for the caller's two stores.
+    // A part that is all of newer: its pointer and its length are passed apart. As a pair they are read by one load, which is slow just after two stores.
     let n = newer.len();
     let at = step_rows(plan, from, to, older, &newer[..n], work, hit);
     if at < n {

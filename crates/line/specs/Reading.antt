@@ -27,7 +27,7 @@ pub record Read (line : List ℕ) (i : ℕ) (values : List ℕ) (at : ℕ) : Typ
   pub each : (k : ℕ) → k < i → isWhole (field (fields line) k) ≡ true
   pub value : (k : ℕ) → k < i → getD values k 0 ≡ decimal (field (fields line) k)
 
--- nine fields were read, and a tenth begins; or the line is turned down
+-- nine fields were read, and a tenth begins; or the line is not accepted
 abbrev pub NineRead : List ℕ → List ℕ → Rest → Type 0
 NineRead line values (At at) = Read line 9 values at
 NineRead line values Wrong = accepted (fields line) ≡ false
