@@ -3,6 +3,7 @@
 import collections
 import time
 
+import bounds
 from book import Book
 from draws import Draws, same_size_grids, to_bits
 from instrument import D
@@ -110,8 +111,11 @@ class Run:
                 hit, outcome = self.block(grid, settings, older, newer)
                 book.block(*grid, *settings, older, newer, hit, outcome[1])
                 older, newer = outcome[2:4]
-            if not book.within_bound(newer):
-                raise Difference(f"distance beyond the bound: n {book.n}, last step {book.last}\n"
+            passed = [] if book.within_bound(newer) else ["the bound"]
+            if book.n and not passed:
+                passed = bounds.passed(book, newer)
+            if passed:
+                raise Difference(f"distance beyond {passed[0]}: n {book.n}, last step {book.last}\n"
                                  f"newer {newer}\nbook {book.newer}\nscale {book.scale}")
             self.counts["far"] += book.n > 0 and book.distance(newer) > 0
         self.counts["lists"] += 1

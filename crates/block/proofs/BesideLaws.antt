@@ -1,28 +1,36 @@
--- The neighbours that each loop reads are those of the neighbour rule.
+-- The neighbours that each loop reads are those of the neighbour rule, and L of L is L taken of the values of L.
 use mathlib.Core.Path.{_≡_, refl, sym, ap, _∙_, subst}
+use mathlib.Core.Bool.{Bool, true, cond}
 use mathlib.Core.List.{List, [], _∷_}
-use mathlib.Core.Logic.{inl, inr}
-use Prim.Native.Nat.{ℕ, _+_, _-_, _*_, _≤_, _<_}
+use mathlib.Core.Logic.{_⊎_, inl, inr}
+use Prim.Native.Nat.{ℕ, _+_, _-_, _*_, _≤_, _<_, zero-le}
 use native.Mathlib.Nat as N
+use native.Mathlib.Decide.{ℕ-discrete}
 use native.Mathlib.Omega.{arith}
-use lib.IntN.{ℤ, pos, _+ℤ_, _*ℤ_, zero-*ℤ}
+use borrow.Author.Tests.{eq-eqb, ne-eqb}
+use lib.IntN.{ℤ, pos, natAbs, _+ℤ_, _-ℤ_, _*ℤ_, zero-*ℤ}
 use lib.ListN.{length}
 use Rattle.integers.specs.Sum.{sumOver}
 use Rattle.integers.proofs.Ring.{#_, _⊕_, _≈_, ring}
-use Rattle.bounded.proofs.Expr.{E, at, _⊞_}
+use Rattle.bounded.proofs.Expr.{E, at, num, _⊞_, _⊟_, _⊠_, size}
 use Rattle.scheme.specs.declared.Grid.{Grid}
 use Rattle.scheme.specs.declared.Instrument.{Instrument}
 use Rattle.scheme.specs.Lists.{point}
-use Rattle.scheme.specs.Instruments.{ceiling, points}
-use Rattle.scheme.specs.Step.{neighbours, biharmonic}
+use Rattle.scheme.specs.Instruments.{Kind, bar, ceiling, kind, points, moving}
+use Rattle.scheme.specs.Step.{neighbours, laplacian, innerLaplacian, biharmonic}
+use Rattle.scheme.specs.Passing.{InstrumentPasses}
+use Rattle.scheme.specs.Ranges.{AtMost}
+use Rattle.scheme.proofs.Laws.Kinds.{degree}
 use Rattle.scheme.proofs.Laws.Neighbours.{line-inner, line-first, line-last, grid-inner, grid-below}
-use Rattle.scheme.proofs.Laws.Ranges.{Within}
+use Rattle.scheme.proofs.Laws.Ranges.{inner-size}
 use Rattle.block.specs.Plan.{Neighbouring}
-use Rattle.block.specs.Run.{OnString, OnStringRow, OnMembrane}
+use Rattle.block.specs.Run.{Moves, OnLine, FreeEnd, LaplaciansOf, Bendable, bendingOf, clamp}
+use Rattle.block.proofs.KindLaws.{Edge, line-long, wide, stiff, line-in, line-free, bar-inner, grid-soft, grid-free, grid-in}
+use Rattle.block.proofs.StretchLaws.{clamp-before, clamp-inside, clamp-after}
 
 -- ---- points as the machine reads them, and the sum of those on either side of one as it adds them
 
-module _ (xs : List ℤ) (low : Within ceiling (point xs)) where
+module _ (xs : List ℤ) (low : AtMost ceiling (point xs)) where
   abbrev pub at# : ℕ → E
   at# k = at (point xs k) ceiling (low k)
 
@@ -31,7 +39,7 @@ module _ (xs : List ℤ) (low : Within ceiling (point xs)) where
 
 -- ---- the sum over two and over four neighbours
 
-pub sum-two : (a : ℕ → ℤ) (j k : ℕ) → a j +ℤ a k ≡ sumOver (j ∷ k ∷ []) a
+sum-two : (a : ℕ → ℤ) (j k : ℕ) → a j +ℤ a k ≡ sumOver (j ∷ k ∷ []) a
 unfolding sumOver
 sum-two a j k = ring 2 (λ x y. x ⊕ y ≈ x ⊕ (y ⊕ # 0)) refl (a j) (a k)
 
@@ -39,53 +47,183 @@ sum-four : (a : ℕ → ℤ) (j k l m : ℕ) → a j +ℤ a k +ℤ a l +ℤ a m 
 unfolding sumOver
 sum-four a j k l m = ring 4 (λ x y z w. x ⊕ y ⊕ z ⊕ w ≈ x ⊕ (y ⊕ (z ⊕ (w ⊕ # 0)))) refl (a j) (a k) (a l) (a m)
 
+-- L where there are two neighbours
+pub two-laplacian : (g : Grid) (a : ℕ → ℤ) (k j l : ℕ) → neighbours g k ≡ j ∷ l ∷ [] → laplacian g a k ≡ a j +ℤ a l -ℤ pos 2 *ℤ a k
+unfolding laplacian
+two-laplacian g a k j l e =
+    ap (λ (js : List ℕ). sumOver js a -ℤ pos (length js) *ℤ a k) e ∙ ap (λ (z : ℤ). z -ℤ pos 2 *ℤ a k) (sym (sum-two a j l))
+
 -- without stiffness L of L does not count
 soft-stiff : (m : ℕ) (b : ℤ) → m ≡ 0 → pos m *ℤ pos 0 ≡ pos m *ℤ b
 soft-stiff m b e = ap (λ (n : ℕ). pos n *ℤ pos 0) e ∙ sym (ap (λ (n : ℕ). pos n *ℤ b) e ∙ zero-*ℤ b)
 
--- on a line there are as many points as columns
-pub line-points : (g : Grid) → g .rows ≡ 1 → points g ≡ g .columns
-line-points g e = ap (λ (n : ℕ). g .columns * n) e ∙ N.mul-one (g .columns)
+at-most-two : (K : Kind) → K ≡ bar → 2 * degree K * ceiling ≤ 4 * ceiling
+at-most-two K e = subst (λ (K : Kind). 2 * degree K * ceiling ≤ 4 * ceiling) (sym e) (omega arith)
 
-module _ (i : Instrument) (newer : List ℤ) (k : ℕ) where
+module _ (i : Instrument) (ok : InstrumentPasses i) where
+  abbrev g : Grid
+  g = i .grid
+
+  abbrev m : ℕ
+  m = i .settings .m
+
+  -- where L of L counts, the kind is a bar
+  pub is-bar : (m ≡ 0 → ⊥) → kind g ≡ bar
+  is-bar n = go (stiff i ok)
+    where
+      go : (m ≡ 0) ⊎ (kind g ≡ bar) → kind g ≡ bar
+      go (inl e) = absurd (n e)
+      go (inr e) = e
+
   -- neighbours, where L of L does not count
-  soft-beside : (sum : ℤ) (js : List ℕ) → k < points (i .grid) → i .settings .m ≡ 0 → neighbours (i .grid) k ≡ js → sum ≡ sumOver js (point newer) → Neighbouring i newer k sum (pos (length js)) (pos 0)
-  soft-beside sum js h soft e s = record {
+  soft-beside : (newer : List ℤ) (k : ℕ) (sum : ℤ) (js : List ℕ) → k < points g → m ≡ 0 → neighbours g k ≡ js → sum ≡ sumOver js (point newer)
+      → Neighbouring i newer k sum (pos (length js)) (pos 0)
+  soft-beside newer k sum js h soft e s = record {
     inside = h;
     sum-is = s ∙ ap (λ (js : List ℕ). sumOver js (point newer)) (sym e);
     count-is = ap (λ (js : List ℕ). pos (length js)) (sym e);
-    b-low = omega arith;
-    stiff = soft-stiff (i .settings .m) (biharmonic (i .grid) (point newer) k) soft;
+    b-low = zero-le;
+    stiff = soft-stiff m (biharmonic g (point newer) k) soft;
   }
 
-  -- two neighbours, where L of L does not count
-  pub two-beside : (j l : ℕ) → k < points (i .grid) → i .settings .m ≡ 0 → neighbours (i .grid) k ≡ j ∷ l ∷ [] → Neighbouring i newer k (point newer j +ℤ point newer l) (pos 2) (pos 0)
-  two-beside j l h soft e = soft-beside _ (j ∷ l ∷ []) h soft e (sum-two (point newer) j l)
+  -- ---- a line
 
-  pub in-line : i .grid .rows ≡ 1 → k < i .grid .columns → k < points (i .grid)
-  in-line e h = subst (λ (n : ℕ). k < n) (sym (line-points (i .grid) e)) h
+  module _ {from to : ℕ} (on : OnLine g from to) (newer ls : List ℤ) (low : AtMost ceiling (point newer)) (has : (m ≡ 0) ⊎ LaplaciansOf g newer from to ls)
+      (k : ℕ) (first : from ≤ k) (last : k < to) where
+    beside-is : neighbours g k ≡ (k - 1) ∷ (k + 1) ∷ []
+    beside-is = line-inner g k (on .line) (omega (arith, on .last)) (omega (arith, on .first)) (omega (arith, on .last))
 
-  pub string-beside : {from to : ℕ} → OnString i from to → from ≤ k → k < to → Neighbouring i newer k (point newer (k - 1) +ℤ point newer (k + 1)) (pos 2) (pos 0)
-  string-beside o a b =
-      two-beside (k - 1) (k + 1) (in-line (o .line) (omega (arith, o .last))) (o .soft)
-      (line-inner (i .grid) k (o .line) (omega (arith, o .last)) (omega (arith, o .first)) (omega (arith, o .last)))
+    laplacians : (m ≡ 0 → ⊥) → LaplaciansOf g newer from to ls
+    laplacians n = go has
+      where
+        go : (m ≡ 0) ⊎ LaplaciansOf g newer from to ls → LaplaciansOf g newer from to ls
+        go (inl e) = absurd (n e)
+        go (inr e) = e
 
-  -- the last point of a string, a free end
-  pub last-beside : 3 ≤ i .grid .columns → OnStringRow i k (k + 1) → k + 1 ≡ i .grid .columns → Neighbouring i newer k (point newer (k - 1) +ℤ point newer (k - 1)) (pos 2) (pos 0)
-  last-beside c o e =
-      two-beside (k - 1) (k - 1) (in-line (o .line) (omega arith)) (o .soft)
-      (line-last (i .grid) k (o .line) (omega arith) e (omega arith) (o .free k (o .row .moves k (omega arith) (omega arith)) (inr e)))
+    -- the value of L at place j of the list
+    place : (m ≡ 0 → ⊥) → (j : ℕ) → k - from ≤ j → j ≤ k - from + 2 → point ls j ≡ innerLaplacian g (point newer) (from + j - 1)
+    place n j a b =
+        let h = on .first in
+        ap (point ls) (omega arith) ∙ laplacians n .each (from + j - 1) (omega arith) (omega arith)
 
-  pub membrane-beside : {from to : ℕ} → OnMembrane i from to → from ≤ k → k < to
-      → Neighbouring i newer k (point newer (k - 1) +ℤ point newer (k + 1) +ℤ point newer (k - i .grid .columns) +ℤ point newer (k + i .grid .columns)) (pos 4) (pos 0)
-  membrane-beside o a b =
-      let n = o .inner k a b in
-      soft-beside _ _ (omega (arith, grid-below (i .grid) k (n .1) (n .3))) (o .soft)
-      (grid-inner (i .grid) k (o .held k) (n .0) (n .1) (n .2) (n .3))
-      (sum-four (point newer) (k - 1) (k + 1) (k - i .grid .columns) (k + i .grid .columns))
+    inner-low : (m ≡ 0 → ⊥) → AtMost (4 * ceiling) (innerLaplacian g (point newer))
+    inner-low n j = N.le-trans (inner-size g (ok .size) ceiling (point newer) low j) (at-most-two (kind g) (is-bar n))
 
--- the first point of a string, a free end
-pub first-beside : (i : Instrument) (newer : List ℤ) → 3 ≤ i .grid .columns → OnStringRow i 0 1 → Neighbouring i newer 0 (point newer 1 +ℤ point newer 1) (pos 2) (pos 0)
-first-beside i newer c o =
-    two-beside i newer 0 1 1 (in-line i newer 0 (o .line) (omega arith)) (o .soft)
-    (line-first (i .grid) 0 (o .line) (omega arith) refl (omega arith) (o .free 0 (o .row .moves 0 (omega arith) (omega arith)) (inl refl)))
+    pub bendable : Bendable m ls (k - from)
+    bendable = record {
+      inside = λ n. omega (arith, laplacians n .few);
+      low = λ n j a b. subst (λ (z : ℤ). natAbs z ≤ 4 * ceiling) (sym (place n j a b)) (inner-low n (from + j - 1));
+    }
+
+    -- L of L, where it counts
+    bends : (m ≡ 0 → ⊥) → bendingOf m ls (k - from) ≡ biharmonic g (point newer) k
+    bends n =
+        let h = on .first in
+        let l = innerLaplacian g (point newer) in
+        let before : point ls (k - from) ≡ l (k - 1) = place n (k - from) (omega arith) (omega arith) ∙ ap l (omega arith) in
+        let here : point ls (k - from + 1) ≡ l k = place n (k - from + 1) (omega arith) (omega arith) ∙ ap l (omega arith) in
+        let after : point ls (k - from + 2) ≡ l (k + 1) = place n (k - from + 2) (omega arith) (omega arith) ∙ ap l (omega arith) in
+        ap (λ (t : Bool). cond t (pos 0) (point ls (k - from) +ℤ point ls (k - from + 2) -ℤ pos 2 *ℤ point ls (k - from + 1))) (ne-eqb m 0 n) ∙
+        (λ j. before j +ℤ after j -ℤ pos 2 *ℤ here j) ∙
+        sym (two-laplacian g l k (k - 1) (k + 1) beside-is)
+
+    bends-not : m ≡ 0 → bendingOf m ls (k - from) ≡ pos 0
+    bends-not e = ap (λ (t : Bool). cond t (pos 0) (point ls (k - from) +ℤ point ls (k - from + 2) -ℤ pos 2 *ℤ point ls (k - from + 1))) (eq-eqb m 0 e)
+
+    bend-low : Dec (m ≡ 0) → natAbs (bendingOf m ls (k - from)) ≤ 64 * ceiling
+    bend-low (yes e) = subst (λ (z : ℤ). natAbs z ≤ 64 * ceiling) (sym (bends-not e)) zero-le
+    bend-low (no n) =
+        let value# : (j : ℕ) → k - from ≤ j → j ≤ k - from + 2 → E = λ j a b. at (point ls j) (4 * ceiling) (bendable .low n j a b) in
+        subst (λ (t : Bool). natAbs (cond t (pos 0) (point ls (k - from) +ℤ point ls (k - from + 2) -ℤ pos 2 *ℤ point ls (k - from + 1))) ≤ 64 * ceiling)
+        (sym (ne-eqb m 0 n))
+        (N.le-trans (size (value# (k - from) (omega arith) (omega arith) ⊞ value# (k - from + 2) (omega arith) (omega arith) ⊟
+        num 2 ⊠ value# (k - from + 1) (omega arith) (omega arith)) tt) (omega arith))
+
+    bend-counts : Dec (m ≡ 0) → pos m *ℤ bendingOf m ls (k - from) ≡ pos m *ℤ biharmonic g (point newer) k
+    bend-counts (yes e) = ap (λ (z : ℤ). pos m *ℤ z) (bends-not e) ∙ soft-stiff m (biharmonic g (point newer) k) e
+    bend-counts (no n) = ap (λ (z : ℤ). pos m *ℤ z) (bends n)
+
+    -- an inner point: its two neighbours, and L of L
+    pub line-beside : Neighbouring i newer k (point newer (k - 1) +ℤ point newer (k + 1)) (pos 2) (bendingOf m ls (k - from))
+    line-beside = record {
+      inside = omega (arith, on .last, line-long g (on .line));
+      sum-is = sum-two (point newer) (k - 1) (k + 1) ∙ ap (λ (js : List ℕ). sumOver js (point newer)) (sym beside-is);
+      count-is = ap (λ (js : List ℕ). pos (length js)) (sym beside-is);
+      b-low = bend-low (ℕ-discrete m 0);
+      stiff = bend-counts (ℕ-discrete m 0);
+    }
+
+  -- ---- its ends
+
+  module _ (line : g .rows ≡ 1) {from to : ℕ} (all : Moves g from to) (some : from < to) where
+    -- a moving end is no bar's
+    end-soft : (k : ℕ) → moving g k ≡ true → Edge (g .columns) k → m ≡ 0
+    end-soft k mk o = go (stiff i ok) o
+      where
+        go : (m ≡ 0) ⊎ (kind g ≡ bar) → Edge (g .columns) k → m ≡ 0
+        go (inl e) p = e
+        go (inr b) (inl h) = absurd (omega (arith, bar-inner i ok line k mk b))
+        go (inr b) (inr h) = absurd (omega (arith, bar-inner i ok line k mk b))
+
+    -- the range ends within the line
+    pub within-line : to ≤ g .columns
+    within-line = omega (arith, line-in i ok line (to - 1) (all .each (to - 1) (omega arith) (omega arith)))
+
+    no-end : (near a : ℕ) → near < g .columns → FreeEnd i near a a
+    no-end near a h = record {
+      one = omega arith;
+      inside = omega (arith, line-long g line);
+      there = λ l. absurd (omega arith);
+      twice = λ l. absurd (omega arith);
+      soft = λ l. absurd (omega arith);
+    }
+
+    pub first-free : FreeEnd i 1 (clamp from to 0) (clamp from to 1)
+    first-free = subst (λ (a : ℕ). FreeEnd i 1 a (clamp from to 1)) (sym (clamp-before from to (omega arith) 0 zero-le)) (go (ℕ-discrete from 0))
+      where
+        go : Dec (from ≡ 0) → FreeEnd i 1 from (clamp from to 1)
+        go (no n) = subst (FreeEnd i 1 from) (sym (clamp-before from to (omega arith) 1 (omega arith))) (no-end 1 from (omega (arith, wide i ok)))
+        go (yes e) =
+            let moves : moving g from ≡ true = all .each from (omega arith) some in
+            subst (FreeEnd i 1 from) (sym (clamp-inside from to (omega arith) 1 (omega arith) (omega arith)))
+            (record {
+              one = omega arith;
+              inside = omega (arith, line-long g line, wide i ok);
+              there = λ l. omega (arith, line-long g line, wide i ok);
+              twice = λ l. line-first g from line (omega (arith, wide i ok)) e (omega (arith, wide i ok)) (line-free i ok line from moves (inl e)) ∙ ap (λ (j : ℕ). j ∷ j ∷ []) (omega arith);
+              soft = λ l. end-soft from moves (inl e);
+            })
+
+    pub last-free : (n : ℕ) → n ≡ g .columns → FreeEnd i (n - 2) (clamp from to (n - 1)) (clamp from to n)
+    last-free n long = subst (FreeEnd i (n - 2) (clamp from to (n - 1))) (sym (clamp-after from to (omega arith) n (omega (arith, within-line)))) (go (ℕ-discrete to n))
+      where
+        go : Dec (to ≡ n) → FreeEnd i (n - 2) (clamp from to (n - 1)) to
+        go (no d) =
+            subst (λ (a : ℕ). FreeEnd i (n - 2) a to) (sym (clamp-after from to (omega arith) (n - 1) (omega (arith, within-line)))) (no-end (n - 2) to (omega (arith, wide i ok)))
+        go (yes e) =
+            let end : n - 1 + 1 ≡ g .columns = omega (arith, wide i ok) in
+            let moves : moving g (n - 1) ≡ true = all .each (n - 1) (omega arith) (omega arith) in
+            subst (λ (a : ℕ). FreeEnd i (n - 2) a to) (sym (clamp-inside from to (omega arith) (n - 1) (omega arith) (omega arith)))
+            (record {
+              one = omega arith;
+              inside = omega (arith, line-long g line, wide i ok);
+              there = λ l. omega (arith, line-long g line, wide i ok);
+              twice = λ l. line-last g (n - 1) line (omega arith) end (omega (arith, wide i ok)) (line-free i ok line (n - 1) moves (inr end)) ∙ ap (λ (j : ℕ). j ∷ j ∷ []) (omega arith);
+              soft = λ l. end-soft (n - 1) moves (inr end);
+            })
+
+  -- the one neighbour of a free end, twice
+  pub end-beside : (newer : List ℤ) {near from to : ℕ} → FreeEnd i near from to → from < to
+      → Neighbouring i newer from (point newer near +ℤ point newer near) (pos 2) (pos 0)
+  end-beside newer {near} {from} e h =
+      soft-beside newer from _ (near ∷ near ∷ []) (e .there h) (e .soft h) (e .twice h) (sum-two (point newer) near near)
+
+  -- ---- a grid
+
+  pub grid-beside : (g .rows ≡ 1 → ⊥) → (newer : List ℤ) (k : ℕ) → moving g k ≡ true
+      → Neighbouring i newer k (point newer (k - 1) +ℤ point newer (k + 1) +ℤ point newer (k - g .columns) +ℤ point newer (k + g .columns)) (pos 4) (pos 0)
+  grid-beside grid newer k mk =
+      let n = grid-in i ok grid k mk in
+      soft-beside newer k _ _ (omega (arith, grid-below g k (n .1) (n .3))) (grid-soft i ok grid)
+      (grid-inner g k (grid-free i ok grid k) (n .0) (n .1) (n .2) (n .3))
+      (sum-four (point newer) (k - 1) (k + 1) (k - g .columns) (k + g .columns))

@@ -1,4 +1,4 @@
--- What a point's update is given, and that it is the scheme's value.
+-- What a point's numerator is made of, and that its value is the scheme's.
 use mathlib.Core.Path.{_≡_, sym, ap₂, subst}
 use mathlib.Core.List.{List}
 use Prim.Native.Nat.{ℕ, _+_, _*_, _≤_}
@@ -13,8 +13,9 @@ use Rattle.scheme.specs.Lists.{point}
 use Rattle.scheme.specs.Instruments.{D, Kind, unknown, fixedString, halfFreeString, freeString, bar, membrane, roundMembrane, ceiling, kind}
 use Rattle.scheme.specs.Step.{neighbours, laplacian, biharmonic, numeratorOf, numerator, roundAway, divisor}
 use Rattle.scheme.proofs.Laws.Kinds.{degree}
-use Rattle.scheme.proofs.Laws.Ranges.{Terms, neighbour-count, numerator-terms}
-use Rattle.block.specs.declared.arithmetic.Plan.{Plan}
+use Rattle.scheme.specs.Ranges.{Terms}
+use Rattle.scheme.proofs.Laws.Ranges.{neighbour-count, numerator-terms}
+use Rattle.block.specs.declared.plan.Plan.{Plan}
 use Rattle.block.specs.Plan.{Updatable, Ready, Neighbouring}
 use Rattle.block.specs.Run.{valueAt}
 
@@ -27,7 +28,7 @@ at-most-four bar = omega arith
 at-most-four membrane = omega arith
 at-most-four roundMembrane = omega arith
 
-module _ {p : Plan} {f : ℤ} {older newer work : List ℤ} {k : ℕ} {sum count b : ℤ} (r : Ready p f older newer work) (n : Neighbouring (p .instrument) newer k sum count b) where
+module _ {p : Plan} {f : ℤ} {older newer : List ℤ} {k : ℕ} {sum count b : ℤ} (r : Ready p f older newer) (n : Neighbouring (p .instrument) newer k sum count b) where
   abbrev i : Instrument
   i = p .instrument
 

@@ -4,8 +4,8 @@ use mathlib.Core.List.{List}
 use Prim.Native.Nat.{ℕ, _<_}
 use lib.ListN.{getD}
 use Rattle.scheme.specs.declared.Grid.{Grid}
-use Rattle.checks.specs.declared.runs.Run.{Run}
-use Rattle.checks.specs.Runs.{run, runOf}
+use Rattle.kinds.specs.declared.runs.Run.{Run}
+use Rattle.kinds.specs.Runs.{run, runOf}
 
 -- the run that the lists have for a row
 abbrev pub runAt : (from to : List ℕ) → ℕ → Run

@@ -2,4 +2,4 @@
 pub mod Plan
 pub mod Run
 pub mod Edges
-pub mod Levels
+pub mod Roles

@@ -1,87 +1,124 @@
--- Points that have been stepped: the next values stand in older, the older values in work.
+-- Runs of points, and the list that their values are put into. Vocabulary of private functions.
 use mathlib.Core.Path.{_≡_}
-use mathlib.Core.Bool.{true, false, cond}
-use mathlib.Core.List.{List}
+use mathlib.Core.Bool.{Bool, true, false, cond}
+use mathlib.Core.List.{List, [], _∷_}
 use mathlib.Core.Logic.{_⊎_}
-use Prim.Native.Nat.{ℕ, _+_, _-_, _≤_, _<_}
-use lib.IntN.{ℤ, pos, _+ℤ_, _-ℤ_, _*ℤ_}
+use Prim.Native.Nat.{ℕ, _+_, _-_, _*_, _≤_, _<_}
+use lib.Dec.{ltb, eqb}
+use lib.IntN.{ℤ, pos, natAbs, _+ℤ_, _-ℤ_, _*ℤ_}
 use lib.ListN.{length}
+use Rattle.scheme.specs.declared.Grid.{Grid}
 use Rattle.scheme.specs.declared.Instrument.{Instrument}
+use Rattle.scheme.specs.declared.Hit.{Hit}
 use Rattle.scheme.specs.Lists.{point}
-use Rattle.scheme.specs.Instruments.{bar, kind, beyond, column, row, atEdge, moving, freeEnd}
-use Rattle.scheme.specs.Step.{numerator, roundAway, divisor}
+use Rattle.scheme.specs.Instruments.{ceiling, beyond, points, moving}
+use Rattle.scheme.specs.Step.{neighbours, innerLaplacian, numerator, roundAway, divisor, forceOf, nextAt}
+use Rattle.block.specs.declared.plan.Plan.{Plan}
+use Rattle.block.specs.declared.stretch.Stretch.{Stretch}
 
 -- the next value of point k with the force f there, moving or not
 unfoldable pub valueAt : Instrument → ℤ → (older newer : List ℤ) → ℕ → ℤ
 valueAt i f older newer k = roundAway (numerator i (point newer) (point older) (λ j. f) k) (divisor (i .settings))
 
--- the points from..r have the values v, none of them beyond the ceiling; every other is as it was
-pub record Ran (v : ℕ → ℤ) (older₀ work₀ older work : List ℤ) (from r : ℕ) : Type 0 where
-  pub order : from ≤ r
-  pub older-long : length older ≡ length older₀
-  pub work-long : length work ≡ length work₀
-  pub stepped : (k : ℕ) → from ≤ k → k < r → point older k ≡ v k
-  pub low : (k : ℕ) → from ≤ k → k < r → beyond (v k) ≡ false
-  pub saved : (k : ℕ) → from ≤ k → k < r → point work k ≡ point older₀ k
-  pub older-kept : (k : ℕ) → (k < from) ⊎ (r ≤ k) → point older k ≡ point older₀ k
-  pub work-kept : (k : ℕ) → (k < from) ⊎ (r ≤ k) → point work k ≡ point work₀ k
+-- ---- what the loops keep
 
--- as far as `to`, or to the first value that lies beyond the ceiling
-pub record RanTo (v : ℕ → ℤ) (older₀ work₀ older work : List ℤ) (from to r : ℕ) : Type 0 where
-  pub ran : Ran v older₀ work₀ older work from r
-  pub upto : r ≤ to
-  pub stops : r < to → beyond (v r) ≡ true
+-- the values v of the points from..to stand in out, point k at place k − base, if they are written; every other place of out is as it was
+pub record Filled (v : ℕ → ℤ) (write : Bool) (base : ℕ) (out₀ out : List ℤ) (from to : ℕ) : Type 0 where
+  pub long : length out ≡ length out₀
+  pub written : write ≡ true → (k : ℕ) → from ≤ k → k < to → point out (k - base) ≡ v k
+  pub kept : (j : ℕ) → (write ≡ false) ⊎ ((j + base < from) ⊎ (to ≤ j + base)) → point out j ≡ point out₀ j
+
+-- none of the points from..to has a value beyond the ceiling
+abbrev pub NoneBeyond : (v : ℕ → ℤ) (from to : ℕ) → Type 0
+NoneBeyond v from to = (k : ℕ) → from ≤ k → k < to → beyond (v k) ≡ false
+
+-- one of them has
+pub record OneBeyond (v : ℕ → ℤ) (from to : ℕ) : Type 0 where
+  pub at : ℕ
+  pub first : from ≤ at
+  pub last : at < to
+  pub beyond-there : beyond (v at) ≡ true
+
+-- what a run of the points from..to answers and leaves: fine, every value within the ceiling and in its place; else one beyond
+pub record Ran (v : ℕ → ℤ) (write : Bool) (base : ℕ) (out₀ out : List ℤ) (from to : ℕ) (fine : Bool) : Type 0 where
+  pub long : length out ≡ length out₀
+  pub filled : fine ≡ true → Filled v write base out₀ out from to
+  pub low : fine ≡ true → NoneBeyond v from to
+  pub stopped : fine ≡ false → OneBeyond v from to
+
+-- the same of points of a stretch
+abbrev pub Advanced : Plan → Stretch → (older newer out₀ out : List ℤ) → (from to : ℕ) → Bool → Type 0
+Advanced p s older newer out₀ out from to fine =
+    Ran (valueAt (p .instrument) (s .force) older newer) (s .write) (s .base) out₀ out from to fine
+
+-- the same of points with the forces of a hit
+abbrev pub Stepping : Instrument → Hit → (write : Bool) (base : ℕ) (older newer out₀ out : List ℤ) → (from to : ℕ) → Bool → Type 0
+Stepping i h write base older newer out₀ out from to fine = Ran (nextAt i h older newer) write base out₀ out from to fine
 
 -- ---- where a run lies
 
--- inner points of a line without stiffness
-pub record OnString (i : Instrument) (from to : ℕ) : Type 0 where
-  pub line : i .grid .rows ≡ 1
-  pub soft : i .settings .m ≡ 0
+-- a stretch whose values find their places among n
+pub record Placed (s : Stretch) (n : ℕ) : Type 0 where
+  pub order : s .from ≤ s .to
+  pub above : s .base ≤ s .from
+  pub room : s .to ≤ s .base + n
+
+-- moving points
+pub record Moves (g : Grid) (from to : ℕ) : Type 0 where
+  pub order : from ≤ to
+  pub each : (k : ℕ) → from ≤ k → k < to → moving g k ≡ true
+
+-- inner points of a line
+pub record OnLine (g : Grid) (from to : ℕ) : Type 0 where
+  pub line : g .rows ≡ 1
   pub first : 1 ≤ from
-  pub order : from ≤ to
-  pub last : to + 1 ≤ i .grid .columns
+  pub last : to + 1 ≤ g .columns
 
--- inner points of a bar, the last inner point not among them
-pub record OnBar (i : Instrument) (from to : ℕ) : Type 0 where
-  pub line : i .grid .rows ≡ 1
-  pub is-bar : kind (i .grid) ≡ bar
-  pub first : 1 ≤ from
-  pub order : from ≤ to
-  pub last : to + 2 ≤ i .grid .columns
+-- one end of a line where it is free, or none of its points: the one neighbour is `near`
+pub record FreeEnd (i : Instrument) (near from to : ℕ) : Type 0 where
+  pub one : to ≤ from + 1
+  pub inside : near < points (i .grid)
+  pub there : from < to → from < points (i .grid)
+  pub twice : from < to → neighbours (i .grid) from ≡ near ∷ near ∷ []
+  pub soft : from < to → i .settings .m ≡ 0
 
--- moving points of a row of a membrane
-pub record OnMembrane (i : Instrument) (from to : ℕ) : Type 0 where
-  pub soft : i .settings .m ≡ 0
-  pub order : from ≤ to
-  pub held : (k : ℕ) → freeEnd (i .grid) k ≡ false
-  pub inner : (k : ℕ) → from ≤ k → k < to → (0 < column (i .grid) k) × (column (i .grid) k + 1 < i .grid .columns) × (0 < row (i .grid) k) × (row (i .grid) k + 1 < i .grid .rows)
+-- k, or the end of from..to that is nearer to it
+unfoldable pub clamp : (from to : ℕ) → ℕ → ℕ
+clamp from to k = let a = cond (ltb from k) k from in cond (ltb a to) a to
 
--- moving points, one after the other in a row
-pub record InRow (i : Instrument) (from to : ℕ) : Type 0 where
-  pub order : from ≤ to
-  pub moves : (k : ℕ) → from ≤ k → k < to → moving (i .grid) k ≡ true
+-- what lies of a stretch in a..e
+abbrev pub partOf : Stretch → (a e : ℕ) → Stretch
+partOf s a e = record {
+  from = clamp (s .from) (s .to) a;
+  to = clamp (s .from) (s .to) e;
+  force = s .force;
+  base = s .base;
+  write = s .write;
+}
 
--- moving points of a string, its free ends among them
-pub record OnStringRow (i : Instrument) (from to : ℕ) : Type 0 where
-  pub row : InRow i from to
-  pub some : from < to
-  pub line : i .grid .rows ≡ 1
-  pub soft : i .settings .m ≡ 0
-  pub free : (k : ℕ) → moving (i .grid) k ≡ true → (k ≡ 0) ⊎ (k + 1 ≡ i .grid .columns) → freeEnd (i .grid) k ≡ true
+-- where a stretch may end: one force on all its points, and no more than 64 of them where L of L counts
+pub record Ends (i : Instrument) (h : Hit) (a e r : ℕ) : Type 0 where
+  pub some : a < r
+  pub upto : r ≤ e
+  pub few : (i .settings .m ≡ 0) ⊎ (r ≤ a + 64)
+  pub one-force : (k : ℕ) → a ≤ k → k < r → forceOf h k ≡ forceOf h a
 
--- moving points of a bar
-pub record OnBarRow (i : Instrument) (from to : ℕ) : Type 0 where
-  pub some : from < to
-  pub line : i .grid .rows ≡ 1
-  pub is-bar : kind (i .grid) ≡ bar
-  pub first : 1 ≤ from
-  pub last : to + 1 ≤ i .grid .columns
+-- ---- stiffness, on a line
 
 -- L on a line, from the points beside
 abbrev pub lineLaplacian : List ℤ → ℕ → ℤ
 lineLaplacian xs k = point xs (k - 1) +ℤ point xs (k + 1) -ℤ pos 2 *ℤ point xs k
 
--- the same, 0 at both ends
-abbrev pub barLaplacian : List ℤ → ℕ → ℤ
-barLaplacian xs k = cond (atEdge (length xs) k) (pos 0) (lineLaplacian xs k)
+-- L, 0 where nothing moves, of the points from − 1 .. to: that of point k at place k + 1 − from
+pub record LaplaciansOf (g : Grid) (xs : List ℤ) (from to : ℕ) (ls : List ℤ) : Type 0 where
+  pub few : to ≤ from + 64
+  pub each : (k : ℕ) → from ≤ k + 1 → k ≤ to → point ls (k + 1 - from) ≡ innerLaplacian g (point xs) k
+
+-- L of L at the point whose value of L stands at place k + 1; 0 where it does not count
+abbrev pub bendingOf : (m : ℕ) → List ℤ → ℕ → ℤ
+bendingOf m ls k = cond (eqb m 0) (pos 0) (point ls k +ℤ point ls (k + 2) -ℤ pos 2 *ℤ point ls (k + 1))
+
+-- where it counts, the three places are there, and their values small
+pub record Bendable (m : ℕ) (ls : List ℤ) (k : ℕ) : Type 0 where
+  pub inside : (m ≡ 0 → ⊥) → k + 2 < 66
+  pub low : (m ≡ 0 → ⊥) → (j : ℕ) → k ≤ j → j ≤ k + 2 → natAbs (point ls j) ≤ 4 * ceiling

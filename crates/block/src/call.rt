@@ -4,30 +4,20 @@ ghost use mathlib.Core.Bool.{cond};
 ghost use lib.Dec.{ltb};
 ghost use lib.ListN.{length};
 ghost use Rattle.scheme.specs.declared.Refusal.the-variants.{Nothing, NextBeyond};
-ghost use Rattle.scheme.specs.Refusals.{blockRefusal};
+ghost use Rattle.scheme.specs.Refusals.{wrongLength, blockRefusal};
 ghost use Rattle.scheme.specs.Calls.{block, blockLeft};
-ghost use Rattle.block.specs.Levels.{olderOf, newerOf};
-use crate::arithmetic::make_plan;
 use crate::edges::row_edges;
-use crate::levels::clear;
-use crate::levels::exchange;
+use crate::plan::make_plan;
 use crate::play::play;
+use crate::roles::settle;
+use crate::slices::clear;
 use checks::block_refusal;
 use checks::is_nothing;
+use checks::wrong_length;
 use scheme::BlockAnswer;
 use scheme::Hit;
 use scheme::Instrument;
 use scheme::Refusal;
-
-// The two levels back in their places.
-fn settle(older: &mut [i64], newer: &mut [i64], exchanged: bool)
-    requires { ⌜ length (now older) ≡ length (now newer) ⌝ }
-    ensures { λ _. ⌜ (now (older .exit) ≡ olderOf exchanged (now (older .entry)) (now (newer .entry))) × (now (newer .exit) ≡ newerOf exchanged (now (older .entry)) (now (newer .entry))) ⌝ }
-{
-    if exchanged {
-        exchange(older, newer);
-    }
-}
 
 // 13 where fewer steps were done than there are places.
 fn ending(done: usize, places: usize) -> Refusal
@@ -50,8 +40,9 @@ fn carry_out(
     pick: usize,
     hit: Hit,
 ) -> BlockAnswer
-    requires { ⌜ blockRefusal i (now older) (now newer) (now work) pick hit ≡ Nothing ⌝ }
-    ensures { λ r. ⌜ blockLeft r (now (older .exit)) (now (newer .exit)) (now (work .exit)) (now (samples .exit)) ≡ block i (now (older .entry)) (now (newer .entry)) (now (work .entry)) (now (samples .entry)) pick hit ⌝ }
+    requires { ⌜ blockRefusal i (now older) (now newer) (wrongLength (i .grid) (length (now work))) pick hit ≡ Nothing ⌝ }
+    ensures { λ r. ⌜ blockLeft r (now (older .exit)) (now (newer .exit)) (now (work .exit)) (now (samples .exit))
+        ≡ block i (now (older .entry)) (now (newer .entry)) (now (work .entry)) (now (samples .entry)) pick hit ⌝ }
 {
     let plan = make_plan(i);
     let mut from = [0; 64];
@@ -59,8 +50,8 @@ fn carry_out(
     row_edges(plan.instrument.grid, &mut from, &mut to);
     clear(work);
     let steps = play(plan, &from, &to, older, newer, work, samples, pick, hit);
+    settle(older, newer, work, steps.phase);
     clear(work);
-    settle(older, newer, steps.exchanged);
     let refusal = ending(steps.done, samples.len());
     BlockAnswer {
         steps: steps.done,
@@ -69,7 +60,7 @@ fn carry_out(
 }
 
 // As many steps as samples has places, the hit in the first; or what refuses them.
-// Ruled out: a sample given in two places; a step that is not undone when its last point passes the ceiling.
+// Ruled out: a sample given in two places; a level written though its last point passes the ceiling.
 pub fn block(
     i: Instrument,
     older: &mut [i64],
@@ -79,9 +70,11 @@ pub fn block(
     pick: usize,
     hit: Hit,
 ) -> BlockAnswer
-    ensures { λ r. ⌜ blockLeft r (now (older .exit)) (now (newer .exit)) (now (work .exit)) (now (samples .exit)) ≡ block i (now (older .entry)) (now (newer .entry)) (now (work .entry)) (now (samples .entry)) pick hit ⌝ }
+    ensures { λ r. ⌜ blockLeft r (now (older .exit)) (now (newer .exit)) (now (work .exit)) (now (samples .exit))
+        ≡ block i (now (older .entry)) (now (newer .entry)) (now (work .entry)) (now (samples .entry)) pick hit ⌝ }
 {
-    let refusal = block_refusal(i, older, newer, work.len(), pick, hit);
+    let wrong = wrong_length(i.grid, work.len());
+    let refusal = block_refusal(i, older, newer, wrong, pick, hit);
     if !is_nothing(refusal) {
         return BlockAnswer { steps: 0, refusal };
     }

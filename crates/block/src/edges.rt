@@ -2,12 +2,12 @@
 ghost use Prim.Native.Nat.{_≤_};
 ghost use lib.ListN.{length};
 ghost use Rattle.block.specs.Edges.{EdgesOf};
-use checks::movable_run;
+use kinds::movable_run;
 use scheme::Grid;
 
 // For each row its first moving column, and the column after its last.
 // Ruled out: every row taken as the first.
-pub fn row_edges(g: Grid, from: &mut [usize], to: &mut [usize])
+pub(crate) fn row_edges(g: Grid, from: &mut [usize], to: &mut [usize])
     requires { ⌜ (g .rows ≤ length (now from)) × (g .rows ≤ length (now to)) ⌝ }
     ensures { λ _. ⌜ EdgesOf g (now (from .exit)) (now (to .exit)) ⌝ }
 {

@@ -1,11 +1,14 @@
 // A block: as many steps of an instrument as the lent sample buffer has places.
 mod arithmetic;
+mod bending;
 mod call;
 mod edges;
-mod levels;
+mod level;
+mod plan;
 mod play;
 mod points;
-mod rows;
-mod step;
+mod roles;
+mod slices;
+mod stretch;
 
 pub use call::block;

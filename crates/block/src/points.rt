@@ -1,143 +1,149 @@
-// Points stepped one after the other: the next value goes into older, the older value into work.
-// Each function answers the place where it stopped: the end of its run, or the first point whose next value lies beyond the ceiling.
+// The next values of a stretch of moving points, put into a slice that is neither older nor newer.
+// Each function answers whether all of them lie within the ceiling: at the first that does not it stops.
 ghost use mathlib.Core.Path.{_≡_};
-ghost use Prim.Native.Nat.{_≤_, _<_, _+_, _-_};
+ghost use mathlib.Core.Logic.{_⊎_};
+ghost use Prim.Native.Nat.{_+_, _-_, _≤_, _<_};
 ghost use lib.ListN.{length};
-ghost use Rattle.scheme.specs.Instruments.{ceiling};
-ghost use Rattle.scheme.specs.Lists.{point};
-ghost use Rattle.scheme.proofs.Laws.Ranges.{Within};
 ghost use Rattle.block.specs.Plan.{Ready, Neighbouring};
-ghost use Rattle.block.specs.Run.{valueAt, RanTo, OnString, OnBar, OnMembrane, lineLaplacian, barLaplacian};
-use crate::arithmetic::Plan;
-use crate::arithmetic::update;
-use checks::is_beyond;
+ghost use Rattle.block.specs.Run.{Advanced, Placed, Moves, OnLine, FreeEnd, LaplaciansOf};
+use crate::arithmetic::numerator;
+use crate::arithmetic::round_away;
+use crate::bending::bending_at;
+use crate::plan::Plan;
+use crate::plan::is_within;
+use crate::stretch::Stretch;
+use crate::stretch::part;
 
-// One point: sum and count are its neighbours', b is L of L there, f the force.
-pub fn advance(
+// One point: sum and count are its neighbours', b is L of L there.
+fn next_point(
     plan: Plan,
-    older: &mut [i64],
+    older: &[i64],
     newer: &[i64],
-    work: &mut [i64],
     at: usize,
     sum: i64,
     count: i64,
     b: i64,
-    f: i64,
-) -> usize
-    requires { ⌜ Ready plan f (now older) (now newer) (now work) ⌝ }
-    requires { ⌜ Neighbouring (plan .instrument) (now newer) at sum count b ⌝ }
-    ensures { λ r. ⌜ RanTo (valueAt (plan .instrument) f (now (older .entry)) (now (newer .entry))) (now (older .entry)) (now (work .entry)) (now (older .exit)) (now (work .exit)) at (at + 1) r ⌝ }
+    s: Stretch,
+    out: &mut [i64],
+) -> bool
+    requires { ⌜ Ready plan (s .force) (now older) (now newer) × Neighbouring (plan .instrument) (now newer) at sum count b ⌝ }
+    requires { ⌜ Placed s (length (now out)) × (s .from ≤ at) × (at < s .to) ⌝ }
+    ensures { λ r. ⌜ Advanced plan s (now (older .entry)) (now (newer .entry)) (now (out .entry)) (now (out .exit)) at (at + 1) r ⌝ }
 {
-    let u = newer[at];
-    let p = older[at];
-    let v = update(plan, u, sum, count, b, p, f);
-    if is_beyond(v) {
-        return at;
+    let n = numerator(plan, newer[at], sum, count, b, older[at], s.force);
+    if !is_within(plan, n) {
+        return false;
     }
-    work[at] = p;
-    older[at] = v;
-    at + 1
+    if s.write {
+        out[at - s.base] = round_away(n, plan.divisor);
+    }
+    true
 }
 
-// Inner points of a string.
-pub fn string_run(
+// Inner points of a line.
+fn line_run(
     plan: Plan,
-    older: &mut [i64],
+    older: &[i64],
     newer: &[i64],
-    work: &mut [i64],
-    from: usize,
-    to: usize,
-    f: i64,
-) -> usize
-    requires { ⌜ Ready plan f (now older) (now newer) (now work) ⌝ }
-    requires { ⌜ OnString (plan .instrument) from to ⌝ }
-    ensures { λ r. ⌜ RanTo (valueAt (plan .instrument) f (now (older .entry)) (now (newer .entry))) (now (older .entry)) (now (work .entry)) (now (older .exit)) (now (work .exit)) from to r ⌝ }
+    laplacians: &[i64; 66],
+    s: Stretch,
+    out: &mut [i64],
+) -> bool
+    requires { ⌜ Ready plan (s .force) (now older) (now newer) × Placed s (length (now out)) ⌝ }
+    requires { ⌜ OnLine (plan .instrument .grid) (s .from) (s .to) × Moves (plan .instrument .grid) (s .from) (s .to) ⌝ }
+    requires { ⌜ (plan .instrument .settings .m ≡ 0) ⊎ LaplaciansOf (plan .instrument .grid) (now newer) (s .from) (s .to) (now laplacians) ⌝ }
+    ensures { λ r. ⌜ Advanced plan s (now (older .entry)) (now (newer .entry)) (now (out .entry)) (now (out .exit)) (s .from) (s .to) r ⌝ }
 {
-    let mut at = from;
-    while at < to {
+    let mut at = s.from;
+    while at < s.to {
         let sum = newer[at - 1] + newer[at + 1];
-        let next = advance(plan, older, newer, work, at, sum, 2, 0, f);
-        if next == at {
-            return at;
+        let b = bending_at(plan, laplacians, at - s.from);
+        if !next_point(plan, older, newer, at, sum, 2, b, s, out) {
+            return false;
         }
-        at = next;
+        at += 1;
     }
-    at
+    true
 }
 
-// L at an inner point of a line.
-pub fn line_laplacian(newer: &[i64], at: usize) -> i64
-    requires { ⌜ (1 ≤ at) × (at + 1 < length (now newer)) × Within ceiling (point (now newer)) ⌝ }
-    ensures { λ r. ⌜ r ≡ lineLaplacian (now (newer .entry)) at ⌝ }
-{
-    newer[at - 1] + newer[at + 1] - 2 * newer[at]
-}
-
-// Inner points of a bar but its last: L of L by a window of three values of L. `before` is L at from − 1.
-pub fn bar_run(
+// The part of a stretch that is one end of a line, if it has one: at a free end the one neighbour counts twice.
+fn free_end(
     plan: Plan,
-    older: &mut [i64],
+    older: &[i64],
     newer: &[i64],
-    work: &mut [i64],
-    from: usize,
-    to: usize,
-    f: i64,
-    before: i64,
-) -> usize
-    requires { ⌜ Ready plan f (now older) (now newer) (now work) ⌝ }
-    requires { ⌜ OnBar (plan .instrument) from to × (before ≡ barLaplacian (now newer) (from - 1)) ⌝ }
-    ensures { λ r. ⌜ RanTo (valueAt (plan .instrument) f (now (older .entry)) (now (newer .entry))) (now (older .entry)) (now (work .entry)) (now (older .exit)) (now (work .exit)) from to r ⌝ }
+    near: usize,
+    s: Stretch,
+    out: &mut [i64],
+) -> bool
+    requires { ⌜ Ready plan (s .force) (now older) (now newer) × Placed s (length (now out)) ⌝ }
+    requires { ⌜ FreeEnd (plan .instrument) near (s .from) (s .to) ⌝ }
+    ensures { λ r. ⌜ Advanced plan s (now (older .entry)) (now (newer .entry)) (now (out .entry)) (now (out .exit)) (s .from) (s .to) r ⌝ }
 {
-    let mut at = from;
-    let mut back = before;
-    let mut here = line_laplacian(newer, at);
-    while at < to {
-        let ahead = line_laplacian(newer, at + 1);
-        let sum = newer[at - 1] + newer[at + 1];
-        let next = advance(
-            plan,
-            older,
-            newer,
-            work,
-            at,
-            sum,
-            2,
-            back + ahead - 2 * here,
-            f,
-        );
-        if next == at {
-            return at;
-        }
-        back = here;
-        here = ahead;
-        at = next;
+    if s.from == s.to {
+        return true;
     }
-    at
+    let x = newer[near];
+    next_point(plan, older, newer, s.from, x + x, 2, 0, s, out)
 }
 
-// Moving points of a row of a membrane.
-pub fn membrane_run(
+// Moving points of a line: its first, if it is one of them, the inner ones, its last.
+fn line_points(
     plan: Plan,
-    older: &mut [i64],
+    older: &[i64],
     newer: &[i64],
-    work: &mut [i64],
-    from: usize,
-    to: usize,
-    f: i64,
-) -> usize
-    requires { ⌜ Ready plan f (now older) (now newer) (now work) ⌝ }
-    requires { ⌜ OnMembrane (plan .instrument) from to ⌝ }
-    ensures { λ r. ⌜ RanTo (valueAt (plan .instrument) f (now (older .entry)) (now (newer .entry))) (now (older .entry)) (now (work .entry)) (now (older .exit)) (now (work .exit)) from to r ⌝ }
+    laplacians: &[i64; 66],
+    s: Stretch,
+    out: &mut [i64],
+) -> bool
+    requires { ⌜ Ready plan (s .force) (now older) (now newer) × Placed s (length (now out)) ⌝ }
+    requires { ⌜ (plan .instrument .grid .rows ≡ 1) × Moves (plan .instrument .grid) (s .from) (s .to) × (s .from < s .to) ⌝ }
+    requires { ⌜ (plan .instrument .settings .m ≡ 0) ⊎ LaplaciansOf (plan .instrument .grid) (now newer) (s .from) (s .to) (now laplacians) ⌝ }
+    ensures { λ r. ⌜ Advanced plan s (now (older .entry)) (now (newer .entry)) (now (out .entry)) (now (out .exit)) (s .from) (s .to) r ⌝ }
+{
+    let n = newer.len();
+    if !free_end(plan, older, newer, 1, part(s, 0, 1), out) {
+        return false;
+    }
+    if !line_run(plan, older, newer, laplacians, part(s, 1, n - 1), out) {
+        return false;
+    }
+    free_end(plan, older, newer, n - 2, part(s, n - 1, n), out)
+}
+
+// Moving points of a row of a grid.
+fn grid_run(plan: Plan, older: &[i64], newer: &[i64], s: Stretch, out: &mut [i64]) -> bool
+    requires { ⌜ Ready plan (s .force) (now older) (now newer) × Placed s (length (now out)) ⌝ }
+    requires { ⌜ (plan .instrument .grid .rows ≡ 1 → ⊥) × Moves (plan .instrument .grid) (s .from) (s .to) ⌝ }
+    ensures { λ r. ⌜ Advanced plan s (now (older .entry)) (now (newer .entry)) (now (out .entry)) (now (out .exit)) (s .from) (s .to) r ⌝ }
 {
     let columns = plan.instrument.grid.columns;
-    let mut at = from;
-    while at < to {
+    let mut at = s.from;
+    while at < s.to {
         let sum = newer[at - 1] + newer[at + 1] + newer[at - columns] + newer[at + columns];
-        let next = advance(plan, older, newer, work, at, sum, 4, 0, f);
-        if next == at {
-            return at;
+        if !next_point(plan, older, newer, at, sum, 4, 0, s, out) {
+            return false;
         }
-        at = next;
+        at += 1;
     }
-    at
+    true
+}
+
+// Moving points of a row. Where L of L counts, `laplacians` has the values of L that it is taken of.
+pub(crate) fn points_run(
+    plan: Plan,
+    older: &[i64],
+    newer: &[i64],
+    laplacians: &[i64; 66],
+    s: Stretch,
+    out: &mut [i64],
+) -> bool
+    requires { ⌜ Ready plan (s .force) (now older) (now newer) × Placed s (length (now out)) ⌝ }
+    requires { ⌜ Moves (plan .instrument .grid) (s .from) (s .to) × (s .from < s .to) ⌝ }
+    requires { ⌜ (plan .instrument .settings .m ≡ 0) ⊎ LaplaciansOf (plan .instrument .grid) (now newer) (s .from) (s .to) (now laplacians) ⌝ }
+    ensures { λ r. ⌜ Advanced plan s (now (older .entry)) (now (newer .entry)) (now (out .entry)) (now (out .exit)) (s .from) (s .to) r ⌝ }
+{
+    if plan.instrument.grid.rows == 1 {
+        return line_points(plan, older, newer, laplacians, s, out);
+    }
+    grid_run(plan, older, newer, s, out)
 }

@@ -12,6 +12,7 @@ use mir.Syntax.{w16, w64}
 use mir.Val.{SFits, toZ, ofZ}
 use mir.ValLaws.{toZ-ofZ}
 use Rattle.integers.proofs.Size.{size-add, size-minus, size-mul}
+use Rattle.bounded.specs.Between.{Between}
 use Rattle.bounded.proofs.Size.{size-quot, size-shr, mag-size}
 
 pub record Num (r z : ℤ) (B : ℕ) : Type 0 where
@@ -20,17 +21,11 @@ pub record Num (r z : ℤ) (B : ℕ) : Type 0 where
 
 -- ---- numbers that are not negative
 
--- z lies in lo..hi
-pub record Whole (lo hi : ℕ) (z : ℤ) : Type 0 where
-  pub is : z ≡ pos (natAbs z)
-  pub low : lo ≤ natAbs z
-  pub high : natAbs z ≤ hi
-
-pub whole : (n : ℕ) {lo hi : ℕ} → lo ≤ n → n ≤ hi → Whole lo hi (pos n)
-whole n l h = record { is = refl; low = l; high = h }
+pub between : (n : ℕ) {lo hi : ℕ} → lo ≤ n → n ≤ hi → Between lo hi (pos n)
+between n l h = record { is = refl; low = l; high = h }
 
 -- the bits of a divisor are not 0
-pub above : {lo hi : ℕ} {z : ℤ} → Whole lo hi z → T (ltb 0 lo) → 0 < ofZ w64 z
+pub above : {lo hi : ℕ} {z : ℤ} → Between lo hi z → T (ltb 0 lo) → 0 < ofZ w64 z
 above {lo} {hi} {z} w t = subst (λ (v : ℤ). 0 < ofZ w64 v) (sym (w .is)) (lt-of-lt-of-le (ltb→lt 0 lo t) (w .low))
 
 -- ---- what goes in

@@ -1,6 +1,1 @@
-pub mod KindLaws
-pub mod SearchLaws
-pub mod RoundLaws
-pub mod RunLaws
-pub mod LevelLaws
 pub mod RefusalLaws

@@ -1,141 +1,108 @@
--- The lowest of two lists of checks, and the checks of calls by their parts.
-use mathlib.Core.Path.{_≡_, refl, sym, ap, ap₂, _∙_, subst}
+-- The lowest of lists of checks, one after the other, and the checks of calls by their parts.
+use mathlib.Core.Path.{_≡_, refl, sym, ap, ap₂, _∙_}
 use mathlib.Core.Bool.{Bool, true, false, not, _||_, cond}
 use mathlib.Core.List.{List, [], _∷_, _++_}
 use Prim.Native.Nat.{ℕ}
 use native.Mathlib.Omega.{arith}
-use borrow.Author.Tests.{eqb-true, eq-eqb, ne-eqb, not-true, not-false}
+use borrow.Author.Tests.{eq-eqb, ne-eqb, not-true, not-false}
 use mir.Facts as F
-use lib.Dec.{T, ltb, ltb→lt}
+use lib.Dec.{T, eqb, ltb, ltb→lt}
 use lib.IntN.{ℤ}
 use lib.ListN.{length}
 use Rattle.scheme.specs.declared.Grid.{Grid}
 use Rattle.scheme.specs.declared.Instrument.{Instrument}
 use Rattle.scheme.specs.declared.Hit.{Hit}
+use Rattle.scheme.specs.declared.Hit.the-variants.{At}
 use Rattle.scheme.specs.declared.Refusal.{Refusal}
-use Rattle.scheme.specs.declared.Refusal.the-variants.{Nothing, UnknownKind, WrongSize}
-use Rattle.scheme.specs.Instruments.{Kind, kindOf, within, points}
+use Rattle.scheme.specs.declared.Refusal.the-variants.{Nothing}
+use Rattle.scheme.specs.Instruments.{points, inTable}
 use Rattle.scheme.specs.Step.{someBeyond}
-use Rattle.scheme.specs.Refusals.{number, known, plucked, wrongSize, fixedNotZero, Check, _⇒_, lowest, gridChecks, instrumentChecks, stateChecks, blockChecks, blockRefusal, pluckRefusal, readingRefusal, instrumentRefusal}
+use Rattle.scheme.specs.Refusals.{number, wrongLength, fixedNotZero, Check, _⇒_, lowest, gridChecks, instrumentChecks, lengthChecks}
+use Rattle.scheme.specs.Refusals.{hitChecks, pickChecks, widthChecks, stateChecks, inputChecks, lastPlucked, blockRefusal, pluckChecks}
 use Rattle.scheme.specs.Calls.{accepted}
-use Rattle.scheme.proofs.Laws.Bools.{and-yes, or-neither}
-use Rattle.scheme.proofs.Laws.Refusals.{refusing, NoneApplies, none-applies, accepted-is}
-use Rattle.checks.specs.Runs.{inTable}
-use Rattle.checks.specs.Levels.{unfixed}
-use Rattle.checks.specs.Refused.{gridChecksTo, settingsChecks, notLong, lentChecks, centreChecks, levelChecks, inputChecks, inputRefusal, stateRefusal, lentBlockRefusal, lentPluckRefusal}
-use Rattle.checks.proofs.KindLaws.{known-is, plucked-is}
+use Rattle.scheme.proofs.Laws.Bools.{and-yes, or-neither, or-twice}
+use Rattle.scheme.proofs.Laws.Refusals.{refusing, NoneApplies, none-applies, accepted-is, right-length}
+use Rattle.levels.specs.Levels.{unfixed}
+use Rattle.checks.specs.Refused.{notLong, firstOf, stateRefusal}
 
--- one list after another: the first list's, unless none of it applies
-pub lowest-append : (cs ds : List Check) → T (refusing cs) → lowest (cs ++ ds) ≡ cond (accepted (lowest cs)) (lowest ds) (lowest cs)
+-- ---- one list of checks after another
+
+pub lowest-append : (cs ds : List Check) → T (refusing cs) → lowest (cs ++ ds) ≡ firstOf (lowest cs) (lowest ds)
 lowest-append [] ds t = refl
-lowest-append ((true ⇒ r) ∷ cs) ds t = ap (λ (b : Bool). cond b (lowest ds) r) (sym (ne-eqb (number r) 0 (λ e. omega (arith, ltb→lt 0 (number r) (F.and-yes (ltb 0 (number r)) (refusing cs) t .0)))))
+lowest-append ((true ⇒ r) ∷ cs) ds t =
+    let some = F.and-yes (ltb 0 (number r)) (refusing cs) t .0 in
+    ap (λ (b : Bool). cond b (lowest ds) r) (sym (ne-eqb (number r) 0 (λ e. omega (arith, ltb→lt 0 (number r) some))))
 lowest-append ((false ⇒ r) ∷ cs) ds t = lowest-append cs ds (F.and-yes (ltb 0 (number r)) (refusing cs) t .1)
 
--- ---- the tests made one after the other, to the first that applies
+-- answers of the parts are the answer of the whole
+pub append-is : (cs ds : List Check) {p q : Refusal} → T (refusing cs) → p ≡ lowest cs → q ≡ lowest ds → firstOf p q ≡ lowest (cs ++ ds)
+append-is cs ds t e f = ap₂ firstOf e f ∙ sym (lowest-append cs ds t)
 
-pub record Found (cs : List Check) (r : Refusal) : Type 0 where
-  pub is : lowest cs ≡ r
+-- ---- the first list answered q, of which `is_nothing` said b
 
-pub none : Found [] Nothing
-none = record { is = refl }
+module _ (cs ds : List Check) {q : Refusal} {b : Bool} (t : T (refusing cs)) (first : q ≡ lowest cs) (said : b ≡ accepted q) where
+  pub passed : not b ≡ false → NoneApplies cs
+  passed e = none-applies cs t (sym first ∙ accepted-is q (sym said ∙ not-false b e))
 
-pub here : {b : Bool} {r : Refusal} {cs : List Check} → b ≡ true → Found (b ⇒ r ∷ cs) r
-here {r = r} {cs = cs} e = record { is = ap (λ (b : Bool). lowest (b ⇒ r ∷ cs)) e }
+  pub refused-by : not b ≡ true → q ≡ lowest (cs ++ ds)
+  refused-by e = ap (λ (x : Bool). cond x (lowest ds) q) (sym (not-true b e) ∙ said) ∙ append-is cs ds t first refl
 
-pub past : {b : Bool} {q r : Refusal} {cs : List Check} → b ≡ false → Found cs r → Found (b ⇒ q ∷ cs) r
-past {q = q} {cs = cs} e f = record { is = ap (λ (b : Bool). lowest (b ⇒ q ∷ cs)) e ∙ f .is }
+  pub goes-on : {r : Refusal} → not b ≡ false → r ≡ lowest ds → r ≡ lowest (cs ++ ds)
+  goes-on {r} e f = ap (λ (x : Bool). cond x r q) (sym (not-false b e) ∙ said) ∙ append-is cs ds t first f
 
-pub answers : (cs : List Check) {r : Refusal} → Found cs r → r ≡ lowest cs
-answers cs f = sym (f .is)
+-- the second list where the first has passed
+pub second-same : (cs ds es : List Check) → T (refusing cs) → (NoneApplies cs → lowest ds ≡ lowest es) → lowest (cs ++ ds) ≡ lowest (cs ++ es)
+second-same cs ds es t same = lowest-append cs ds t ∙ go (accepted (lowest cs)) refl ∙ sym (lowest-append cs es t)
+  where
+    go : (b : Bool) → accepted (lowest cs) ≡ b → firstOf (lowest cs) (lowest ds) ≡ firstOf (lowest cs) (lowest es)
+    go true e = ap (λ x. cond (accepted (lowest cs)) x (lowest cs)) (same (none-applies cs t (accepted-is (lowest cs) e)))
+    go false e = ap (λ (b : Bool). cond b (lowest ds) (lowest cs)) e ∙ sym (ap (λ (b : Bool). cond b (lowest es) (lowest cs)) e)
 
--- ---- two lists of checks, one after the other, whose answers are p and s: w is the answer of both
+-- ---- what has passed
 
-pub record Parts (p s w : Refusal) : Type 0 where
-  pub is : w ≡ cond (accepted p) s p
+-- 1 and 2, with or without 4 and 5
+pub grid-in : (last : ℕ) (g : Grid) → NoneApplies (gridChecks last g) → inTable g ≡ true
+grid-in last g n = not-false _ (n .1 .0)
 
-parts : (cs ds : List Check) → T (refusing cs) → Parts (lowest cs) (lowest ds) (lowest (cs ++ ds))
-parts cs ds t = record { is = lowest-append cs ds t }
+pub instrument-in : (i : Instrument) → NoneApplies (instrumentChecks i) → inTable (i .grid) ≡ true
+instrument-in i n = not-false _ (n .1 .0)
 
--- the first answered q, of which is_nothing said b
-module _ {p s w q : Refusal} {b : Bool} (both : Parts p s w) (first : q ≡ p) (said : b ≡ accepted q) where
-  by-first : {t : Bool} → b ≡ t → w ≡ cond t s p
-  by-first e = both .is ∙ ap (λ (t : Bool). cond t s p) (ap accepted (sym first) ∙ sym said ∙ e)
+-- ---- lengths and state as the code tests them
 
-  pub first-answers : not b ≡ true → q ≡ w
-  first-answers e = first ∙ sym (by-first (not-true b e))
+pub long-is : (g : Grid) (n : ℕ) → inTable g ≡ true → notLong g n ≡ wrongLength g n
+long-is g n size = ap (λ (t : Bool). not (eqb n (cond t (points g) 0))) size
 
-  pub second-answers : {r : Refusal} → not b ≡ false → r ≡ s → r ≡ w
-  second-answers e f = f ∙ sym (by-first (not-false b e))
+-- a block's input by another test of the lengths, which is the same where the table has the size
+pub input-same : (i : Instrument) (wrong wrong′ : Bool) (pick : ℕ) (h : Hit) → (inTable (i .grid) ≡ true → wrong ≡ wrong′)
+    → lowest (inputChecks i wrong pick h) ≡ lowest (inputChecks i wrong′ pick h)
+input-same i wrong wrong′ pick h same =
+    let after : Bool → List Check = λ w. lengthChecks w ++ (hitChecks (i .grid) h ++ pickChecks (i .grid) pick) in
+    second-same (instrumentChecks i) (after wrong) (after wrong′) tt (λ n. ap (λ (w : Bool). lowest (after w)) (same (instrument-in i n)))
 
--- ---- the checks of calls
+-- the same of a block's refusal, and of a pluck's
+pub block-same : (i : Instrument) (older newer : List ℤ) (wrong wrong′ : Bool) (pick : ℕ) (h : Hit) → (inTable (i .grid) ≡ true → wrong ≡ wrong′)
+    → blockRefusal i older newer wrong pick h ≡ blockRefusal i older newer wrong′ pick h
+unfolding blockRefusal
+block-same i older newer wrong wrong′ pick h same =
+    let g = i .grid in
+    let state = stateChecks (someBeyond older || someBeyond newer) (fixedNotZero g older || fixedNotZero g newer) in
+    let after : Bool → List Check = λ w.
+    lengthChecks (wrongLength g (length older) || wrongLength g (length newer) || w) ++ (hitChecks g h ++ (pickChecks g pick ++ state)) in
+    second-same (instrumentChecks i) (after wrong) (after wrong′) tt (λ n. ap (λ (w : Bool). lowest (after w)) (same (instrument-in i n)))
 
--- 1 and 2 of a call that admits the kinds 1..n, then its others
-pub grid-parts : (n : ℕ) (admitted : Kind → Bool) → ((k : ℕ) → admitted (kindOf k) ≡ within 1 n k) → (g : Grid) (ds : List Check) → Parts (lowest (gridChecksTo n g)) (lowest ds) (lowest (gridChecks admitted g ++ ds))
-grid-parts n admitted is g ds = subst (λ (b : Bool). Parts (lowest (gridChecksTo n g)) (lowest ds) (lowest (not b ⇒ UnknownKind ∷ wrongSize g ⇒ WrongSize ∷ ds))) (sym (is (g .kind))) (parts (gridChecksTo n g) ds tt)
+pub pluck-same : (g : Grid) (wrong wrong′ : Bool) (c w : ℕ) (a : ℤ) → (inTable g ≡ true → wrong ≡ wrong′)
+    → lowest (pluckChecks g wrong c w a) ≡ lowest (pluckChecks g wrong′ c w a)
+pluck-same g wrong wrong′ c w a same =
+    let after : Bool → List Check = λ x. lengthChecks x ++ (hitChecks g (At c a) ++ widthChecks g w) in
+    second-same (gridChecks lastPlucked g) (after wrong) (after wrong′) tt (λ n. ap (λ (x : Bool). lowest (after x)) (same (grid-in lastPlucked g n)))
 
-pub instrument-parts : (i : Instrument) → Parts (lowest (gridChecksTo 6 (i .grid))) (lowest (settingsChecks i)) (instrumentRefusal i)
-unfolding instrumentRefusal
-instrument-parts i = grid-parts 6 known known-is (i .grid) (settingsChecks i)
-
-pub input-parts : (i : Instrument) (older newer work pick : ℕ) (h : Hit) → Parts (instrumentRefusal i) (lowest (lentChecks (i .grid) older newer work pick h)) (inputRefusal i older newer work pick h)
-unfolding instrumentRefusal inputRefusal
-input-parts i older newer work pick h = parts (instrumentChecks i) (lentChecks (i .grid) older newer work pick h) tt
-
-pub block-parts : (i : Instrument) (older newer : List ℤ) (work pick : ℕ) (h : Hit)
-    → Parts (inputRefusal i (length older) (length newer) work pick h) (lowest (stateChecks (someBeyond older || someBeyond newer) (fixedNotZero (i .grid) older || fixedNotZero (i .grid) newer))) (lentBlockRefusal i older newer work pick h)
-unfolding inputRefusal lentBlockRefusal
-block-parts i older newer work pick h = parts (inputChecks i (length older) (length newer) work pick h) (stateChecks (someBeyond older || someBeyond newer) (fixedNotZero (i .grid) older || fixedNotZero (i .grid) newer)) tt
-
-pub pluck-parts : (g : Grid) (older newer c w : ℕ) (a : ℤ) → Parts (lowest (gridChecksTo 4 g)) (lowest (centreChecks g older newer c w a)) (lentPluckRefusal g older newer c w a)
-unfolding lentPluckRefusal
-pluck-parts g older newer c w a = grid-parts 4 plucked plucked-is g (centreChecks g older newer c w a)
-
-pub reading-parts : (g : Grid) (newer : List ℤ) (pick : ℕ) → Parts (lowest (gridChecksTo 6 g)) (lowest (levelChecks g newer pick)) (readingRefusal g newer pick)
-unfolding readingRefusal
-reading-parts g newer pick = grid-parts 6 known known-is g (levelChecks g newer pick)
-
--- a block's input checks are the first part of its checks
-pub block-checks : (i : Instrument) (older newer work : List ℤ) (pick : ℕ) (h : Hit)
-    → blockChecks i older newer work pick h ≡ inputChecks i (length older) (length newer) (length work) pick h ++ stateChecks (someBeyond older || someBeyond newer) (fixedNotZero (i .grid) older || fixedNotZero (i .grid) newer)
-block-checks i older newer work pick h = refl
-
-pub block-refusal-is : (i : Instrument) (older newer work : List ℤ) (pick : ℕ) (h : Hit)
-    → blockRefusal i older newer work pick h ≡ lentBlockRefusal i older newer (length work) pick h
-unfolding blockRefusal lentBlockRefusal
-block-refusal-is i older newer work pick h = ap lowest (block-checks i older newer work pick h)
-
-pub pluck-refusal-is : (g : Grid) (older newer : List ℤ) (c w : ℕ) (a : ℤ) → pluckRefusal g older newer c w a ≡ lentPluckRefusal g (length older) (length newer) c w a
-unfolding pluckRefusal lentPluckRefusal
-pluck-refusal-is g older newer c w a = refl
-
--- ---- what they let pass, as is_nothing said b of the answer q
-
-none-of : (cs : List Check) {q : Refusal} {b : Bool} → T (refusing cs) → q ≡ lowest cs → b ≡ accepted q → not b ≡ false → NoneApplies cs
-none-of cs {q} {b} t answer said e = none-applies cs t (sym answer ∙ accepted-is q (sym said ∙ not-false b e))
-
-pub grid-passes : (n : ℕ) (g : Grid) {q : Refusal} {b : Bool} → q ≡ lowest (gridChecksTo n g) → b ≡ accepted q → not b ≡ false → inTable g ≡ true
-grid-passes n g answer said e = not-false _ (none-of (gridChecksTo n g) tt answer said e .1 .0)
-
-pub instrument-passes : (i : Instrument) {q : Refusal} {b : Bool} → q ≡ instrumentRefusal i → b ≡ accepted q → not b ≡ false → inTable (i .grid) ≡ true
-unfolding instrumentRefusal
-instrument-passes i answer said e = not-false _ (none-of (instrumentChecks i) tt answer said e .1 .0)
-
-pub right-length : (g : Grid) (n : ℕ) → notLong g n ≡ false → n ≡ points g
-right-length g n e = eqb-true n (points g) (not-false _ e)
-
--- where 6 lets a level of a grid of the table pass
-pub unfixed-is : (g : Grid) (xs : List ℤ) → inTable g ≡ true → length xs ≡ points g → unfixed g xs ≡ fixedNotZero g xs
+unfixed-is : (g : Grid) (xs : List ℤ) → inTable g ≡ true → length xs ≡ points g → unfixed g xs ≡ fixedNotZero g xs
 unfolding unfixed
 unfixed-is g xs size e = and-yes size ∙ and-yes (eq-eqb (length xs) (points g) e)
 
--- where a block's input passes, its state is refused as the paper says
-pub state-is : (i : Instrument) (older newer : List ℤ) (work pick : ℕ) (h : Hit) {q : Refusal} {b : Bool} → q ≡ inputRefusal i (length older) (length newer) work pick h → b ≡ accepted q → not b ≡ false
-    → stateRefusal (i .grid) older newer ≡ lowest (stateChecks (someBeyond older || someBeyond newer) (fixedNotZero (i .grid) older || fixedNotZero (i .grid) newer))
-unfolding inputRefusal stateRefusal
-state-is i older newer work pick h answer said e =
-    let g = i .grid in
-    let n = none-of (inputChecks i (length older) (length newer) work pick h) tt answer said e in
-    let size = not-false _ (n .1 .0) in
-    let l = or-neither _ _ (or-neither _ _ (n .1 .1 .1 .1 .0) .0) in
+pub state-is : (g : Grid) (older newer : List ℤ) → inTable g ≡ true → wrongLength g (length older) ≡ false → wrongLength g (length newer) ≡ false
+    → stateRefusal g older newer ≡ lowest (stateChecks (someBeyond older || someBeyond newer) (fixedNotZero g older || fixedNotZero g newer))
+unfolding stateRefusal
+state-is g older newer size o n =
     ap₂ (λ (x y : Bool). lowest (stateChecks (someBeyond older || someBeyond newer) (x || y)))
-    (unfixed-is g older size (right-length g (length older) (l .0))) (unfixed-is g newer size (right-length g (length newer) (l .1)))
+    (unfixed-is g older size (right-length g (length older) o)) (unfixed-is g newer size (right-length g (length newer) n))

@@ -1,20 +1,14 @@
 // The checks that calls make before they are carried out: 1, 2 and 4 to 12 of the paper's refusals.
-mod kinds;
-mod levels;
+mod groups;
 mod refusals;
-mod runs;
+mod tests;
 
-pub use levels::fixed_not_zero;
-pub use levels::is_beyond;
-pub use levels::some_beyond;
+pub use groups::grid_refusal;
+pub use groups::instrument_refusal;
+pub use groups::is_nothing;
+pub use groups::state_refusal;
 pub use refusals::block_refusal;
-pub use refusals::grid_refusal;
 pub use refusals::input_refusal;
-pub use refusals::instrument_refusal;
-pub use refusals::is_nothing;
 pub use refusals::pluck_refusal;
 pub use refusals::reading_refusal;
-pub use refusals::state_refusal;
-pub use runs::Run;
-pub use runs::is_moving;
-pub use runs::movable_run;
+pub use tests::wrong_length;

@@ -2,7 +2,6 @@
 use mathlib.Core.Path.{_≡_, refl, ap, _∙_}
 use Prim.Native.Nat.{ℕ, zero, suc, _+_, _*_}
 use native.Mathlib.Nat as N
-use native.Mathlib.Numerals.{add-one}
 use native.Mathlib.Omega.{arith}
 use lib.IntN.{ℤ, pos, _+ℤ_, _-ℤ_, _*ℤ_}
 use Rattle.integers.proofs.Ring.{#_, _⊕_, _⊖_, _⊗_, _≈_, ring}
@@ -10,7 +9,7 @@ use Rattle.integers.proofs.Order.{_⩽_, 0<pos, pos<, square-nonneg, mul-positi
 use Rattle.integers.proofs.Lin.{_⊴_, _*≤_, _*⊴_, _⇒_, ⊩_, lin}
 use Rattle.forms.proofs.Level.{Level, _⊞_, _⊡_, zeros, Still, still-zeros, still-add, still-scale}
 use Rattle.forms.proofs.Form.{scale-both}
-use Rattle.forms.proofs.Energy.{Scheme, E, never-raised, triangle, triangle-zero, norm, norm-zero}
+use Rattle.forms.proofs.Energy.{Scheme, E, never-raised, triangle-step, norm, norm-zero}
 
 -- after n steps; K bounds what a step rounds off: 4·U(r,r) ≤ K·d²
 pub record Near (T : Scheme) (K : ℤ) (n : ℕ) (p : ℤ) (X Y : Level) : Type 0 where
@@ -62,11 +61,7 @@ module _ (T : Scheme) (K : ℤ) where
         d K p (pos (n * suc n)) (U X X) (square-nonneg d) (now .by-level))
 
     next-energy : pos 4 *ℤ E T X′ (d ⊡ X) ⩽ K′ *ℤ (pos (suc n) *ℤ pos (suc n))
-    next-energy = go n stepped
-      where
-        go : (n : ℕ) → pos 4 *ℤ E T (T .next X Y) (d ⊡ X) ⩽ K′ *ℤ (pos n *ℤ pos n) → pos 4 *ℤ E T X′ (d ⊡ X) ⩽ K′ *ℤ (pos (suc n) *ℤ pos (suc n))
-        go zero h = triangle-zero (T .U-form) (T .U-form) (T .S-form) (T .nonneg) (0<pos 3) (K′ *ℤ (pos 1 *ℤ pos 1)) (T .next X Y) (d ⊡ X) (p ⊡ r) (≤ℤ-≡ h (ring 1 (λ k. k ⊗ (# 0 ⊗ # 0) ≈ # 0) refl K′)) off
-        go (suc m) h = ≤ℤ-≡ (triangle (T .U-form) (T .U-form) (T .S-form) (T .nonneg) (0<pos 3) K′ (T .next X Y) (d ⊡ X) (p ⊡ r) {α = pos (suc m)} {β = pos 1} (0<pos m) (0<pos 0) h off) (ap (λ k. K′ *ℤ (pos k *ℤ pos k)) (add-one (suc m)))
+    next-energy = triangle-step (T .U-form) (T .U-form) (T .S-form) (T .nonneg) (0<pos 3) K′ (T .next X Y) (d ⊡ X) (p ⊡ r) n stepped off
 
     next-level : pos 16 *ℤ U X′ X′ ⩽ K′ *ℤ (pos (suc n * suc (suc n)) *ℤ pos (suc n * suc (suc n)))
     next-level = go n before (lin 3 (λ e k u. 4 *≤ # 4 ⊗ e ⊴ k ⊗ (u ⊗ u) ⇒ ⊩ # 16 ⊗ e ⊴ k ⊗ ((# 2 ⊗ u) ⊗ (# 2 ⊗ u))) refl (E T X′ (d ⊡ X)) K′ (pos (suc n)) next-energy)

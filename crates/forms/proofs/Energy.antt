@@ -2,10 +2,11 @@
 -- G measures a level, U and W stand in the place of D·G, and S is the form by which the scheme steps.
 use mathlib.Core.Path.{_≡_, refl, sym, ap, ap₂, _∙_}
 use mathlib.Core.Bool.{Bool}
-use Prim.Native.Nat.{ℕ}
+use Prim.Native.Nat.{ℕ, zero, suc}
+use native.Mathlib.Numerals.{add-one}
 use lib.IntN.{ℤ, pos, negℤ, _+ℤ_, _-ℤ_, _*ℤ_}
 use Rattle.integers.proofs.Ring.{#_, ⊝_, _⊕_, _⊖_, _⊗_, _≈_, ring}
-use Rattle.integers.proofs.Order.{_⩽_, _⋖_, square-nonneg, nonneg-add, nonneg-mul, mul-positive, *ℤ-cancel, <ℤ-weaken, ≡-≤ℤ, ≤ℤ-≡}
+use Rattle.integers.proofs.Order.{_⩽_, _⋖_, square-nonneg, nonneg-add, nonneg-mul, mul-positive, *ℤ-cancel, 0<pos, <ℤ-weaken, ≡-≤ℤ, ≤ℤ-≡}
 use Rattle.integers.proofs.Lin.{_⊴_, _*≤_, _*⊴_, _*≈_, _⇒_, ⊩_, ⊩≈_, lin, at-most-zero}
 use Rattle.forms.proofs.Level.{Level, _⊞_, _⊡_, Still}
 use Rattle.forms.proofs.Form.{Form, scale-right, scale-both, square-sum, square-combination}
@@ -14,7 +15,7 @@ abbrev pub energy : (U W S : Level → Level → ℤ) → Level → Level → �
 energy U W S a b = U a a +ℤ W b b -ℤ S a b
 
 -- the three parts replaced
-parts : {v v′ w w′ s s′ : ℤ} → v ≡ v′ → w ≡ w′ → s ≡ s′ → v +ℤ w -ℤ s ≡ v′ +ℤ w′ -ℤ s′
+pub parts : {v v′ w w′ s s′ : ℤ} → v ≡ v′ → w ≡ w′ → s ≡ s′ → v +ℤ w -ℤ s ≡ v′ +ℤ w′ -ℤ s′
 parts p q r = λ i. p i +ℤ q i -ℤ r i
 
 -- ---- an energy that is never negative
@@ -68,6 +69,13 @@ module _ {U W S : Level → Level → ℤ} (FV : Form U) (FW : Form W) (FS : For
         ≡-≤ℤ (ap (λ e. c *ℤ e) (energy-plus x z y))
         (lin 5 (λ c K e v m. 1 *≤ c ⊗ v ⊴ K ⇒ c *⊴ e ⊴ # 0 ⇒ c *⊴ m ⊴ # 0 ⇒ ⊩ c ⊗ (e ⊕ v ⊕ m) ⊴ K) refl
         c K (energy U W S x z) (U y y) (cross x z y) hy (<ℤ-weaken c-pos) e (<ℤ-weaken c-pos) m)
+
+  -- one more part of at most 1
+  pub triangle-step : {c : ℤ} → pos 0 ⋖ c → (K : ℤ) (x z y : Level) (n : ℕ) → c *ℤ energy U W S x z ⩽ K *ℤ (pos n *ℤ pos n) → c *ℤ U y y ⩽ K *ℤ (pos 1 *ℤ pos 1)
+      → c *ℤ energy U W S (x ⊞ y) z ⩽ K *ℤ (pos (suc n) *ℤ pos (suc n))
+  triangle-step c-pos K x z y zero hx hy = triangle-zero c-pos (K *ℤ (pos 1 *ℤ pos 1)) x z y (≤ℤ-≡ hx (ring 1 (λ k. k ⊗ (# 0 ⊗ # 0) ≈ # 0) refl K)) hy
+  triangle-step c-pos K x z y (suc m) hx hy =
+      ≤ℤ-≡ (triangle c-pos K x z y {α = pos (suc m)} {β = pos 1} (0<pos m) (0<pos 0) hx hy) (ap (λ k. K *ℤ (pos k *ℤ pos k)) (add-one (suc m)))
 
   module _ {c : ℤ} (c-pos : pos 0 ⋖ c) (K : ℤ) (a b : Level) where
     -- a level from the energy and the level before it: from 0 ≤ E(γa, (κ+γ)b)

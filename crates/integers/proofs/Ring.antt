@@ -31,6 +31,10 @@ infix 9 #_
 abbrev pub #_ : ℕ → E
 # n = con (pos n)
 
+infix 9 _²
+abbrev pub _² : E → E
+e ² = e ⊗ e
+
 abbrev pub nth : List ℤ → ℕ → ℤ
 nth [] i = pos 1
 nth (x ∷ ρ) zero = x

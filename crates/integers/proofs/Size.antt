@@ -1,10 +1,11 @@
 -- The size |z| of a whole number, natAbs z, under negation, sum, difference and product.
-use mathlib.Core.Path.{_≡_, refl}
+use mathlib.Core.Path.{_≡_, refl, sym, ap, subst}
 use mathlib.Core.Bool.{Bool, true, false, not, cond}
 use mathlib.Core.List.{List, [], _∷_}
 use Prim.Native.Nat.{ℕ, zero, suc, _+_, _-_, _*_, _≤_}
 use native.Mathlib.Nat.{le-refl}
 use native.Mathlib.Omega.{arith}
+use borrow.Author.Tests.{le-ltb}
 use lib.Dec.{T, ltb, ltb→lt}
 use lib.IntN.{ℤ, pos, negsuc, negℤ, natAbs, subℕ, _+ℤ_, _-ℤ_, _*ℤ_}
 use lib.ListN.{length}
@@ -41,9 +42,12 @@ size-mul (negsuc a) (pos b) = size-neg (pos (suc a * b))
 size-mul (negsuc a) (negsuc b) = refl
 
 -- a whole number taken from one that is at least as large
+pub pos-less : (n k : ℕ) → k ≤ n → pos n -ℤ pos k ≡ pos (n - k)
+pos-less n zero h = ap pos (omega arith)
+pos-less n (suc k) h = ap (λ (t : Bool). cond t (negsuc (suc k - suc n)) (pos (n - suc k))) (le-ltb n (suc k) h)
+
 pub size-less : (n k : ℕ) → k ≤ n → natAbs (pos n -ℤ pos k) ≤ n
-size-less n zero h = omega arith
-size-less n (suc k) h = cond-ind (ltb n (suc k)) (negsuc (suc k - suc n)) (pos (n - suc k)) (λ (z : ℤ). natAbs z ≤ n) (λ t. omega (arith, ltb→lt n (suc k) t)) (λ t. omega arith)
+size-less n k h = subst (λ (z : ℤ). natAbs z ≤ n) (sym (pos-less n k h)) (omega arith)
 
 -- a sum of terms that are each at most B
 pub size-over : (js : List ℕ) (f : ℕ → ℤ) (B : ℕ) → ((j : ℕ) → natAbs (f j) ≤ B) → natAbs (sumOver js f) ≤ length js * B

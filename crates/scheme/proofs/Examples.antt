@@ -10,7 +10,7 @@ use Rattle.scheme.specs.Pluck.{pluckAt, pluckLevel}
 use Rattle.scheme.specs.Refusals.{fixedNotZero, blockRefusal, pluckRefusal, readingRefusal, instrumentRefusal}
 use Rattle.scheme.specs.Calls.{play, block, pluck, reading}
 use Rattle.scheme.specs.Energy.{weight, squares, later, pairSum, laplacianSum, energy}
-use Rattle.scheme.specs.Book.{unroundedAt, unroundedStep, unroundedSteps, goesOn, bookBlock, bookPluck, call, calls}
+use Rattle.scheme.specs.Book.{unroundedAt, unroundedStep, unroundedSteps, goesOn, bookBlock, bookPluck, leaves, bookCall, calls}
 use Rattle.scheme.specs.Examples.{A, B, C, D, E, F, G, H, I, J, ExamplesHold}
 use Rattle.scheme.specs.FurtherExamples.{freeEndTwice, halfFree, barWithLoss, freeWithHit, fixedRing, roundRing, membraneStep, numbers, kinds, lineSizes, membraneSizes, roundSizes, coefficients, stability, stiffness, lengths, hits, forces, pickUps, highPoints, fixedPoints, pluckKinds, pluckLengths, pluckCentres, pluckHeights, widths, readingRefusals, lowestFirst, samples, readings, plucked, pluckedDown, pluckedFree, pluckedBoth, ringListing, endedBlock, atOnce, blockTurnedDown, emptyBlock, energies, bookGoesOn, bookStartsAnew, pluckedBook, pluckThenStep, distances, FurtherHold}
 
@@ -28,7 +28,7 @@ examples-hold I = (λ c r e. simp e, λ c r e. simp e)
 examples-hold J = (refl, refl)
 
 pub further-hold : FurtherHold
-unfolding sum sumOver tabulate someBelow only kindOf sizeIn stableIn roundEdge fixedIn moving freeIn beside neighbours laplacian innerLaplacian numerator roundAway nextAt nextLevel someBeyond sampleOf floatOf table pluckAt pluckLevel fixedNotZero blockRefusal pluckRefusal readingRefusal instrumentRefusal play block pluck reading weight squares later pairSum laplacianSum energy unroundedAt unroundedStep unroundedSteps goesOn bookBlock bookPluck call calls ofBits div ofInt
+unfolding sum sumOver tabulate someBelow only kindOf sizeIn stableIn roundEdge fixedIn moving freeIn beside neighbours laplacian innerLaplacian numerator roundAway nextAt nextLevel someBeyond sampleOf floatOf table pluckAt pluckLevel fixedNotZero blockRefusal pluckRefusal readingRefusal instrumentRefusal play block pluck reading weight squares later pairSum laplacianSum energy unroundedAt unroundedStep unroundedSteps goesOn bookBlock bookPluck leaves bookCall calls ofBits div ofInt
 further-hold freeEndTwice = refl
 further-hold halfFree = (refl, refl)
 further-hold barWithLoss = refl

@@ -9,12 +9,14 @@ use Rattle.scheme.specs.declared.Grid.{Grid}
 use Rattle.scheme.specs.declared.Instrument.{Instrument}
 use Rattle.scheme.specs.declared.Hit.{Hit}
 use Rattle.scheme.specs.declared.Hit.the-variants.{Absent}
+use Rattle.scheme.specs.declared.BlockAnswer.{BlockAnswer}
+use Rattle.scheme.specs.declared.Refusal.{Refusal}
 use Rattle.scheme.specs.Lists.{tabulate, point}
 use Rattle.scheme.specs.Instruments.{points, moving}
 use Rattle.scheme.specs.Step.{numerator, forceOf, divisor}
 use Rattle.scheme.specs.Table.{table}
 use Rattle.scheme.specs.Pluck.{pluckLevel}
-use Rattle.scheme.specs.Calls.{accepted, block, pluck}
+use Rattle.scheme.specs.Calls.{accepted, AfterBlock, block, AfterPluck, pluck}
 
 -- "the kind, grid and settings of its last step", if there was one
 pub data LastStep : Type 0 where
@@ -74,12 +76,49 @@ bookBlock i h older newer (suc k) b = unroundedSteps i h (suc k) (cond (goesOn i
 unfoldable pub bookPluck : Bool → List ℤ → Book → Book
 bookPluck done xs b = cond done (fresh (b .last) xs xs) b
 
--- ---- a list of calls
+-- ---- a call
 
 -- "Each block or pluck in it gets both levels as the last one left them": its other arguments
 pub data Call : Type 0 where
   blockCall : Instrument → (work samples : List ℤ) → ℕ → Hit → Call
   pluckCall : Grid → ℕ → ℕ → ℤ → Call
+
+-- what a call answers, and what it leaves in the slices lent to it beside the two levels
+pub data Outcome : Type 0 where
+  blockOutcome : BlockAnswer → (work samples : List ℤ) → Outcome
+  pluckOutcome : Refusal → Outcome
+
+abbrev pub stepsOf : Outcome → ℕ
+stepsOf (blockOutcome a work samples) = a .steps
+stepsOf (pluckOutcome r) = 0
+
+abbrev pub refusalOf : Outcome → Refusal
+refusalOf (blockOutcome a work samples) = a .refusal
+refusalOf (pluckOutcome r) = r
+
+-- all that a call leaves
+pub record Left : Type 0 where
+  pub outcome : Outcome
+  pub older : List ℤ
+  pub newer : List ℤ
+
+abbrev pub leftByBlock : AfterBlock → Left
+leftByBlock a = record { outcome = blockOutcome (a .answer) (a .work) (a .samples); older = a .older; newer = a .newer }
+
+abbrev pub leftByPluck : AfterPluck → Left
+leftByPluck a = record { outcome = pluckOutcome (a .refusal); older = a .older; newer = a .newer }
+
+-- a call of the two levels
+unfoldable pub leaves : Call → (older newer : List ℤ) → Left
+leaves (blockCall i work samples pick h) older newer = leftByBlock (block i older newer work samples pick h)
+leaves (pluckCall g c w a) older newer = leftByPluck (pluck g older newer c w a)
+
+-- "It is fed the calls' arguments, lent levels included, and each block's answered count of steps, which the rules above fix."
+unfoldable pub bookCall : Call → Outcome → (older newer : List ℤ) → Book → Book
+bookCall (blockCall i work samples pick h) o older newer b = bookBlock i h older newer (stepsOf o) b
+bookCall (pluckCall g c w a) o older newer b = bookPluck (accepted (refusalOf o)) (pluckLevel table g c w a) b
+
+-- ---- a list of calls
 
 -- the two levels, and the book beside them
 pub record State : Type 0 where
@@ -91,16 +130,22 @@ pub record State : Type 0 where
 abbrev pub start : (older newer : List ℤ) → State
 start older newer = record { older = older; newer = newer; book = fresh noStep older newer }
 
--- "It is fed the calls' arguments, lent levels included, and each block's answered count of steps"
-unfoldable pub call : Call → State → State
-call (blockCall i work samples pick h) t =
-    let r = block i (t .older) (t .newer) work samples pick h in
-    record { older = r .older; newer = r .newer; book = bookBlock i h (t .older) (t .newer) (r .answer .steps) (t .book) }
-call (pluckCall g c w a) t =
-    let r = pluck g (t .older) (t .newer) c w a in
-    record { older = r .older; newer = r .newer; book = bookPluck (accepted (r .refusal)) (pluckLevel table g c w a) (t .book) }
+-- the levels that a call left, and the book fed with it
+abbrev pub stateAfter : Call → Left → State → State
+stateAfter k l t = record { older = l .older; newer = l .newer; book = bookCall k (l .outcome) (t .older) (t .newer) (t .book) }
+
+abbrev pub called : Call → State → Left
+called k t = leaves k (t .older) (t .newer)
+
+-- each call's outcome, in order, and the state after the last
+pub record AfterCalls : Type 0 where
+  pub outcomes : List Outcome
+  pub state : State
 
 -- one call after the other
-unfoldable pub calls : List Call → State → State
-calls [] t = t
-calls (k ∷ ks) t = calls ks (call k t)
+unfoldable pub calls : List Call → State → AfterCalls
+calls [] t = record { outcomes = []; state = t }
+calls (k ∷ ks) t =
+    let l = called k t in
+    let rest = calls ks (stateAfter k l t) in
+    record { outcomes = l .outcome ∷ rest .outcomes; state = rest .state }

@@ -1,11 +1,13 @@
 -- Block, pluck and float reading: all that each answers and leaves, for every argument.
-use mathlib.Core.Bool.{Bool, cond}
+use mathlib.Core.Path.{_≡_}
+use mathlib.Core.Bool.{Bool, true, false, cond}
 use mathlib.Core.List.{List, [], _∷_}
-use Prim.Native.Nat.{ℕ, suc}
+use mathlib.Core.Logic.{_⊎_}
+use Prim.Native.Nat.{ℕ, zero, suc, _≤_, _<_}
 use lib.Dec.{eqb}
 use lib.Ieee.{binary64, ofInt}
 use lib.IntN.{ℤ, pos}
-use lib.ListN.{replicate}
+use lib.ListN.{length, replicate}
 use Rattle.scheme.specs.declared.Grid.{Grid}
 use Rattle.scheme.specs.declared.Instrument.{Instrument}
 use Rattle.scheme.specs.declared.Hit.{Hit}
@@ -19,7 +21,7 @@ use Rattle.scheme.specs.Instruments.{points}
 use Rattle.scheme.specs.Step.{nextLevel, someBeyond, sampleOf, floatOf}
 use Rattle.scheme.specs.Table.{table}
 use Rattle.scheme.specs.Pluck.{pluckLevel}
-use Rattle.scheme.specs.Refusals.{number, blockRefusal, pluckRefusal, readingRefusal}
+use Rattle.scheme.specs.Refusals.{number, wrongLength, blockRefusal, pluckRefusal, readingRefusal}
 
 -- "a call for which none applies is carried out"
 abbrev pub accepted : Refusal → Bool
@@ -52,6 +54,43 @@ play i pick h older newer (x ∷ xs) =
     let on = oneMore (sampleOf (point next pick)) (play i pick Absent newer next xs) in
     cond (someBeyond next) (ended NextBeyond older newer (x ∷ xs)) on
 
+-- ---- what stands behind the count of steps
+
+-- the two levels
+pub record Levels : Type 0 where
+  pub older : List ℤ
+  pub newer : List ℤ
+
+-- after k steps, the hit in the first of them
+unfoldable pub levelsAfter : Instrument → Hit → ℕ → (older newer : List ℤ) → Levels
+levelsAfter i h zero older newer = record { older = older; newer = newer }
+levelsAfter i h (suc k) older newer = levelsAfter i Absent k newer (nextLevel i h older newer)
+
+-- the hit of the step after k
+abbrev pub hitAfter : Hit → ℕ → Hit
+hitAfter h zero = h
+hitAfter h (suc k) = Absent
+
+-- "Steps done stand in the result and equal the definition's steps behind levels and samples": the levels and samples of exactly so many
+-- steps, none of them beyond the ceiling, the later places as they were, and why there were no more. Proved as `stands-behind`.
+pub record StandsBehind (i : Instrument) (pick : ℕ) (h : Hit) (older newer places : List ℤ) (p : AfterSteps) : Type 0 where
+  pub older-is : p .older ≡ levelsAfter i h (p .answer .steps) older newer .older
+  pub newer-is : p .newer ≡ levelsAfter i h (p .answer .steps) older newer .newer
+  pub low : (j : ℕ) → j < p .answer .steps → someBeyond (levelsAfter i h (suc j) older newer .newer) ≡ false
+  pub sampled : (j : ℕ) → j < p .answer .steps
+      → point (p .samples) j ≡ sampleOf (point (levelsAfter i h (suc j) older newer .newer) pick)
+  pub later : (j : ℕ) → p .answer .steps ≤ j → point (p .samples) j ≡ point places j
+  pub places-long : length (p .samples) ≡ length places
+  pub ends : ((p .answer .refusal ≡ Nothing) × (p .answer .steps ≡ length places))
+      ⊎ ((p .answer .refusal ≡ NextBeyond) × (p .answer .steps < length places) ×
+      (someBeyond (nextLevel i (hitAfter h (p .answer .steps)) (p .older) (p .newer)) ≡ true))
+
+abbrev pub StepsStandBehind : Type 0
+StepsStandBehind = (i : Instrument) (pick : ℕ) (h : Hit) (older newer places : List ℤ)
+    → StandsBehind i pick h older newer places (play i pick h older newer places)
+
+-- ---- all that a block leaves
+
 -- what a block answers, and its four lent slices afterwards
 pub record AfterBlock : Type 0 where
   pub answer : BlockAnswer
@@ -75,7 +114,7 @@ blockRefused r older newer work samples = blockLeft (record { steps = 0; refusal
 -- "The lowest number that applies answers, and a call for which none applies is carried out"
 unfoldable pub block : Instrument → (older newer work samples : List ℤ) → ℕ → Hit → AfterBlock
 block i older newer work samples pick h =
-    let r = blockRefusal i older newer work pick h in
+    let r = blockRefusal i older newer (wrongLength (i .grid) (length work)) pick h in
     let done = withWorkZero (points (i .grid)) (play i pick h older newer samples) in
     cond (accepted r) done (blockRefused r older newer work samples)
 
@@ -102,7 +141,7 @@ pluckRefused r older newer = pluckLeft r older newer
 -- "centre c, half width w, height a"
 unfoldable pub pluck : Grid → (older newer : List ℤ) → ℕ → ℕ → ℤ → AfterPluck
 pluck g older newer c w a =
-    let r = pluckRefusal g older newer c w a in
+    let r = pluckRefusal g (length older) (length newer) c w a in
     let done = overwritten (pluckLevel table g c w a) in
     cond (accepted r) done (pluckRefused r older newer)
 

@@ -87,4 +87,4 @@ Near newer (suc m) unrounded (stepOf i) = WithinBound i (suc m) newer unrounded
 -- "This is a single claim about the whole list": any two starting levels, any list of calls, refused ones included
 abbrev pub DistanceBound : Type 0
 DistanceBound = (older newer : List ℤ) (ks : List Call) →
-    let t = calls ks (start older newer) in Near (t .newer) (t .book .n) (t .book .newer) (t .book .last)
+    let t = calls ks (start older newer) .state in Near (t .newer) (t .book .n) (t .book .newer) (t .book .last)

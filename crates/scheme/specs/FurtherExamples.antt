@@ -1,10 +1,12 @@
 -- A second table: what A to J leave loose. Each kind's step, both sides of every refusal's border, samples, readings, plucks, blocks, energy, and the book of lists of calls.
 -- The numbers come from the reference in another language under host/, or by hand.
 use mathlib.Core.Path.{_≡_}
+use mathlib.Core.Bool.{false}
 use mathlib.Core.List.{List, [], _∷_, map}
 use Prim.Native.Nat.{ℕ, _+_, _^_}
 use lib.Ieee.{binary64, ofBits}
 use lib.IntN.{ℤ, pos}
+use lib.ListN.{length}
 use Rattle.scheme.specs.declared.Instrument.{Instrument}
 use Rattle.scheme.specs.declared.Hit.{Hit}
 use Rattle.scheme.specs.declared.Hit.the-variants.{Absent, At}
@@ -14,7 +16,7 @@ use Rattle.scheme.specs.Instruments.{ceiling}
 use Rattle.scheme.specs.Step.{nextLevel, sampleOf}
 use Rattle.scheme.specs.Table.{table}
 use Rattle.scheme.specs.Pluck.{pluckLevel}
-use Rattle.scheme.specs.Refusals.{number, instrumentRefusal, blockRefusal, pluckRefusal, readingRefusal}
+use Rattle.scheme.specs.Refusals.{number, wrongLength, instrumentRefusal, blockRefusal, pluckRefusal, readingRefusal}
 use Rattle.scheme.specs.Calls.{block, pluck, reading}
 use Rattle.scheme.specs.Energy.{energy}
 use Rattle.scheme.specs.Book.{stepOf, Call, blockCall, pluckCall, State, start, calls}
@@ -33,7 +35,7 @@ abbrev string : Instrument
 string = instrument 1 4 1 65536 0 0
 
 abbrev refusedBy : (older newer work : List ℤ) → ℕ → Hit → ℕ
-refusedBy older newer work pick h = number (blockRefusal string older newer work pick h)
+refusedBy older newer work pick h = number (blockRefusal string older newer (wrongLength (string .grid) (length work)) pick h)
 
 -- what a block of that string from rest with this hit is refused by
 abbrev hitRefusedBy : ℕ → ℤ → ℕ
@@ -41,7 +43,7 @@ hitRefusedBy p f = refusedBy rest rest rest 0 (At p f)
 
 -- what a pluck of a string of five points is refused by
 abbrev pluckRefusedBy : ℕ → (older newer : List ℤ) → ℕ → ℕ → ℤ → ℕ
-pluckRefusedBy k older newer c w a = number (pluckRefusal (grid k 5 1) older newer c w a)
+pluckRefusedBy k older newer c w a = number (pluckRefusal (grid k 5 1) (length older) (length newer) c w a)
 
 abbrev five : List ℤ
 five = level (0 ∷ 0 ∷ 0 ∷ 0 ∷ 0 ∷ [])
@@ -81,7 +83,7 @@ abbrev pluckTurnedDown : Call
 pluckTurnedDown = pluckCall (grid 1 4 1) 0 2 (pos 9)
 
 abbrev after : List Call → State
-after ks = calls ks (start (pos 0 ∷ pos 1 ∷ minus 2 ∷ pos 0 ∷ []) (level (0 ∷ 3 ∷ 4 ∷ 0 ∷ [])))
+after ks = calls ks (start (pos 0 ∷ pos 1 ∷ minus 2 ∷ pos 0 ∷ []) (level (0 ∷ 3 ∷ 4 ∷ 0 ∷ []))) .state
 
 pub data Further : Type 0 where
   -- one step
@@ -154,7 +156,7 @@ shows fixedPoints =
     ≡ 12 ∷ 12 ∷ 12 ∷ 12 ∷ 0 ∷ []
 shows pluckKinds =
     pluckRefusedBy 0 five five 2 1 (pos 0) ∷ pluckRefusedBy 1 five five 2 1 (pos 0) ∷ pluckRefusedBy 2 five five 2 1 (pos 0) ∷ pluckRefusedBy 3 five five 2 1 (pos 0) ∷ pluckRefusedBy 4 five five 2 1 (pos 0) ∷
-    pluckRefusedBy 5 five five 2 1 (pos 0) ∷ pluckRefusedBy 6 five five 2 1 (pos 0) ∷ pluckRefusedBy 7 five five 2 1 (pos 0) ∷ number (pluckRefusal (grid 1 5 2) five five 2 1 (pos 0)) ∷ []
+    pluckRefusedBy 5 five five 2 1 (pos 0) ∷ pluckRefusedBy 6 five five 2 1 (pos 0) ∷ pluckRefusedBy 7 five five 2 1 (pos 0) ∷ number (pluckRefusal (grid 1 5 2) 5 5 2 1 (pos 0)) ∷ []
     ≡ 1 ∷ 0 ∷ 0 ∷ 0 ∷ 0 ∷ 1 ∷ 1 ∷ 1 ∷ 2 ∷ []
 shows pluckLengths = pluckRefusedBy 1 rest five 2 1 (pos 0) ∷ pluckRefusedBy 1 five rest 2 1 (pos 0) ∷ pluckRefusedBy 1 (level (above ∷ 1 ∷ 1 ∷ 1 ∷ 1 ∷ [])) five 2 1 (pos 0) ∷ [] ≡ 6 ∷ 6 ∷ 0 ∷ []
 shows pluckCentres = pluckRefusedBy 1 five five 0 1 (pos 0) ∷ pluckRefusedBy 1 five five 4 1 (pos 0) ∷ pluckRefusedBy 2 five five 4 1 (pos 0) ∷ pluckRefusedBy 3 five five 0 1 (pos 0) ∷ pluckRefusedBy 3 five five 5 1 (pos 0) ∷ [] ≡ 7 ∷ 7 ∷ 0 ∷ 0 ∷ 7 ∷ []
@@ -166,8 +168,8 @@ shows readingRefusals =
     ≡ 1 ∷ 2 ∷ 6 ∷ 9 ∷ 11 ∷ 12 ∷ 0 ∷ []
 -- where several apply
 shows lowestFirst =
-    number (blockRefusal (instrument 9 1 9 65537 1 0) five rest rest 9 (At 9 (pos above))) ∷ number (blockRefusal (instrument 1 2 1 65537 1 0) five rest rest 9 (At 9 (pos above))) ∷
-    number (blockRefusal (instrument 1 4 1 65537 1 0) five rest rest 9 (At 9 (pos above))) ∷ number (blockRefusal (instrument 1 4 1 0 1 0) five rest rest 9 (At 9 (pos above))) ∷
+    number (blockRefusal (instrument 9 1 9 65537 1 0) five rest false 9 (At 9 (pos above))) ∷ number (blockRefusal (instrument 1 2 1 65537 1 0) five rest false 9 (At 9 (pos above))) ∷
+    number (blockRefusal (instrument 1 4 1 65537 1 0) five rest false 9 (At 9 (pos above))) ∷ number (blockRefusal (instrument 1 4 1 0 1 0) five rest false 9 (At 9 (pos above))) ∷
     refusedBy five (level (1 ∷ above ∷ 0 ∷ 0 ∷ [])) rest 9 (At 9 (pos above)) ∷ refusedBy rest (level (1 ∷ above ∷ 0 ∷ 0 ∷ [])) rest 9 (At 9 (pos above)) ∷
     refusedBy rest (level (1 ∷ above ∷ 0 ∷ 0 ∷ [])) rest 9 (At 1 (pos above)) ∷ refusedBy rest (level (1 ∷ above ∷ 0 ∷ 0 ∷ [])) rest 9 (At 1 (pos 1)) ∷ refusedBy rest (level (1 ∷ above ∷ 0 ∷ 0 ∷ [])) rest 0 Absent ∷ []
     ≡ 1 ∷ 2 ∷ 4 ∷ 5 ∷ 6 ∷ 7 ∷ 8 ∷ 9 ∷ 11 ∷ []

@@ -61,6 +61,10 @@ sizeIn bar c r = lineSize c r
 sizeIn membrane c r = within 3 64 c && within 3 64 r
 sizeIn roundMembrane c r = within 3 64 c && eqb r c
 
+-- the table has these columns and rows for this kind
+abbrev pub inTable : Grid → Bool
+inTable g = sizeIn (kind g) (g .columns) (g .rows)
+
 -- "Stable means: kinds 1 to 3, q ≤ 65536; kind 4, q + 4m ≤ 65536; kinds 5 and 6, 2q ≤ 65536. Only kind 4 may have m above 0."
 unfoldable pub stableIn : Kind → ℕ → ℕ → Bool
 stableIn unknown q m = false

@@ -2,6 +2,7 @@
 pub mod Lists
 pub mod Instruments
 pub mod Step
+pub mod Ranges
 pub mod Table
 pub mod Pluck
 pub mod Refusals
@@ -9,6 +10,7 @@ pub mod Calls
 pub mod Energy
 pub mod Book
 pub mod Claims
+pub mod Passing
 pub mod Program
 pub mod Examples
 pub mod FurtherExamples

@@ -13,7 +13,7 @@ use Rattle.scheme.specs.declared.Hit.the-variants.{Absent, At}
 use Rattle.scheme.specs.declared.Refusal.{Refusal}
 use Rattle.scheme.specs.declared.Refusal.the-variants.{Nothing, UnknownKind, WrongSize, SheetNumber, Coefficient, Unstable, WrongLength, NotMoving, TooStrong, PickUp, HalfWidth, PointBeyond, FixedNotZero, NextBeyond}
 use Rattle.scheme.specs.Lists.{point, someBelow}
-use Rattle.scheme.specs.Instruments.{D, Kind, unknown, fixedString, halfFreeString, freeString, bar, membrane, roundMembrane, kind, beyond, points, sizeIn, stableIn, fixed, moving}
+use Rattle.scheme.specs.Instruments.{D, kind, beyond, points, within, inTable, stableIn, fixed, moving}
 use Rattle.scheme.specs.Step.{someBeyond}
 
 -- the paper's number of each, 0 for none
@@ -33,29 +33,20 @@ number PointBeyond = 11
 number FixedNotZero = 12
 number NextBeyond = 13
 
--- 1 "Kind not 1..6"
-abbrev pub known : Kind → Bool
-known unknown = false
-known fixedString = true
-known halfFreeString = true
-known freeString = true
-known bar = true
-known membrane = true
-known roundMembrane = true
+-- the last kind, and the last that a pluck admits
+abbrev pub lastKind : ℕ
+lastKind = 6
 
--- 1 "for a pluck not 1..4"
-abbrev pub plucked : Kind → Bool
-plucked unknown = false
-plucked fixedString = true
-plucked halfFreeString = true
-plucked freeString = true
-plucked bar = true
-plucked membrane = false
-plucked roundMembrane = false
+abbrev pub lastPlucked : ℕ
+lastPlucked = 4
+
+-- 1 "Kind not 1..6; for a pluck not 1..4"
+abbrev pub unknownKind : (last : ℕ) → Grid → Bool
+unknownKind last g = not (within 1 last (g .kind))
 
 -- 2 "Columns or rows outside the table"
 abbrev pub wrongSize : Grid → Bool
-wrongSize g = not (sizeIn (kind g) (g .columns) (g .rows))
+wrongSize g = not (inTable g)
 
 -- 4 "A coefficient that .. is not in 0..65536"
 abbrev pub wrongCoefficient : Settings → Bool
@@ -65,9 +56,9 @@ wrongCoefficient c = ltb D (c .q) || ltb D (c .m) || ltb D (c .s)
 abbrev pub unstable : Instrument → Bool
 unstable i = not (stableIn (kind (i .grid)) (i .settings .q) (i .settings .m))
 
--- 6 "A lent level (work too) whose length is not columns × rows"
-abbrev pub wrongLength : Grid → List ℤ → Bool
-wrongLength g xs = not (eqb (length xs) (points g))
+-- 6 "A lent level (work too) whose length is not columns × rows": of n points
+abbrev pub wrongLength : Grid → ℕ → Bool
+wrongLength g n = not (eqb n (points g))
 
 -- 7 "Hit or pluck centre not a moving point"
 abbrev pub notMoving : Grid → Hit → Bool
@@ -118,16 +109,20 @@ standsIn (n ∷ ns) ((b ⇒ r) ∷ cs) = cond (eqb n (number r)) (standsIn ns cs
 
 -- ---- checks that calls share
 
--- 1 and 2
-abbrev pub gridChecks : (Kind → Bool) → Grid → List Check
-gridChecks admitted g = not (admitted (kind g)) ⇒ UnknownKind ∷ wrongSize g ⇒ WrongSize ∷ []
+-- 1 and 2, of a call that admits kinds 1..last
+abbrev pub gridChecks : (last : ℕ) → Grid → List Check
+gridChecks last g = unknownKind last g ⇒ UnknownKind ∷ wrongSize g ⇒ WrongSize ∷ []
+
+-- 4 and 5
+abbrev pub settingsChecks : Instrument → List Check
+settingsChecks i = wrongCoefficient (i .settings) ⇒ Coefficient ∷ unstable i ⇒ Unstable ∷ []
 
 -- 1, 2, 4 and 5
 abbrev pub instrumentChecks : Instrument → List Check
-instrumentChecks i = gridChecks known (i .grid) ++ (wrongCoefficient (i .settings) ⇒ Coefficient ∷ unstable i ⇒ Unstable ∷ [])
+instrumentChecks i = gridChecks lastKind (i .grid) ++ settingsChecks i
 
 -- 6, of a test of all that is lent
-abbrev pub lengthChecks : Bool → List Check
+abbrev pub lengthChecks : (wrong : Bool) → List Check
 lengthChecks wrong = wrong ⇒ WrongLength ∷ []
 
 -- 7 and 8
@@ -143,31 +138,38 @@ abbrev pub widthChecks : Grid → ℕ → List Check
 widthChecks g w = wrongWidth g w ⇒ HalfWidth ∷ []
 
 -- 11 and 12, of tests of all levels that are lent
-abbrev pub stateChecks : Bool → Bool → List Check
+abbrev pub stateChecks : (high unfixed : Bool) → List Check
 stateChecks high unfixed = high ⇒ PointBeyond ∷ unfixed ⇒ FixedNotZero ∷ []
 
 -- ---- the checks of each call
 
--- "A block meets 1, 2, 4 to 9 and 11 to 13, with 7 and 8 only if a hit is given": all but 13
-abbrev pub blockChecks : Instrument → (older newer work : List ℤ) → ℕ → Hit → List Check
-blockChecks i older newer work pick h =
-    let g = i .grid in
-    instrumentChecks i ++ (lengthChecks (wrongLength g older || wrongLength g newer || wrongLength g work) ++ (hitChecks g h ++ (pickChecks g pick ++
-    stateChecks (someBeyond older || someBeyond newer) (fixedNotZero g older || fixedNotZero g newer))))
+-- "Refusals from the input" of a block: 1, 2 and 4 to 9
+abbrev pub inputChecks : Instrument → (wrong : Bool) → ℕ → Hit → List Check
+inputChecks i wrong pick h = instrumentChecks i ++ (lengthChecks wrong ++ (hitChecks (i .grid) h ++ pickChecks (i .grid) pick))
 
-unfoldable pub blockRefusal : Instrument → (older newer work : List ℤ) → ℕ → Hit → Refusal
-blockRefusal i older newer work pick h = lowest (blockChecks i older newer work pick h)
+-- "A block meets 1, 2, 4 to 9 and 11 to 13, with 7 and 8 only if a hit is given": all but 13; `wrong` is 6's test of what else is lent
+abbrev pub blockChecks : Instrument → (older newer : List ℤ) → (wrong : Bool) → ℕ → Hit → List Check
+blockChecks i older newer wrong pick h =
+    let g = i .grid in
+    inputChecks i (wrongLength g (length older) || wrongLength g (length newer) || wrong) pick h ++
+    stateChecks (someBeyond older || someBeyond newer) (fixedNotZero g older || fixedNotZero g newer)
+
+unfoldable pub blockRefusal : Instrument → (older newer : List ℤ) → (wrong : Bool) → ℕ → Hit → Refusal
+blockRefusal i older newer wrong pick h = lowest (blockChecks i older newer wrong pick h)
 
 -- "A pluck (kind, columns, rows, two levels, centre, half width, height) meets 1, 2, 6, 7, 8 and 10": centre c, half width w, height a
-abbrev pub pluckChecks : Grid → (older newer : List ℤ) → ℕ → ℕ → ℤ → List Check
-pluckChecks g older newer c w a = gridChecks plucked g ++ (lengthChecks (wrongLength g older || wrongLength g newer) ++ (hitChecks g (At c a) ++ widthChecks g w))
+abbrev pub pluckChecks : Grid → (wrong : Bool) → ℕ → ℕ → ℤ → List Check
+pluckChecks g wrong c w a = gridChecks lastPlucked g ++ (lengthChecks wrong ++ (hitChecks g (At c a) ++ widthChecks g w))
 
-unfoldable pub pluckRefusal : Grid → (older newer : List ℤ) → ℕ → ℕ → ℤ → Refusal
-pluckRefusal g older newer c w a = lowest (pluckChecks g older newer c w a)
+-- "A pluck looks at lent lengths, not at old contents."
+unfoldable pub pluckRefusal : Grid → (older newer : ℕ) → ℕ → ℕ → ℤ → Refusal
+pluckRefusal g older newer c w a = lowest (pluckChecks g (wrongLength g older || wrongLength g newer) c w a)
 
 -- "The float reading (kind, columns, rows, newer, pick-up) meets 1, 2, 6, 9, 11 and 12"
 abbrev pub readingChecks : Grid → List ℤ → ℕ → List Check
-readingChecks g newer pick = gridChecks known g ++ (lengthChecks (wrongLength g newer) ++ (pickChecks g pick ++ stateChecks (someBeyond newer) (fixedNotZero g newer)))
+readingChecks g newer pick =
+    gridChecks lastKind g ++ (lengthChecks (wrongLength g (length newer)) ++
+    (pickChecks g pick ++ stateChecks (someBeyond newer) (fixedNotZero g newer)))
 
 unfoldable pub readingRefusal : Grid → List ℤ → ℕ → Refusal
 readingRefusal g newer pick = lowest (readingChecks g newer pick)
@@ -178,6 +180,6 @@ instrumentRefusal i = lowest (instrumentChecks i)
 
 -- each call's checks stand in the order of their numbers, so that `lowest` answers the lowest that applies
 pub record ChecksInOrder : Type 0 where
-  pub block : (i : Instrument) (older newer work : List ℤ) (pick : ℕ) (h : Hit) → T (standsIn order (blockChecks i older newer work pick h))
-  pub pluck : (g : Grid) (older newer : List ℤ) (c w : ℕ) (a : ℤ) → T (standsIn order (pluckChecks g older newer c w a))
+  pub block : (i : Instrument) (older newer : List ℤ) (wrong : Bool) (pick : ℕ) (h : Hit) → T (standsIn order (blockChecks i older newer wrong pick h))
+  pub pluck : (g : Grid) (wrong : Bool) (c w : ℕ) (a : ℤ) → T (standsIn order (pluckChecks g wrong c w a))
   pub reading : (g : Grid) (newer : List ℤ) (pick : ℕ) → T (standsIn order (readingChecks g newer pick))

@@ -46,6 +46,11 @@ pub struct Grid {
 }
 
 impl Grid {
+    // The last kind, and the last that a pluck admits.
+    pub const LAST: u64 = 6;
+
+    pub const LAST_PLUCKED: u64 = 4;
+
     // Ruled out: columns and rows exchanged; one row whatever is asked.
     pub fn new(kind: u64, columns: usize, rows: usize) -> Grid
         ensures { λ r. ⌜ r ≡ record { kind = kind; columns = columns; rows = rows } ⌝ }

@@ -19,13 +19,13 @@ use Rattle.scheme.specs.Instruments.{points, fixed}
 use Rattle.scheme.specs.Step.{nextLevel, someBeyond, sampleOf, floatOf}
 use Rattle.scheme.specs.Table.{table}
 use Rattle.scheme.specs.Pluck.{pluckAt, pluckLevel}
-use Rattle.scheme.specs.Refusals.{fixedNotZero, blockRefusal, pluckRefusal, readingRefusal}
-use Rattle.scheme.specs.Calls.{accepted, AfterSteps, ended, oneMore, play, AfterBlock, withWorkZero, blockRefused, block, AfterPluck, overwritten, pluckRefused, pluck, reading}
+use Rattle.scheme.specs.Refusals.{wrongLength, fixedNotZero, blockRefusal, pluckRefusal, readingRefusal}
+use Rattle.scheme.specs.Calls.{accepted, AfterSteps, ended, oneMore, play, levelsAfter, hitAfter, StandsBehind, StepsStandBehind, AfterBlock, withWorkZero, blockRefused, block, AfterPluck, overwritten, pluckRefused, pluck, reading}
 use Rattle.scheme.specs.Claims.{LevelPasses}
 use Rattle.scheme.proofs.Laws.Bools.{cases}
 use Rattle.scheme.proofs.Laws.Lists.{length-tabulate, none-below}
 use Rattle.scheme.proofs.Laws.Step.{fixed-still, length-next, next-fixed}
-use Rattle.scheme.proofs.Laws.Refusals.{accepted-is, block-passes, pluck-passes}
+use Rattle.scheme.proofs.Laws.Refusals.{accepted-is, right-length, block-passes, pluck-passes}
 
 -- a next level within the ceiling passes
 pub next-passes : (i : Instrument) (h : Hit) (older newer : List ℤ) → someBeyond (nextLevel i h older newer) ≡ false → LevelPasses (i .grid) (nextLevel i h older newer)
@@ -50,33 +50,7 @@ module _ (i : Instrument) (pick : ℕ) (h : Hit) (older newer : List ℤ) (x : �
   unfolding play
   play-goes e = simp e
 
--- the two levels
-pub record Levels : Type 0 where
-  pub older : List ℤ
-  pub newer : List ℤ
-
--- after k steps, the hit in the first of them
-unfoldable pub levelsAfter : Instrument → Hit → ℕ → (older newer : List ℤ) → Levels
-levelsAfter i h zero older newer = record { older = older; newer = newer }
-levelsAfter i h (suc k) older newer = levelsAfter i Absent k newer (nextLevel i h older newer)
-
--- the hit of the step after k
-abbrev pub hitAfter : Hit → ℕ → Hit
-hitAfter h zero = h
-hitAfter h (suc k) = Absent
-
--- what stands behind the count: the levels and samples of exactly so many steps, none of them beyond the ceiling, the later places as they were, and why there were no more
-pub record StandsBehind (i : Instrument) (pick : ℕ) (h : Hit) (older newer places : List ℤ) (p : AfterSteps) : Type 0 where
-  pub older-is : p .older ≡ levelsAfter i h (p .answer .steps) older newer .older
-  pub newer-is : p .newer ≡ levelsAfter i h (p .answer .steps) older newer .newer
-  pub low : (j : ℕ) → j < p .answer .steps → someBeyond (levelsAfter i h (suc j) older newer .newer) ≡ false
-  pub sampled : (j : ℕ) → j < p .answer .steps → point (p .samples) j ≡ sampleOf (point (levelsAfter i h (suc j) older newer .newer) pick)
-  pub later : (j : ℕ) → p .answer .steps ≤ j → point (p .samples) j ≡ point places j
-  pub places-long : length (p .samples) ≡ length places
-  pub ends : ((p .answer .refusal ≡ Nothing) × (p .answer .steps ≡ length places))
-      ⊎ ((p .answer .refusal ≡ NextBeyond) × (p .answer .steps < length places) × (someBeyond (nextLevel i (hitAfter h (p .answer .steps)) (p .older) (p .newer)) ≡ true))
-
-pub stands-behind : (i : Instrument) (pick : ℕ) (h : Hit) (older newer places : List ℤ) → StandsBehind i pick h older newer places (play i pick h older newer places)
+pub stands-behind : StepsStandBehind
 unfolding play levelsAfter
 stands-behind i pick h older newer [] = record {
   older-is = refl;
@@ -152,20 +126,20 @@ after-passes i h (suc k) older newer low a b =
 -- ---- a block
 
 module _ (i : Instrument) (older newer work samples : List ℤ) (pick : ℕ) (h : Hit) where
-  pub block-done : blockRefusal i older newer work pick h ≡ Nothing → block i older newer work samples pick h ≡ withWorkZero (points (i .grid)) (play i pick h older newer samples)
+  pub block-done : blockRefusal i older newer (wrongLength (i .grid) (length work)) pick h ≡ Nothing → block i older newer work samples pick h ≡ withWorkZero (points (i .grid)) (play i pick h older newer samples)
   unfolding block
   block-done e = simp e
 
-  pub block-refused : accepted (blockRefusal i older newer work pick h) ≡ false
-      → block i older newer work samples pick h ≡ blockRefused (blockRefusal i older newer work pick h) older newer work samples
+  pub block-refused : accepted (blockRefusal i older newer (wrongLength (i .grid) (length work)) pick h) ≡ false
+      → block i older newer work samples pick h ≡ blockRefused (blockRefusal i older newer (wrongLength (i .grid) (length work)) pick h) older newer work samples
   unfolding block
   block-refused e = simp e
 
   -- what an accepted block leaves passes 11 and 12
-  pub accepted-leaves : blockRefusal i older newer work pick h ≡ Nothing
+  pub accepted-leaves : blockRefusal i older newer (wrongLength (i .grid) (length work)) pick h ≡ Nothing
       → LevelPasses (i .grid) (block i older newer work samples pick h .older) × LevelPasses (i .grid) (block i older newer work samples pick h .newer)
   accepted-leaves e =
-      let w = block-passes i older newer work pick h e in
+      let w = block-passes i older newer (wrongLength (i .grid) (length work)) pick h e in
       let s = stands-behind i pick h older newer samples in
       let p = after-passes i h (play i pick h older newer samples .answer .steps) older newer (s .low) (w .older-passes) (w .newer-passes) in
       subst (λ (r : AfterBlock). LevelPasses (i .grid) (r .older) × LevelPasses (i .grid) (r .newer)) (sym (block-done e))
@@ -179,17 +153,17 @@ module _ (i : Instrument) (older newer work samples : List ℤ) (pick : ℕ) (h 
     pub samples-long : length (r .samples) ≡ length samples
 
   pub block-lengths : SameLengths (block i older newer work samples pick h)
-  block-lengths = go (accepted (blockRefusal i older newer work pick h)) refl
+  block-lengths = go (accepted (blockRefusal i older newer (wrongLength (i .grid) (length work)) pick h)) refl
     where
-      go : (t : Bool) → accepted (blockRefusal i older newer work pick h) ≡ t → SameLengths (block i older newer work samples pick h)
+      go : (t : Bool) → accepted (blockRefusal i older newer (wrongLength (i .grid) (length work)) pick h) ≡ t → SameLengths (block i older newer work samples pick h)
       go true e =
           let n = accepted-is _ e in
-          let w = block-passes i older newer work pick h n in
+          let w = block-passes i older newer (wrongLength (i .grid) (length work)) pick h n in
           let p = accepted-leaves n in
           record {
             older-long = p .0 .long ∙ sym (w .older-passes .long);
             newer-long = p .1 .long ∙ sym (w .newer-passes .long);
-            work-long = ap (λ (r : AfterBlock). length (r .work)) (block-done n) ∙ length-replicate (points (i .grid)) (pos 0) ∙ sym (w .work-long);
+            work-long = ap (λ (r : AfterBlock). length (r .work)) (block-done n) ∙ length-replicate (points (i .grid)) (pos 0) ∙ sym (right-length (i .grid) (length work) (w .rest-right));
             samples-long = ap (λ (r : AfterBlock). length (r .samples)) (block-done n) ∙ stands-behind i pick h older newer samples .places-long;
           }
       go false e = subst SameLengths (sym (block-refused e)) (record { older-long = refl; newer-long = refl; work-long = refl; samples-long = refl })
@@ -197,25 +171,25 @@ module _ (i : Instrument) (older newer work samples : List ℤ) (pick : ℕ) (h 
 -- ---- a pluck
 
 module _ (g : Grid) (older newer : List ℤ) (c w : ℕ) (a : ℤ) where
-  pub pluck-done : pluckRefusal g older newer c w a ≡ Nothing → pluck g older newer c w a ≡ overwritten (pluckLevel table g c w a)
+  pub pluck-done : pluckRefusal g (length older) (length newer) c w a ≡ Nothing → pluck g older newer c w a ≡ overwritten (pluckLevel table g c w a)
   unfolding pluck
   pluck-done e = simp e
 
-  pub pluck-refused : accepted (pluckRefusal g older newer c w a) ≡ false → pluck g older newer c w a ≡ pluckRefused (pluckRefusal g older newer c w a) older newer
+  pub pluck-refused : accepted (pluckRefusal g (length older) (length newer) c w a) ≡ false → pluck g older newer c w a ≡ pluckRefused (pluckRefusal g (length older) (length newer) c w a) older newer
   unfolding pluck
   pluck-refused e = simp e
 
   pub pluck-lengths : (length (pluck g older newer c w a .older) ≡ length older) × (length (pluck g older newer c w a .newer) ≡ length newer)
   unfolding pluckLevel
-  pluck-lengths = go (accepted (pluckRefusal g older newer c w a)) refl
+  pluck-lengths = go (accepted (pluckRefusal g (length older) (length newer) c w a)) refl
     where
       Kept : AfterPluck → Type 0
       Kept r = (length (r .older) ≡ length older) × (length (r .newer) ≡ length newer)
 
-      go : (t : Bool) → accepted (pluckRefusal g older newer c w a) ≡ t → Kept (pluck g older newer c w a)
+      go : (t : Bool) → accepted (pluckRefusal g (length older) (length newer) c w a) ≡ t → Kept (pluck g older newer c w a)
       go true e =
           let n = accepted-is _ e in
-          let v = pluck-passes g older newer c w a n in
+          let v = pluck-passes g (length older) (length newer) c w a n in
           let l = length-tabulate (points g) (pluckAt table g c w a) in
           subst Kept (sym (pluck-done n)) (l ∙ sym (v .older-long), l ∙ sym (v .newer-long))
       go false e = subst Kept (sym (pluck-refused e)) (refl, refl)

@@ -2,7 +2,7 @@
 use mathlib.Core.Path.{_≡_, refl, ap}
 use mathlib.Core.Bool.{Bool, true, false, cond, _||_}
 use mathlib.Core.List.{_++_}
-use Prim.Native.Nat.{ℕ, _+_, _*_, _^_, _≤_, _<_, zero-le}
+use Prim.Native.Nat.{ℕ, _+_, _*_, _≤_, _<_, zero-le}
 use native.Mathlib.Nat as N
 use native.Mathlib.Omega.{arith}
 use borrow.Author.Tests.{ltb-true, ltb-false}
@@ -18,17 +18,14 @@ use Rattle.scheme.specs.declared.Settings.{Settings}
 use Rattle.scheme.specs.declared.Grid.{Grid}
 use Rattle.scheme.specs.declared.Instrument.{Instrument}
 use Rattle.scheme.specs.Instruments.{D, ceiling, kind, points, moving, freeEnd, sizeIn}
-use Rattle.scheme.specs.Step.{beside, neighbours, laplacian, innerLaplacian, biharmonic, numeratorOf}
+use Rattle.scheme.specs.Step.{beside, neighbours, laplacian, innerLaplacian, biharmonic}
+use Rattle.scheme.specs.Ranges.{AtMost, Terms, PartialSums}
 use Rattle.scheme.specs.Refusals.{wrongCoefficient}
 use Rattle.scheme.specs.Energy.{weight}
 use Rattle.scheme.proofs.Laws.Bools.{or-neither}
 use Rattle.scheme.proofs.Laws.Kinds.{degree, few, stable-means}
 use Rattle.scheme.proofs.Laws.Step.{outside-still}
-use Rattle.scheme.proofs.Laws.Refusals.{InstrumentPasses}
-
--- every value of a level is at most B
-abbrev pub Within : ℕ → Level → Type 0
-Within B a = (k : ℕ) → natAbs (a k) ≤ B
+use Rattle.scheme.specs.Passing.{InstrumentPasses}
 
 module _ (g : Grid) (size : sizeIn (kind g) (g .columns) (g .rows) ≡ true) where
   abbrev K : ℕ
@@ -43,7 +40,7 @@ module _ (g : Grid) (size : sizeIn (kind g) (g .columns) (g .rows) ≡ true) whe
       go true h = omega (arith, length-append (beside g k) (beside g k), N.mul-one K)
       go false h = omega (arith, N.mul-comm K 2)
 
-  pub laplacian-size : (B : ℕ) (a : Level) → Within B a → (k : ℕ) → k < points g → natAbs (laplacian g a k) ≤ 2 * K * B
+  pub laplacian-size : (B : ℕ) (a : Level) → AtMost B a → (k : ℕ) → k < points g → natAbs (laplacian g a k) ≤ 2 * K * B
   unfolding laplacian
   laplacian-size B a h k p =
       let n : ℕ = length (neighbours g k) in
@@ -51,7 +48,7 @@ module _ (g : Grid) (size : sizeIn (kind g) (g .columns) (g .rows) ≡ true) whe
       let own : n * natAbs (a k) ≤ n * B = N.mul-le-mul-left n (h k) in
       omega (arith, size-minus (sumOver (neighbours g k) a) (pos n *ℤ a k), size-over (neighbours g k) a B h, size-mul (pos n) (a k), N.mul-assoc 2 K B)
 
-  pub inner-size : (B : ℕ) (a : Level) → Within B a → Within (2 * K * B) (innerLaplacian g a)
+  pub inner-size : (B : ℕ) (a : Level) → AtMost B a → AtMost (2 * K * B) (innerLaplacian g a)
   unfolding innerLaplacian
   inner-size B a h k = go (ltb k (points g)) refl
     where
@@ -63,17 +60,10 @@ module _ (g : Grid) (size : sizeIn (kind g) (g .columns) (g .rows) ≡ true) whe
       go true e = bounded (moving g k) (laplacian-size B a h k (ltb-true k (points g) e))
       go false e = omega (arith, ap (λ (t : Bool). natAbs (cond t (laplacian g a k) (pos 0))) (outside-still g k (ltb-false k (points g) e)))
 
-  pub biharmonic-size : (B : ℕ) (a : Level) → Within B a → (k : ℕ) → k < points g → natAbs (biharmonic g a k) ≤ 2 * K * (2 * K * B)
+  pub biharmonic-size : (B : ℕ) (a : Level) → AtMost B a → (k : ℕ) → k < points g → natAbs (biharmonic g a k) ≤ 2 * K * (2 * K * B)
   biharmonic-size B a h k p = laplacian-size (2 * K * B) (innerLaplacian g a) (inner-size B a h) k p
 
 -- ---- the terms of the numerator
-
--- 8·D·C ≤ 2⁶², in eighths of D·C
-pub record Terms (c : Settings) (u l b p f : ℤ) : Type 0 where
-  pub own : natAbs (pos (2 * D) *ℤ u) ≤ 2 * (D * ceiling)
-  pub neighbouring : natAbs (pos (c .q) *ℤ l) + natAbs (pos (c .m) *ℤ b) ≤ 4 * (D * ceiling)
-  pub older : natAbs ((pos D -ℤ pos (c .s)) *ℤ p) ≤ D * ceiling
-  pub force : natAbs (pos D *ℤ f) ≤ D * ceiling
 
 -- "Each is 0..65536."
 pub coefficients-small : (c : Settings) → wrongCoefficient c ≡ false → (c .q ≤ D) × (c .m ≤ D) × (c .s ≤ D)
@@ -86,7 +76,7 @@ module _ (i : Instrument) (ok : InstrumentPasses i) where
   abbrev c : Settings
   c = i .settings
 
-  pub numerator-terms : (newer older force : Level) → Within ceiling newer → Within ceiling older → Within ceiling force → (k : ℕ) → k < points (i .grid)
+  pub numerator-terms : (newer older force : Level) → AtMost ceiling newer → AtMost ceiling older → AtMost ceiling force → (k : ℕ) → k < points (i .grid)
       → Terms c (newer k) (laplacian (i .grid) newer k) (biharmonic (i .grid) newer k) (older k) (force k)
   numerator-terms newer older force hn ho hf k p = record {
     own = omega (arith, size-mul (pos (2 * D)) (newer k), hn k);
@@ -121,14 +111,6 @@ module _ (i : Instrument) (ok : InstrumentPasses i) where
 
       e : c .q * (2 * G * C) + c .m * (2 * G * (2 * G * C)) ≡ 2 * ((G * c .q + 2 * (G * G) * c .m) * C)
       e = pos-inj (ring 4 (λ q m G C. q ⊗ (# 2 ⊗ G ⊗ C) ⊕ m ⊗ (# 2 ⊗ G ⊗ (# 2 ⊗ G ⊗ C)) ≈ # 2 ⊗ ((G ⊗ q ⊕ # 2 ⊗ (G ⊗ G) ⊗ m) ⊗ C)) refl (pos (c .q)) (pos (c .m)) (pos G) (pos C))
-
--- every partial sum, in the paper's order
-pub record PartialSums (c : Settings) (u l b p f : ℤ) : Type 0 where
-  pub one : natAbs (pos (2 * D) *ℤ u) ≤ 2 ^ 62
-  pub two : natAbs (pos (2 * D) *ℤ u +ℤ pos (c .q) *ℤ l) ≤ 2 ^ 62
-  pub three : natAbs (pos (2 * D) *ℤ u +ℤ pos (c .q) *ℤ l -ℤ pos (c .m) *ℤ b) ≤ 2 ^ 62
-  pub four : natAbs (pos (2 * D) *ℤ u +ℤ pos (c .q) *ℤ l -ℤ pos (c .m) *ℤ b -ℤ (pos D -ℤ pos (c .s)) *ℤ p) ≤ 2 ^ 62
-  pub five : natAbs (numeratorOf c u l b p f) ≤ 2 ^ 62
 
 pub partial-sums : (c : Settings) (u l b p f : ℤ) → Terms c u l b p f → PartialSums c u l b p f
 partial-sums c u l b p f t =

@@ -16,17 +16,18 @@ use Rattle.scheme.specs.declared.Hit.{Hit}
 use Rattle.scheme.specs.declared.Refusal.{Refusal}
 use Rattle.scheme.specs.declared.Refusal.the-variants.{Nothing, UnknownKind, WrongSize, SheetNumber, Coefficient, Unstable, WrongLength, NotMoving, TooStrong, PickUp, HalfWidth, PointBeyond, FixedNotZero, NextBeyond}
 use Rattle.scheme.specs.Lists.{point}
-use Rattle.scheme.specs.Instruments.{ceiling, kind, points, sizeIn, stableIn, beyond, fixed, moving}
+use Rattle.scheme.specs.Instruments.{ceiling, points, beyond, fixed, moving}
 use Rattle.scheme.specs.Step.{someBeyond}
-use Rattle.scheme.specs.Refusals.{number, plucked, wrongCoefficient, wrongLength, notMoving, tooStrong, wrongWidth, fixedNotZero, Check, _⇒_, lowest, instrumentChecks, blockChecks, pluckChecks, readingChecks, instrumentRefusal, blockRefusal, pluckRefusal, readingRefusal, ChecksInOrder}
+use Rattle.scheme.specs.Refusals.{number, wrongLength, fixedNotZero, Check, _⇒_, lowest, instrumentChecks, blockChecks, pluckChecks, readingChecks, instrumentRefusal, blockRefusal, pluckRefusal, readingRefusal, ChecksInOrder}
 use Rattle.scheme.specs.Calls.{accepted}
 use Rattle.scheme.specs.Claims.{LevelPasses}
+use Rattle.scheme.specs.Passing.{InstrumentPasses, BlockPasses, PluckPasses, ReadingPasses}
 use Rattle.scheme.proofs.Laws.Bools.{or-neither}
 use Rattle.scheme.proofs.Laws.Lists.{none-at}
 
 -- each call's checks stand in the order of all numbers: by computing
 pub checks-in-order : ChecksInOrder
-checks-in-order = record { block = λ i older newer work pick h. tt; pluck = λ g older newer c w a. tt; reading = λ g newer pick. tt }
+checks-in-order = record { block = λ i older newer wrong pick h. tt; pluck = λ g wrong c w a. tt; reading = λ g newer pick. tt }
 
 -- ---- a list of checks
 
@@ -69,8 +70,8 @@ accepted-is NextBeyond e = absurd (true≢false (sym e))
 
 -- ---- what has passed
 
-pub right-length : (g : Grid) (xs : List ℤ) → wrongLength g xs ≡ false → length xs ≡ points g
-right-length g xs e = eqb-true (length xs) (points g) (not-false _ e)
+pub right-length : (g : Grid) (n : ℕ) → wrongLength g n ≡ false → n ≡ points g
+right-length g n e = eqb-true n (points g) (not-false _ e)
 
 -- a level that passes is 0 at every number where nothing moves
 pub passes-still : (g : Grid) (xs : List ℤ) → LevelPasses g xs → Still (moving g) (point xs)
@@ -100,62 +101,37 @@ passes-low g xs v k = go (ltb k (length xs)) refl
     go true e = ltb-false ceiling (natAbs (point xs k)) (none-at (length xs) (λ k. beyond (point xs k)) (v .low) k (ltb-true k (length xs) e))
     go false e = subst (λ (z : ℤ). natAbs z ≤ ceiling) (sym (List·getD-eq-default xs (pos 0) (ltb-false k (length xs) e))) (omega arith)
 
--- 1, 2, 4 and 5 have failed
-pub record InstrumentPasses (i : Instrument) : Type 0 where
-  pub size : sizeIn (kind (i .grid)) (i .grid .columns) (i .grid .rows) ≡ true
-  pub coefficients : wrongCoefficient (i .settings) ≡ false
-  pub stable : stableIn (kind (i .grid)) (i .settings .q) (i .settings .m) ≡ true
-
 pub instrument-passes : (i : Instrument) → instrumentRefusal i ≡ Nothing → InstrumentPasses i
 unfolding instrumentRefusal
 instrument-passes i e = let n = none-applies (instrumentChecks i) tt e in
     record { size = not-false _ (n .1 .0); coefficients = n .1 .1 .0; stable = not-false _ (n .1 .1 .1 .0) }
 
--- each of a block's tests 1 to 12 has failed
-pub record BlockPasses (i : Instrument) (older newer work : List ℤ) (pick : ℕ) (h : Hit) : Type 0 where
-  pub instrument : instrumentRefusal i ≡ Nothing
-  pub older-passes : LevelPasses (i .grid) older
-  pub newer-passes : LevelPasses (i .grid) newer
-  pub work-long : length work ≡ points (i .grid)
-  pub hit-moving : notMoving (i .grid) h ≡ false
-  pub hit-low : tooStrong h ≡ false
-  pub pick-in : pick < points (i .grid)
-
-pub block-passes : (i : Instrument) (older newer work : List ℤ) (pick : ℕ) (h : Hit) → blockRefusal i older newer work pick h ≡ Nothing → BlockPasses i older newer work pick h
+pub block-passes : (i : Instrument) (older newer : List ℤ) (wrong : Bool) (pick : ℕ) (h : Hit) → blockRefusal i older newer wrong pick h ≡ Nothing
+    → BlockPasses i older newer wrong pick h
 unfolding blockRefusal instrumentRefusal
-block-passes i older newer work pick h e =
+block-passes i older newer wrong pick h e =
     let g = i .grid in
-    let n = none-applies (blockChecks i older newer work pick h) tt e in
+    let n = none-applies (blockChecks i older newer wrong pick h) tt e in
     let n5 = n .1 .1 .1 .1 in
     let n9 = n5 .1 .1 .1 in
-    let l = or-neither (wrongLength g older || wrongLength g newer) (wrongLength g work) (n5 .0) in
-    let l2 = or-neither (wrongLength g older) (wrongLength g newer) (l .0) in
+    let l = or-neither (wrongLength g (length older) || wrongLength g (length newer)) wrong (n5 .0) in
+    let l2 = or-neither (wrongLength g (length older)) (wrongLength g (length newer)) (l .0) in
     let b = or-neither (someBeyond older) (someBeyond newer) (n9 .1 .0) in
     let z = or-neither (fixedNotZero g older) (fixedNotZero g newer) (n9 .1 .1 .0) in
     record {
       instrument = applies-none (instrumentChecks i) (n .0, (n .1 .0, (n .1 .1 .0, (n .1 .1 .1 .0, tt))));
-      older-passes = record { long = right-length g older (l2 .0); low = b .0; fixed-zero = z .0 };
-      newer-passes = record { long = right-length g newer (l2 .1); low = b .1; fixed-zero = z .1 };
-      work-long = right-length g work (l .1);
+      older-passes = record { long = right-length g (length older) (l2 .0); low = b .0; fixed-zero = z .0 };
+      newer-passes = record { long = right-length g (length newer) (l2 .1); low = b .1; fixed-zero = z .1 };
+      rest-right = l .1;
       hit-moving = n5 .1 .0;
       hit-low = n5 .1 .1 .0;
       pick-in = ltb-true pick (points g) (not-false _ (n9 .0));
     }
 
--- each of a pluck's tests has failed
-pub record PluckPasses (g : Grid) (older newer : List ℤ) (c w : ℕ) (a : ℤ) : Type 0 where
-  pub kind-in : plucked (kind g) ≡ true
-  pub size : sizeIn (kind g) (g .columns) (g .rows) ≡ true
-  pub older-long : length older ≡ points g
-  pub newer-long : length newer ≡ points g
-  pub centre-moving : moving g c ≡ true
-  pub height-low : beyond a ≡ false
-  pub width-in : wrongWidth g w ≡ false
-
-pub pluck-passes : (g : Grid) (older newer : List ℤ) (c w : ℕ) (a : ℤ) → pluckRefusal g older newer c w a ≡ Nothing → PluckPasses g older newer c w a
+pub pluck-passes : (g : Grid) (older newer c w : ℕ) (a : ℤ) → pluckRefusal g older newer c w a ≡ Nothing → PluckPasses g older newer c w a
 unfolding pluckRefusal
 pluck-passes g older newer c w a e =
-    let n = none-applies (pluckChecks g older newer c w a) tt e in
+    let n = none-applies (pluckChecks g (wrongLength g older || wrongLength g newer) c w a) tt e in
     let n6 = n .1 .1 in
     let l = or-neither (wrongLength g older) (wrongLength g newer) (n6 .0) in
     record {
@@ -168,11 +144,6 @@ pluck-passes g older newer c w a e =
       width-in = n6 .1 .1 .1 .0;
     }
 
--- each of a reading's tests has failed
-pub record ReadingPasses (g : Grid) (newer : List ℤ) (pick : ℕ) : Type 0 where
-  pub newer-passes : LevelPasses g newer
-  pub pick-in : pick < points g
-
 pub reading-passes : (g : Grid) (newer : List ℤ) (pick : ℕ) → readingRefusal g newer pick ≡ Nothing → ReadingPasses g newer pick
 unfolding readingRefusal
 reading-passes g newer pick e =
@@ -180,6 +151,6 @@ reading-passes g newer pick e =
     let n6 = n .1 .1 in
     let n11 = n6 .1 .1 in
     record {
-      newer-passes = record { long = right-length g newer (n6 .0); low = n11 .0; fixed-zero = n11 .1 .0 };
+      newer-passes = record { long = right-length g (length newer) (n6 .0); low = n11 .0; fixed-zero = n11 .1 .0 };
       pick-in = ltb-true pick (points g) (not-false _ (n6 .1 .0));
     }

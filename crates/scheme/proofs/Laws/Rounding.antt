@@ -1,14 +1,14 @@
 -- Laws of `roundAway` and `sampleOf`.
 use mathlib.Core.Path.{_≡_, refl, sym, ap, _∙_, subst}
-use mathlib.Core.Bool.{true, false, true≢false}
+use mathlib.Core.Bool.{Bool, true, false, not, true≢false}
 use Prim.Native.Nat.{ℕ, zero, suc, _+_, _-_, _*_, _/_, _^_, _≤_, _<_, zero-le}
-use native.Mathlib.Nat.{div-eq-of-lt, div-eq-of-lt-le, div-mul-le-self, lt-div-mul-add, div-lt-iff-lt-mul}
+use native.Mathlib.Nat.{div-eq-of-lt, div-eq-of-lt-le, div-mul-le-self, lt-div-mul-add, div-lt-iff-lt-mul, le-div-iff-mul-le}
 use native.Mathlib.Omega.{arith}
-use borrow.Author.Tests.{le-ltb}
+use borrow.Author.Tests.{ltb-true, ltb-false, lt-ltb, le-ltb}
 use lib.Dec.{ltb, ltb→lt, nltb→le}
 use lib.IntN.{ℤ, pos, negsuc, negℤ, natAbs, subℕ, _+ℤ_, _-ℤ_, _*ℤ_, +ℤ-idr, negℤ-negℤ}
 use lib.Signed.{ltZ, quotZ}
-use Rattle.integers.proofs.Size.{cond-ind}
+use Rattle.integers.proofs.Size.{cond-ind, size-neg}
 use Rattle.scheme.specs.Instruments.{ceiling}
 use Rattle.scheme.specs.Step.{nearest, roundAway, sampleOf}
 
@@ -61,6 +61,24 @@ down m (suc h) k e p = ap (λ (n : ℕ). negℤ (pos n)) (ap (λ (n : ℕ). n / 
 pub round-down : (n : ℤ) (k : ℕ) → 0 < k → ltZ n (pos 0) ≡ true → quotZ (n -ℤ pos (k / 2)) (pos k) ≡ roundAway n k
 round-down (pos m) k h e = absurd (true≢false (sym e ∙ le-ltb m 0 zero-le))
 round-down (negsuc m) k h e = down m (k / 2) k refl h
+
+-- ---- how large the rounded quotient is
+
+pub round-size : (n : ℤ) (d : ℕ) → natAbs (roundAway n d) ≡ nearest (natAbs n) d
+unfolding roundAway
+round-size (pos n) d = refl
+round-size (negsuc n) d = size-neg (pos (nearest (suc n) d))
+
+-- it is beyond C exactly where the numerator is not below (C + 1)·d − d/2: no division is needed to tell
+pub round-limit : (n : ℤ) (d C : ℕ) → 0 < d → ltb C (natAbs (roundAway n d)) ≡ not (ltb (natAbs n) ((C + 1) * d - d / 2))
+round-limit n d C h = ap (ltb C) (round-size n d ∙ sym (nearest-half (natAbs n) d h)) ∙ go (ltb (natAbs n) ((C + 1) * d - d / 2)) refl
+  where
+    m : ℕ
+    m = natAbs n
+
+    go : (t : Bool) → ltb m ((C + 1) * d - d / 2) ≡ t → ltb C ((m + d / 2) / d) ≡ not t
+    go true e = le-ltb C _ (omega (arith, div-lt-iff-lt-mul {k = d} {x = m + d / 2} {y = C + 1} h .1 (omega (arith, ltb-true m _ e))))
+    go false e = lt-ltb C _ (omega (arith, le-div-iff-mul-le {k = d} {x = C + 1} {y = m + d / 2} h .1 (omega (arith, ltb-false m _ e))))
 
 -- odd: the quotient of −n is minus that of n
 pub round-odd : (n : ℤ) (d : ℕ) → 0 < d → roundAway (negℤ n) d ≡ negℤ (roundAway n d)

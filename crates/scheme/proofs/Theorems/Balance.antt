@@ -26,14 +26,14 @@ shift n k F G a b d =
     sym (sum-split n k G ∙ ap (λ z. sum n G +ℤ z) (sum-vanish k d) ∙ +ℤ-idr (sum n G))
 
 -- one term or none
-abbrev term : Bool → ℤ → ℤ
+abbrev pub term : Bool → ℤ → ℤ
 term b z = cond b z (pos 0)
 
 term-add : (b : Bool) (x y : ℤ) → term b (x +ℤ y) ≡ term b x +ℤ term b y
 term-add true x y = refl
 term-add false x y = refl
 
-only-sum : (b : Bool) (j : ℕ) (f : ℕ → ℤ) → sumOver (only b j) f ≡ term b (f j)
+pub only-sum : (b : Bool) (j : ℕ) (f : ℕ → ℤ) → sumOver (only b j) f ≡ term b (f j)
 unfolding only sumOver
 only-sum true j f = +ℤ-idr (f j)
 only-sum false j f = refl

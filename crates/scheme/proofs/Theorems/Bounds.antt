@@ -20,7 +20,7 @@ use Rattle.scheme.specs.Instruments.{D, kind, points, column, moving, fr
 use Rattle.scheme.specs.Step.{beside, neighbours, laplacian, innerLaplacian}
 use Rattle.scheme.specs.Energy.{weight, later, pairSum, laplacianSum, energy}
 use Rattle.scheme.proofs.Laws.Step.{laplacian-differences}
-use Rattle.scheme.proofs.Laws.Refusals.{InstrumentPasses}
+use Rattle.scheme.specs.Passing.{InstrumentPasses}
 use Rattle.scheme.proofs.Theorems.Balance.{beside-balance}
 use Rattle.scheme.proofs.Laws.Kinds.{degree, sized, few, stable-means, stiff-held}
 use Rattle.scheme.proofs.Theorems.Forms.{weighed, pair-form, laplacian-form, weighed-nonneg, pair-nonneg, laplacian-nonneg, squares-are}
@@ -93,6 +93,23 @@ module _ (i : Instrument) (ok : InstrumentPasses i) where
       go (inl z) = inl z
       go (inr f) = inr (λ k. ap (λ (t : Bool). cond {A = ℕ} t 1 2) (f (i .grid .columns) (column (i .grid) k)))
 
+  pub few-beside : (k : ℕ) → k < points (i .grid) → 2 * length (beside (i .grid) k) ≤ degree (kind (i .grid)) * weight (i .grid) k
+  few-beside k l = few (i .grid) k l (kind (i .grid)) refl (ok .size)
+
+  -- m·Σ L² ≤ m·2K·(Σ over pairs of (difference)²)
+  pub stiffness-bound : (c : Level) → pos (i .settings .m) *ℤ laplacianSum (i .grid) c c ⩽ pos (i .settings .m) *ℤ (pos (degree (kind (i .grid))) *ℤ (pos 2 *ℤ pairSum (i .grid) c c))
+  stiffness-bound c = go soft-or-held
+    where
+      g : Grid
+      g = i .grid
+
+      K : ℕ
+      K = degree (kind g)
+
+      go : (i .settings .m ≡ 0) ⊎ ((k : ℕ) → weight g k ≡ 2) → pos (i .settings .m) *ℤ laplacianSum g c c ⩽ pos (i .settings .m) *ℤ (pos K *ℤ (pos 2 *ℤ pairSum g c c))
+      go (inl z) = ≤ℤ-of-eq (ap (λ (k : ℕ). pos k *ℤ laplacianSum g c c) z ∙ zero-*ℤ (laplacianSum g c c) ∙ sym (ap (λ (k : ℕ). pos k *ℤ (pos K *ℤ (pos 2 *ℤ pairSum g c c))) z ∙ zero-*ℤ (pos K *ℤ (pos 2 *ℤ pairSum g c c))))
+      go (inr two) = *ℤ-mono-l (pos (i .settings .m)) (0≤pos (i .settings .m)) (laplacian-bound g some-columns some-rows K few-beside two c)
+
   -- with c = a − b: 4·E = 4D·G(c) + 2q·(P(a+b) − P(c)) + 2m·(Λ(a+b) − Λ(c)) ≥ 2·(2D − K·q − 2K²·m)·G(c) ≥ 0
   pub energy-nonneg : (a b : Level) → pos 0 ⩽ energy i a b
   unfolding energy
@@ -102,7 +119,7 @@ module _ (i : Instrument) (ok : InstrumentPasses i) where
       (# 4 ⊗ (m ⊗ K)) *⊴ p ⊴ K ⊗ G ⇒ (# 2 ⊗ G) *⊴ K ⊗ q ⊕ # 2 ⊗ (K ⊗ K) ⊗ m ⊴ # 2 ⊗ D ⇒
       ⊩ # 4 ⊗ # 0 ⊴ # 4 ⊗ (D ⊗ G ⊕ (# 2 ⊗ q) ⊗ x ⊕ (# 2 ⊗ m) ⊗ y)) refl
       (pos (i .settings .q)) (pos (i .settings .m)) (pos K) (weighed g c c) (pairSum g c c) (pairSum g (a ⊞ b) (a ⊞ b)) (pairSum g a b) (laplacianSum g c c) (laplacianSum g (a ⊞ b) (a ⊞ b)) (laplacianSum g a b) (pos D)
-      (polarisation (pair-form g) a b) (polarisation (laplacian-form g) a b) (0≤pos (2 * i .settings .q)) (pair-nonneg g (a ⊞ b)) (0≤pos (2 * i .settings .m)) (laplacian-nonneg g (a ⊞ b)) (0≤pos (2 * i .settings .q)) pairs (stiff soft-or-held)
+      (polarisation (pair-form g) a b) (polarisation (laplacian-form g) a b) (0≤pos (2 * i .settings .q)) (pair-nonneg g (a ⊞ b)) (0≤pos (2 * i .settings .m)) (laplacian-nonneg g (a ⊞ b)) (0≤pos (2 * i .settings .q)) pairs (stiffness-bound c)
       (0≤pos (4 * (i .settings .m * K))) pairs (nonneg-mul (0≤pos 2) (weighed-nonneg g c)) (pos≤ (stable-means (kind g) (i .settings .q) (i .settings .m) (ok .stable)))))
       (ap (λ z. pos D *ℤ z +ℤ pos (2 * i .settings .q) *ℤ pairSum g a b +ℤ pos (2 * i .settings .m) *ℤ laplacianSum g a b) (sym (squares-are g a b)))
     where
@@ -115,12 +132,5 @@ module _ (i : Instrument) (ok : InstrumentPasses i) where
       c : Level
       c = a ⊞ (negsuc 0 ⊡ b)
 
-      deg : (k : ℕ) → k < points g → 2 * length (beside g k) ≤ K * weight g k
-      deg k l = few g k l (kind g) refl (ok .size)
-
       pairs : pairSum g c c ⩽ pos K *ℤ weighed g c c
-      pairs = pair-bound g some-columns some-rows K deg c
-
-      stiff : (i .settings .m ≡ 0) ⊎ ((k : ℕ) → weight g k ≡ 2) → pos (i .settings .m) *ℤ laplacianSum g c c ⩽ pos (i .settings .m) *ℤ (pos K *ℤ (pos 2 *ℤ pairSum g c c))
-      stiff (inl z) = ≤ℤ-of-eq (ap (λ (k : ℕ). pos k *ℤ laplacianSum g c c) z ∙ zero-*ℤ (laplacianSum g c c) ∙ sym (ap (λ (k : ℕ). pos k *ℤ (pos K *ℤ (pos 2 *ℤ pairSum g c c))) z ∙ zero-*ℤ (pos K *ℤ (pos 2 *ℤ pairSum g c c))))
-      stiff (inr two) = *ℤ-mono-l (pos (i .settings .m)) (0≤pos (i .settings .m)) (laplacian-bound g some-columns some-rows K deg two c)
+      pairs = pair-bound g some-columns some-rows K few-beside c

@@ -14,7 +14,6 @@ use Rattle.integers.proofs.Order.{_⩽_, 0≤pos, 0<pos, pos≤, square-nonneg,
 use Rattle.integers.proofs.Lin.{_⊴_, _*≤_, _*⊴_, _⇒_, ⊩_, lin}
 use Rattle.integers.proofs.Sum.{sum-mono, sum-scale}
 use Rattle.forms.proofs.Level.{Level, _⊞_, _⊡_, zeros, Still}
-use Rattle.forms.proofs.Energy.{Scheme}
 use Rattle.forms.proofs.Distance as Forms
 use Rattle.scheme.specs.declared.Settings.{Settings}
 use Rattle.scheme.specs.declared.Instrument.{Instrument}
@@ -24,14 +23,14 @@ use Rattle.scheme.specs.Lists.{point, square}
 use Rattle.scheme.specs.Instruments.{D, points, moving, freeEnd}
 use Rattle.scheme.specs.Step.{numerator, roundAway, forceOf, divisor, nextAt, nextLevel}
 use Rattle.scheme.specs.Energy.{weight, squares}
-use Rattle.scheme.specs.Book.{LastStep, stepOf, Book, fresh, scale, unroundedAt, unroundedStep, unroundedSteps, sameInstrument, goesOn, bookBlock, State, start, calls}
+use Rattle.scheme.specs.Book.{LastStep, stepOf, Book, fresh, scale, unroundedAt, unroundedStep, unroundedSteps, sameInstrument, goesOn, bookBlock, State, Call, start, calls}
 use Rattle.scheme.specs.Claims.{WithinBound, Near, DistanceBound}
 use Rattle.scheme.proofs.Laws.Bools.{and-both}
 use Rattle.scheme.proofs.Laws.Rounding.{round-near}
 use Rattle.scheme.proofs.Laws.Step.{numerator-add, numerator-scale, length-next, next-point}
-use Rattle.scheme.proofs.Laws.Refusals.{InstrumentPasses}
-use Rattle.scheme.proofs.Laws.Calls.{levelsAfter}
-use Rattle.scheme.proofs.Theorems.Forms.{weighed, squares-are}
+use Rattle.scheme.specs.Passing.{InstrumentPasses}
+use Rattle.scheme.specs.Calls.{levelsAfter}
+use Rattle.scheme.proofs.Theorems.Forms.{weighed, held, squares-are}
 use Rattle.scheme.proofs.Theorems.Instance.{freeStep, scheme}
 use Rattle.scheme.proofs.Theorems.Energy.{unrounded-newer, unrounded-older}
 use Rattle.scheme.proofs.Theorems.Effects.{stepped, Effect, nothing, steps, overwrites, list-keeps}
@@ -99,7 +98,7 @@ module _ (i : Instrument) (h : Hit) (older newer : List ℤ) where
 -- ---- the levels less the book's
 
 -- (D+s)ⁿ·xs − ys
-abbrev gap : Settings → ℕ → List ℤ → List ℤ → Level
+abbrev pub gap : Settings → ℕ → List ℤ → List ℤ → Level
 gap c n xs ys = (scale c n ⊡ point xs) ⊞ (negsuc 0 ⊡ point ys)
 
 scale-suc : (c : Settings) (n : ℕ) → scale c (suc n) ≡ scale c n *ℤ pos (divisor c)
@@ -152,44 +151,22 @@ module _ (i : Instrument) (h : Hit) (older newer : List ℤ) (b : Book) where
   older-gap = fun-ext (λ k. ap₂ (λ x y. x *ℤ point newer k +ℤ negsuc 0 *ℤ y) (scale-suc c (b .n)) (unrounded-older i h b k) ∙
       ring 4 (λ p d x y. (p ⊗ d) ⊗ x ⊕ con (negsuc 0) ⊗ (d ⊗ y) ≈ d ⊗ (p ⊗ x ⊕ con (negsuc 0) ⊗ y)) refl p (pos (divisor c)) (point newer k) (point (b .newer) k))
 
--- ---- the invariant of the steps of one instrument
+-- ---- what the steps keep of the errors
 
 -- D·2N, which bounds what a step rounds off
-abbrev K : Instrument → ℤ
+abbrev pub K : Instrument → ℤ
 K i = pos D *ℤ pos (2 * points (i .grid))
 
-record Beside (i : Instrument) (older newer : List ℤ) (b : Book) : Type 0 where
-  passes : InstrumentPasses i
-  near : Forms.Near (scheme i passes) (K i) (b .n) (scale (i .settings) (b .n)) (gap (i .settings) (b .n) newer (b .newer)) (gap (i .settings) (b .n) older (b .older))
+-- a property of the errors of an instrument that passes: after n steps, X of newer and Y of older, held times p
+abbrev pub OfErrors : Type 1
+OfErrors = (i : Instrument) → InstrumentPasses i → (n : ℕ) (p : ℤ) (X Y : Level) → Type 0
 
-beside-start : (i : Instrument) → InstrumentPasses i → (last : LastStep) (older newer : List ℤ) → Beside i older newer (fresh last older newer)
-beside-start i ok last older newer = record {
-  passes = ok;
-  near = subst₂ (Forms.Near (scheme i ok) (K i) 0 (scale (i .settings) 0)) (sym (gap-same (i .settings) newer)) (sym (gap-same (i .settings) older))
-      (Forms.near-start (scheme i ok) (K i) (scale (i .settings) 0));
-}
-
-beside-step : (i : Instrument) (h : Hit) (older newer : List ℤ) (b : Book) → Beside i older newer b → Beside i newer (nextLevel i h older newer) (unroundedStep i h b)
-unfolding unroundedStep
-beside-step i h older newer b now = record {
-  passes = now .passes;
-  near = subst (λ (s : ℤ). Forms.Near T (K i) (suc (b .n)) s (gap c′ (suc (b .n)) (nextLevel i h older newer) (unroundedStep i h b .newer)) (gap c′ (suc (b .n)) newer (unroundedStep i h b .older)))
-      (sym (scale-suc c′ (b .n)))
-      (subst₂ (Forms.Near T (K i) (suc (b .n)) (scale c′ (b .n) *ℤ pos (divisor c′))) (sym (newer-gap i h older newer b)) (sym (older-gap i h older newer b))
-      (Forms.near-step T (K i) (now .near) (off-still i h older newer) (off-small i h older newer)));
-}
-  where
-    c′ : Settings
-    c′ = i .settings
-
-    T : Scheme
-    T = scheme i (now .passes)
-
-beside-steps : (i : Instrument) (h : Hit) (k : ℕ) (older newer : List ℤ) (b : Book) → Beside i older newer b
-    → Beside i (levelsAfter i h k older newer .older) (levelsAfter i h k older newer .newer) (unroundedSteps i h k b)
-unfolding levelsAfter unroundedSteps
-beside-steps i h zero older newer b v = v
-beside-steps i h (suc k) older newer b v = beside-steps i Absent k newer (nextLevel i h older newer) (unroundedStep i h b) (beside-step i h older newer b v)
+-- it holds before the first step, and a step keeps it, whatever r it rounds off
+pub record StepsKeep (P : OfErrors) : Type 0 where
+  pub first : (i : Instrument) (ok : InstrumentPasses i) (p : ℤ) → P i ok 0 p zeros zeros
+  pub next : (i : Instrument) (ok : InstrumentPasses i) (n : ℕ) (p : ℤ) (X Y r : Level) → P i ok n p X Y → Still (moving (i .grid)) r
+      → pos 4 *ℤ held i r r ⩽ K i *ℤ (pos (divisor (i .settings)) *ℤ pos (divisor (i .settings)))
+      → P i ok (suc n) (p *ℤ pos (divisor (i .settings))) (freeStep i X Y ⊞ (p ⊡ r)) (pos (divisor (i .settings)) ⊡ X)
 
 -- ---- the last step
 
@@ -221,48 +198,94 @@ unfolding levelsAfter
 after-long i h zero older newer = length-next i h older newer
 after-long i h (suc k) older newer = after-long i Absent k newer (nextLevel i h older newer)
 
--- ---- the invariant of a list of calls
+module _ (P : OfErrors) (kept : StepsKeep P) where
+  -- ---- the invariant of the steps of one instrument
 
--- steps have been done in the instrument of the book's last step
-record Stepping (t : State) : Type 0 where
-  instrument : Instrument
-  last : t .book .last ≡ stepOf instrument
-  long : length (t .newer) ≡ points (instrument .grid)
-  beside : Beside instrument (t .older) (t .newer) (t .book)
+  pub record Beside (i : Instrument) (older newer : List ℤ) (b : Book) : Type 0 where
+    pub passes : InstrumentPasses i
+    pub near : P i passes (b .n) (scale (i .settings) (b .n)) (gap (i .settings) (b .n) newer (b .newer)) (gap (i .settings) (b .n) older (b .older))
 
--- no step since the book took the levels, or some
-data Invariant (t : State) : Type 0 where
-  agrees : t .book ≡ fresh (t .book .last) (t .older) (t .newer) → Invariant t
-  stepping : (m : ℕ) → t .book .n ≡ suc m → Stepping t → Invariant t
+  beside-start : (i : Instrument) → InstrumentPasses i → (last : LastStep) (older newer : List ℤ) → Beside i older newer (fresh last older newer)
+  beside-start i ok last older newer = record {
+    passes = ok;
+    near = subst₂ (P i ok 0 (scale (i .settings) 0)) (sym (gap-same (i .settings) newer)) (sym (gap-same (i .settings) older)) (kept .first i ok (scale (i .settings) 0));
+  }
 
--- what the book steps on from
-steps-from : (i : Instrument) → InstrumentPasses i → (t : State) → Invariant t
-    → Beside i (t .older) (t .newer) (cond (goesOn i (t .book .last)) (t .book) (fresh (t .book .last) (t .older) (t .newer)))
-unfolding goesOn
-steps-from i ok t v = go v (goesOn i (t .book .last)) refl
-  where
-    go : Invariant t → (x : Bool) → goesOn i (t .book .last) ≡ x → Beside i (t .older) (t .newer) (cond x (t .book) (fresh (t .book .last) (t .older) (t .newer)))
-    go (agrees e) true q = subst (Beside i (t .older) (t .newer)) (sym e) (beside-start i ok (t .book .last) (t .older) (t .newer))
-    go (stepping m n s) true q = subst (λ (l : Instrument). Beside l (t .older) (t .newer) (t .book)) (same-is i (s .instrument) (subst (λ l. goesOn i l ≡ true) (s .last) q)) (s .beside)
-    go v false q = beside-start i ok (t .book .last) (t .older) (t .newer)
+  beside-step : (i : Instrument) (h : Hit) (older newer : List ℤ) (b : Book) → Beside i older newer b → Beside i newer (nextLevel i h older newer) (unroundedStep i h b)
+  unfolding unroundedStep
+  beside-step i h older newer b now = record {
+    passes = now .passes;
+    near = subst (λ (s : ℤ). P i (now .passes) (suc (b .n)) s (gap c′ (suc (b .n)) (nextLevel i h older newer) (unroundedStep i h b .newer)) (gap c′ (suc (b .n)) newer (unroundedStep i h b .older)))
+        (sym (scale-suc c′ (b .n)))
+        (subst₂ (P i (now .passes) (suc (b .n)) (scale c′ (b .n) *ℤ pos (divisor c′))) (sym (newer-gap i h older newer b)) (sym (older-gap i h older newer b))
+        (kept .next i (now .passes) (b .n) (scale c′ (b .n)) _ _ _ (now .near) (off-still i h older newer) (off-small i h older newer)));
+  }
+    where
+      c′ : Settings
+      c′ = i .settings
 
-steps-keep : (i : Instrument) (h : Hit) (k : ℕ) → InstrumentPasses i → (t : State) → Invariant t → Invariant (stepped i h k t)
-unfolding bookBlock levelsAfter
-steps-keep i h zero ok t v = v
-steps-keep i h (suc k) ok t v =
-    let b : Book = cond (goesOn i (t .book .last)) (t .book) (fresh (t .book .last) (t .older) (t .newer)) in
-    stepping (steps-count i h k b .0) (steps-count i h k b .1)
-    (record { instrument = i; last = steps-last i h k b; long = after-long i h k (t .older) (t .newer); beside = beside-steps i h (suc k) (t .older) (t .newer) b (steps-from i ok t v) })
+  beside-steps : (i : Instrument) (h : Hit) (k : ℕ) (older newer : List ℤ) (b : Book) → Beside i older newer b
+      → Beside i (levelsAfter i h k older newer .older) (levelsAfter i h k older newer .newer) (unroundedSteps i h k b)
+  unfolding levelsAfter unroundedSteps
+  beside-steps i h zero older newer b v = v
+  beside-steps i h (suc k) older newer b v = beside-steps i Absent k newer (nextLevel i h older newer) (unroundedStep i h b) (beside-step i h older newer b v)
 
-effect-keeps : (t t′ : State) → Effect t t′ → Invariant t → Invariant t′
-effect-keeps t t′ (nothing e) v = subst Invariant (sym e) v
-effect-keeps t t′ (steps i h k ok e) v = subst Invariant (sym e) (steps-keep i h k ok t v)
-effect-keeps t t′ (overwrites xs e) v = subst Invariant (sym e) (agrees refl)
+  -- ---- the invariant of a list of calls
+
+  -- steps have been done in the instrument of the book's last step
+  pub record Stepping (t : State) : Type 0 where
+    pub instrument : Instrument
+    pub last : t .book .last ≡ stepOf instrument
+    pub long : length (t .newer) ≡ points (instrument .grid)
+    pub beside : Beside instrument (t .older) (t .newer) (t .book)
+
+  -- no step since the book took the levels, or some
+  pub data Invariant (t : State) : Type 0 where
+    agrees : t .book ≡ fresh (t .book .last) (t .older) (t .newer) → Invariant t
+    stepping : (m : ℕ) → t .book .n ≡ suc m → Stepping t → Invariant t
+
+  -- what the book steps on from
+  steps-from : (i : Instrument) → InstrumentPasses i → (t : State) → Invariant t
+      → Beside i (t .older) (t .newer) (cond (goesOn i (t .book .last)) (t .book) (fresh (t .book .last) (t .older) (t .newer)))
+  unfolding goesOn
+  steps-from i ok t v = go v (goesOn i (t .book .last)) refl
+    where
+      go : Invariant t → (x : Bool) → goesOn i (t .book .last) ≡ x → Beside i (t .older) (t .newer) (cond x (t .book) (fresh (t .book .last) (t .older) (t .newer)))
+      go (agrees e) true q = subst (Beside i (t .older) (t .newer)) (sym e) (beside-start i ok (t .book .last) (t .older) (t .newer))
+      go (stepping m n s) true q = subst (λ (l : Instrument). Beside l (t .older) (t .newer) (t .book)) (same-is i (s .instrument) (subst (λ l. goesOn i l ≡ true) (s .last) q)) (s .beside)
+      go v false q = beside-start i ok (t .book .last) (t .older) (t .newer)
+
+  steps-keep : (i : Instrument) (h : Hit) (k : ℕ) → InstrumentPasses i → (t : State) → Invariant t → Invariant (stepped i h k t)
+  unfolding bookBlock levelsAfter
+  steps-keep i h zero ok t v = v
+  steps-keep i h (suc k) ok t v =
+      let b : Book = cond (goesOn i (t .book .last)) (t .book) (fresh (t .book .last) (t .older) (t .newer)) in
+      stepping (steps-count i h k b .0) (steps-count i h k b .1)
+      (record { instrument = i; last = steps-last i h k b; long = after-long i h k (t .older) (t .newer); beside = beside-steps i h (suc k) (t .older) (t .newer) b (steps-from i ok t v) })
+
+  effect-keeps : (t t′ : State) → Effect t t′ → Invariant t → Invariant t′
+  effect-keeps t t′ (nothing e) v = subst Invariant (sym e) v
+  effect-keeps t t′ (steps i h k ok e) v = subst Invariant (sym e) (steps-keep i h k ok t v)
+  effect-keeps t t′ (overwrites xs e) v = subst Invariant (sym e) (agrees refl)
+
+  -- every list of calls
+  pub list-invariant : (older newer : List ℤ) (ks : List Call) → Invariant (calls ks (start older newer) .state)
+  list-invariant older newer ks = list-keeps Invariant effect-keeps ks (start older newer) (agrees refl)
 
 -- ---- the claim
 
+-- `Near` of the forms is such a property
+abbrev pub NearErrors : OfErrors
+NearErrors i ok n p X Y = Forms.Near (scheme i ok) (K i) n p X Y
+
+pub near-kept : StepsKeep NearErrors
+near-kept = record {
+  first = λ i ok p. Forms.near-start (scheme i ok) (K i) p;
+  next = λ i ok n p X Y r now r-still r-small. Forms.near-step (scheme i ok) (K i) now r-still r-small;
+}
+
 -- from 16·D·G ≤ D·2N·(D+s)²ⁿ·(n(n+1))²: D cancels
-within : (i : Instrument) (n : ℕ) (older newer : List ℤ) (b : Book) → b .n ≡ n → length newer ≡ points (i .grid) → Beside i older newer b → WithinBound i n newer (b .newer)
+within : (i : Instrument) (n : ℕ) (older newer : List ℤ) (b : Book) → b .n ≡ n → length newer ≡ points (i .grid) → Beside NearErrors near-kept i older newer b → WithinBound i n newer (b .newer)
 within i n older newer b e l v = record {
   all-points = l;
   near = subst (λ (n : ℕ). pos 16 *ℤ squares (i .grid) (λ k. scale (i .settings) n *ℤ point newer k) (point (b .newer)) ⩽ pos (2 * points (i .grid)) *ℤ (square (pos (n * suc n)) *ℤ square (scale (i .settings) n))) e
@@ -275,10 +298,10 @@ within i n older newer b e l v = record {
     X : Level
     X = gap (i .settings) (b .n) newer (b .newer)
 
-invariant-near : (t : State) → Invariant t → Near (t .newer) (t .book .n) (t .book .newer) (t .book .last)
+invariant-near : (t : State) → Invariant NearErrors near-kept t → Near (t .newer) (t .book .n) (t .book .newer) (t .book .last)
 invariant-near t (agrees e) = subst (λ (b : Book). Near (t .newer) (b .n) (b .newer) (b .last)) (sym e) refl
 invariant-near t (stepping m e s) =
     subst₂ (λ (n : ℕ) (l : LastStep). Near (t .newer) n (t .book .newer) l) (sym e) (sym (s .last)) (within (s .instrument) (suc m) (t .older) (t .newer) (t .book) e (s .long) (s .beside))
 
 pub distance-bound : DistanceBound
-distance-bound older newer ks = invariant-near (calls ks (start older newer)) (list-keeps Invariant effect-keeps ks (start older newer) (agrees refl))
+distance-bound older newer ks = invariant-near (calls ks (start older newer) .state) (list-invariant NearErrors near-kept older newer ks)

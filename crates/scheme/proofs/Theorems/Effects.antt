@@ -4,16 +4,18 @@ use mathlib.Core.Bool.{Bool, true, false}
 use mathlib.Core.List.{List, [], _∷_}
 use Prim.Native.Nat.{ℕ}
 use lib.IntN.{ℤ}
+use lib.ListN.{length}
 use Rattle.scheme.specs.declared.Grid.{Grid}
 use Rattle.scheme.specs.declared.Instrument.{Instrument}
 use Rattle.scheme.specs.declared.Hit.{Hit}
 use Rattle.scheme.specs.Table.{table}
 use Rattle.scheme.specs.Pluck.{pluckLevel}
-use Rattle.scheme.specs.Refusals.{blockRefusal, pluckRefusal}
-use Rattle.scheme.specs.Calls.{accepted, AfterSteps, play, AfterBlock, AfterPluck, block, pluck}
-use Rattle.scheme.specs.Book.{fresh, bookBlock, bookPluck, Call, blockCall, pluckCall, State, call, calls}
-use Rattle.scheme.proofs.Laws.Refusals.{accepted-is, InstrumentPasses, instrument-passes, block-passes}
-use Rattle.scheme.proofs.Laws.Calls.{levelsAfter, stands-behind, block-done, block-refused, pluck-done, pluck-refused}
+use Rattle.scheme.specs.Refusals.{wrongLength, blockRefusal, pluckRefusal}
+use Rattle.scheme.specs.Calls.{accepted, AfterSteps, play, levelsAfter, AfterBlock, AfterPluck, block, pluck}
+use Rattle.scheme.specs.Book.{fresh, bookBlock, bookPluck, Call, blockCall, pluckCall, leaves, bookCall, State, stateAfter, called, calls}
+use Rattle.scheme.specs.Passing.{InstrumentPasses}
+use Rattle.scheme.proofs.Laws.Refusals.{accepted-is, instrument-passes, block-passes}
+use Rattle.scheme.proofs.Laws.Calls.{stands-behind, block-done, block-refused, pluck-done, pluck-refused}
 
 -- k steps of an instrument, the hit in the first, of the levels and in the book
 abbrev pub stepped : Instrument → Hit → ℕ → State → State
@@ -29,9 +31,13 @@ pub data Effect (t t′ : State) : Type 0 where
   steps : (i : Instrument) (h : Hit) (k : ℕ) → InstrumentPasses i → t′ ≡ stepped i h k t → Effect t t′
   overwrites : (xs : List ℤ) → t′ ≡ overwrote xs t → Effect t t′
 
-block-effect : (i : Instrument) (work samples : List ℤ) (pick : ℕ) (h : Hit) (t : State) → Effect t (call (blockCall i work samples pick h) t)
-unfolding call bookBlock
-block-effect i work samples pick h t = go (accepted (blockRefusal i (t .older) (t .newer) work pick h)) refl
+-- the state after a call
+abbrev pub afterCall : Call → State → State
+afterCall k t = stateAfter k (called k t) t
+
+block-effect : (i : Instrument) (work samples : List ℤ) (pick : ℕ) (h : Hit) (t : State) → Effect t (afterCall (blockCall i work samples pick h) t)
+unfolding leaves bookCall bookBlock
+block-effect i work samples pick h t = go (accepted (blockRefusal i (t .older) (t .newer) (wrongLength (i .grid) (length work)) pick h)) refl
   where
     left : AfterBlock → State
     left r = record { older = r .older; newer = r .newer; book = bookBlock i h (t .older) (t .newer) (r .answer .steps) (t .book) }
@@ -39,34 +45,36 @@ block-effect i work samples pick h t = go (accepted (blockRefusal i (t .older) (
     after : AfterSteps
     after = play i pick h (t .older) (t .newer) samples
 
-    go : (x : Bool) → accepted (blockRefusal i (t .older) (t .newer) work pick h) ≡ x → Effect t (left (block i (t .older) (t .newer) work samples pick h))
+    go : (x : Bool) → accepted (blockRefusal i (t .older) (t .newer) (wrongLength (i .grid) (length work)) pick h) ≡ x
+        → Effect t (left (block i (t .older) (t .newer) work samples pick h))
     go true e =
         let z = accepted-is _ e in
         let s = stands-behind i pick h (t .older) (t .newer) samples in
-        steps i h (after .answer .steps) (instrument-passes i (block-passes i (t .older) (t .newer) work pick h z .instrument))
+        steps i h (after .answer .steps) (instrument-passes i (block-passes i (t .older) (t .newer) (wrongLength (i .grid) (length work)) pick h z .instrument))
         (ap left (block-done i (t .older) (t .newer) work samples pick h z) ∙
         (λ x. record { older = s .older-is x; newer = s .newer-is x; book = bookBlock i h (t .older) (t .newer) (after .answer .steps) (t .book) }))
     go false e = nothing (ap left (block-refused i (t .older) (t .newer) work samples pick h e))
 
-pluck-effect : (g : Grid) (c w : ℕ) (a : ℤ) (t : State) → Effect t (call (pluckCall g c w a) t)
-unfolding call bookPluck
-pluck-effect g c w a t = go (accepted (pluckRefusal g (t .older) (t .newer) c w a)) refl
+pluck-effect : (g : Grid) (c w : ℕ) (a : ℤ) (t : State) → Effect t (afterCall (pluckCall g c w a) t)
+unfolding leaves bookCall bookPluck
+pluck-effect g c w a t = go (accepted (pluckRefusal g (length (t .older)) (length (t .newer)) c w a)) refl
   where
     left : AfterPluck → State
     left r = record { older = r .older; newer = r .newer; book = bookPluck (accepted (r .refusal)) (pluckLevel table g c w a) (t .book) }
 
-    go : (x : Bool) → accepted (pluckRefusal g (t .older) (t .newer) c w a) ≡ x → Effect t (left (pluck g (t .older) (t .newer) c w a))
+    go : (x : Bool) → accepted (pluckRefusal g (length (t .older)) (length (t .newer)) c w a) ≡ x
+        → Effect t (left (pluck g (t .older) (t .newer) c w a))
     go true e = overwrites (pluckLevel table g c w a) (ap left (pluck-done g (t .older) (t .newer) c w a (accepted-is _ e)))
     go false e = nothing (ap left (pluck-refused g (t .older) (t .newer) c w a e) ∙
         ap (λ (x : Bool). record { older = t .older; newer = t .newer; book = bookPluck x (pluckLevel table g c w a) (t .book) }) e)
 
 -- the effect of each call
-pub effect-of : (k : Call) (t : State) → Effect t (call k t)
+pub effect-of : (k : Call) (t : State) → Effect t (afterCall k t)
 effect-of (blockCall i work samples pick h) t = block-effect i work samples pick h t
 effect-of (pluckCall g c w a) t = pluck-effect g c w a t
 
 -- what every effect keeps, a list of calls keeps
-pub list-keeps : (P : State → Type 0) → ((t t′ : State) → Effect t t′ → P t → P t′) → (ks : List Call) (t : State) → P t → P (calls ks t)
+pub list-keeps : (P : State → Type 0) → ((t t′ : State) → Effect t t′ → P t → P t′) → (ks : List Call) (t : State) → P t → P (calls ks t .state)
 unfolding calls
 list-keeps P kept [] t p = p
-list-keeps P kept (k ∷ ks) t p = list-keeps P kept ks (call k t) (kept t (call k t) (effect-of k t) p)
+list-keeps P kept (k ∷ ks) t p = list-keeps P kept ks (afterCall k t) (kept t (afterCall k t) (effect-of k t) p)

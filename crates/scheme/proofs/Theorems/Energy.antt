@@ -21,7 +21,8 @@ use Rattle.scheme.specs.Book.{noStep, Book, fresh, scale, unroundedAt, u
 use Rattle.scheme.specs.Claims.{Passes, unroundedRun, bookEnergy, EnergyNeverNegative, EnergyNeverRaised, EnergyKept}
 use Rattle.scheme.proofs.Laws.Lists.{point-scaled}
 use Rattle.scheme.proofs.Laws.Step.{tabulated}
-use Rattle.scheme.proofs.Laws.Refusals.{InstrumentPasses, instrument-passes, passes-still}
+use Rattle.scheme.specs.Passing.{InstrumentPasses}
+use Rattle.scheme.proofs.Laws.Refusals.{instrument-passes, passes-still}
 use Rattle.scheme.proofs.Theorems.Forms.{weighed, held, energy-is}
 use Rattle.scheme.proofs.Theorems.Bounds.{energy-nonneg}
 use Rattle.scheme.proofs.Theorems.Instance.{freeStep, scheme}

@@ -13,7 +13,7 @@ use Rattle.scheme.specs.declared.Instrument.{Instrument}
 use Rattle.scheme.specs.Instruments.{D, points, moving}
 use Rattle.scheme.specs.Step.{laplacian, biharmonic, numerator, divisor}
 use Rattle.scheme.specs.Energy.{weight, pairSum, laplacianSum}
-use Rattle.scheme.proofs.Laws.Refusals.{InstrumentPasses}
+use Rattle.scheme.specs.Passing.{InstrumentPasses}
 use Rattle.scheme.proofs.Theorems.Forms.{weighed, weighed-form, weighed-nonneg, held, held-form, stepForm, step-form, energy-is, laplacian-parts, stiffness-parts}
 use Rattle.scheme.proofs.Theorems.Bounds.{some-columns, some-rows, soft-or-held, energy-nonneg}
 

@@ -1,31 +1,33 @@
--- A program whose calls keep their promises is a run of the definitions, so the bound holds of it.
+-- A program whose calls keep their promises is a run of the definitions, so what holds of every list of calls holds of it.
 use mathlib.Core.Path.{_≡_, refl, sym, ap, _∙_, subst}
 use mathlib.Core.List.{List, [], _∷_, map}
-use Rattle.scheme.specs.Calls.{accepted, AfterBlock, AfterPluck}
-use Rattle.scheme.specs.Table.{table}
-use Rattle.scheme.specs.Pluck.{pluckLevel}
-use Rattle.scheme.specs.Book.{bookBlock, bookPluck, Call, blockCall, pluckCall, State, start, call, calls}
+use lib.IntN.{ℤ}
+use Rattle.scheme.specs.Book.{Call, Outcome, Left, State, start, stateAfter, AfterCalls, calls}
 use Rattle.scheme.specs.Claims.{Near}
-use Rattle.scheme.specs.Program.{Made, blockMade, pluckMade, Kept, after, AllKept, afterAll, ProgramBound}
+use Rattle.scheme.specs.Program.{Made, AllKept, afterAll, ProgramBound}
 use Rattle.scheme.proofs.Theorems.Distance.{distance-bound}
 
--- the call that was made
-abbrev callOf : Made → Call
-callOf (blockMade i work₀ samples₀ pick h r older newer work samples) = blockCall i work₀ samples₀ pick h
-callOf (pluckMade g c w a r older newer) = pluckCall g c w a
+abbrev outcomesOf : List Made → List Outcome
+outcomesOf ms = map (λ (m : Made). m .left .outcome) ms
 
-one : (m : Made) (t : State) → Kept (t .older) (t .newer) m → after m t ≡ call (callOf m) t
-unfolding call
-one (blockMade i work₀ samples₀ pick h r older newer work samples) t e =
-    ap (λ (x : AfterBlock). record { older = x .older; newer = x .newer; book = bookBlock i h (t .older) (t .newer) (x .answer .steps) (t .book) }) e
-one (pluckMade g c w a r older newer) t e =
-    ap (λ (x : AfterPluck). record { older = x .older; newer = x .newer; book = bookPluck (accepted (x .refusal)) (pluckLevel table g c w a) (t .book) }) e
+abbrev callsOf : List Made → List Call
+callsOf ms = map (λ (m : Made). m .call) ms
 
-all : (ms : List Made) (t : State) → AllKept ms t → afterAll ms t ≡ calls (map callOf ms) t
+-- the levels that the program holds, and what its calls answered and left, are the definitions'
+pub program-run : (ms : List Made) (t : State) → AllKept ms t → calls (callsOf ms) t ≡ record { outcomes = outcomesOf ms; state = afterAll ms t }
 unfolding AllKept afterAll calls
-all [] t k = refl
-all (m ∷ ms) t k = all ms (after m t) (k .1) ∙ ap (calls (map callOf ms)) (one m t (k .0))
+program-run [] t k = refl
+program-run (m ∷ ms) t k =
+    ap (λ (l : Left). let rest : AfterCalls = calls (callsOf ms) (stateAfter (m .call) l t) in
+    record { outcomes = l .outcome ∷ rest .outcomes; state = rest .state }) (sym (k .0)) ∙
+    ap (λ (rest : AfterCalls). record { outcomes = m .left .outcome ∷ rest .outcomes; state = rest .state })
+    (program-run ms (stateAfter (m .call) (m .left) t) (k .1))
+
+-- what holds of every list of calls holds of every program
+pub of-program : (P : State → Type 0) → ((older newer : List ℤ) (ks : List Call) → P (calls ks (start older newer) .state))
+    → (older newer : List ℤ) (ms : List Made) → AllKept ms (start older newer) → P (afterAll ms (start older newer))
+of-program P of-list older newer ms kept =
+    subst (λ (r : AfterCalls). P (r .state)) (program-run ms (start older newer) kept) (of-list older newer (callsOf ms))
 
 pub program-bound : ProgramBound
-program-bound older newer ms k =
-    subst (λ (t : State). Near (t .newer) (t .book .n) (t .book .newer) (t .book .last)) (sym (all ms (start older newer) k)) (distance-bound older newer (map callOf ms))
+program-bound = of-program (λ t. Near (t .newer) (t .book .n) (t .book .newer) (t .book .last)) distance-bound

@@ -1,24 +1,38 @@
 -- `block` meets its contract: what the checks answer is the paper's refusal, and what they let pass is carried out.
 use mathlib.Core.Path.{_≡_, sym, ap, _∙_}
-use mathlib.Core.Bool.{false}
+use mathlib.Core.Bool.{Bool, false}
 use borrow.Author.Needs.{needs}
 use borrow.Author.Tests.{not-true, not-false}
+use lib.ListN.{length}
 use Rattle.scheme.specs.declared.Refusal.{Refusal}
-use Rattle.scheme.specs.Refusals.{blockRefusal}
+use Rattle.scheme.specs.Refusals.{wrongLength, blockRefusal}
 use Rattle.scheme.specs.Calls.{accepted, blockLeft}
 use Rattle.scheme.proofs.Laws.Refusals.{accepted-is}
 use Rattle.scheme.proofs.Laws.Calls.{block-refused}
-use Rattle.checks.proofs.RefusalLaws.{block-refusal-is}
+use Rattle.checks.proofs.RefusalLaws.{long-is, block-same}
 use Rattle.block.proofs.call.block.Statement.{statement}
 use Rattle.block.proofs.call.block.Tie as tie
 
 -- what was answered is what refuses the block
 module _ (c : tie.After-block-refusal) where
-  abbrev s : tie.Start
-  s = c .before .before .before
+  abbrev start : tie.Start
+  start = c .before .before .before .before
 
-  refusal-is : c .block-refusal .result ≡ blockRefusal (s .args .i) (s .args .older .now) (s .args .newer .now) (s .args .work .now) (s .args .pick) (s .args .hit)
-  refusal-is = c .block-refusal .ensures ∙ sym (block-refusal-is (s .args .i) (s .args .older .now) (s .args .newer .now) (s .args .work .now) (s .args .pick) (s .args .hit))
+  abbrev wrong : Bool
+  wrong = wrongLength (start .args .i .grid) (length (start .args .work .now))
+
+  abbrev refuses : Refusal
+  refuses = blockRefusal (start .args .i) (start .args .older .now) (start .args .newer .now) wrong (start .args .pick) (start .args .hit)
+
+  refusal-is : c .block-refusal .result ≡ refuses
+  refusal-is =
+      let tested = c .before .before .before .wrong-length in
+      c .block-refusal .ensures ∙
+      block-same (start .args .i) (start .args .older .now) (start .args .newer .now) (tested .result) wrong (start .args .pick) (start .args .hit)
+      (λ size. tested .ensures ∙ long-is (start .args .i .grid) (length (start .args .work .now)) size)
+
+wrong-length-requires : tie.Need-wrong-length-requires
+wrong-length-requires c κs = search needs
 
 block-refusal-requires : tie.Need-block-refusal-requires
 block-refusal-requires c κs = search needs
@@ -33,14 +47,18 @@ same-length-2 : tie.Need-same-length-2
 same-length-2 c = search needs
 
 returns : tie.Need-returns
-returns c = let s = c .before .before .before .before .before in
-    let r = refusal-is (c .before .before) in
-    let no : accepted (blockRefusal (s .args .i) (s .args .older .now) (s .args .newer .now) (s .args .work .now) (s .args .pick) (s .args .hit)) ≡ false = ap accepted (sym r) ∙ sym (c .before .is-nothing .ensures) ∙ not-true _ (c .if1 .taken) in
-    ap (λ (q : Refusal). blockLeft (record { steps = 0; refusal = q }) (s .args .older .now) (s .args .newer .now) (s .args .work .now) (s .args .samples .now)) r ∙
-    sym (block-refused (s .args .i) (s .args .older .now) (s .args .newer .now) (s .args .work .now) (s .args .samples .now) (s .args .pick) (s .args .hit) no)
+returns c =
+    let r = c .before .before in
+    let a = start r .args in
+    let no : accepted (refuses r) ≡ false = ap accepted (sym (refusal-is r)) ∙ sym (c .before .is-nothing .ensures) ∙ not-true _ (c .if1 .taken) in
+    ap (λ (q : Refusal). blockLeft (record { steps = 0; refusal = q }) (a .older .now) (a .newer .now) (a .work .now) (a .samples .now)) (refusal-is r) ∙
+    sym (block-refused (a .i) (a .older .now) (a .newer .now) (a .work .now) (a .samples .now) (a .pick) (a .hit) no)
 
 carry-out-requires : tie.Need-carry-out-requires
-carry-out-requires c κs = sym (refusal-is (c .before .before .before .before .before .before)) ∙ accepted-is (c .before .before .before .before .before .before .block-refusal .result) (sym (c .before .before .before .before .before .is-nothing .ensures) ∙ not-false _ (c .before .before .before .before .if1 .left))
+carry-out-requires c κs =
+    let e = c .before .before .before .before in
+    let r = e .before .before in
+    sym (refusal-is r) ∙ accepted-is (r .block-refusal .result) (sym (e .before .is-nothing .ensures) ∙ not-false _ (e .if1 .left))
 
 same-length-3 : tie.Need-same-length-3
 same-length-3 c = search needs
@@ -61,6 +79,7 @@ pub block-spec : {M : Type 1} → statement M
 block-spec =
     tie.close
     (tie.spec
+    wrong-length-requires
     block-refusal-requires
     is-nothing-requires
     same-length

@@ -6,7 +6,7 @@ use borrow.Author.Needs.{needs}
 use borrow.Author.Count.{below-none, below-more}
 use lib.ListN.{length, length-set}
 use lib.Seq.{getD-set-same, getD-set-other}
-use Rattle.checks.specs.Runs.{run, runOf}
+use Rattle.kinds.specs.Runs.{run, runOf}
 use Rattle.block.specs.Edges.{runAt}
 use Rattle.block.proofs.edges.row_edges.Statement.{statement}
 use Rattle.block.proofs.edges.row_edges.Tie as tie

@@ -4,7 +4,7 @@ use Prim.Native.Nat.{ℕ, zero, suc}
 use borrow.Author.Needs.{needs}
 use Rattle.scheme.specs.declared.Hit.{Hit}
 use Rattle.scheme.specs.declared.Hit.the-variants.{Absent}
-use Rattle.scheme.proofs.Laws.Calls.{hitAfter}
+use Rattle.scheme.specs.Calls.{hitAfter}
 use Rattle.block.proofs.play.hit_of.Statement.{statement}
 use Rattle.block.proofs.play.hit_of.Tie as tie
 

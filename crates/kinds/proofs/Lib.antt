@@ -1,0 +1,4 @@
+pub mod KindLaws
+pub mod SearchLaws
+pub mod RoundLaws
+pub mod RunLaws

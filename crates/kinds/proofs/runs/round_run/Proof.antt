@@ -1,0 +1,62 @@
+-- `round_run` meets its contract: the columns passed are at the edge.
+use mathlib.Core.Path.{sym, _∙_}
+use Prim.Native.Nat.{_-_}
+use native.Mathlib.Omega.{arith}
+use borrow.Author.Needs.{needs}
+use borrow.Author.Tests.{not-true, not-false}
+use Rattle.scheme.specs.Instruments.{roundEdge}
+use Rattle.kinds.specs.Search.{Passed}
+use Rattle.kinds.proofs.RoundLaws.{round-found, round-none}
+use Rattle.kinds.proofs.SearchLaws.{passed-none, passed-more}
+use Rattle.kinds.proofs.runs.round_run.Statement.{statement}
+use Rattle.kinds.proofs.runs.round_run.Tie as tie
+
+-- the columns passed are at the edge
+abbrev Inv-loop : tie.InvT-loop
+Inv-loop c b a₀ a = Passed c (λ k. roundEdge c k b) a
+
+abbrev μ-loop : tie.MeasureT-loop
+μ-loop c b a₀ a = c - a
+
+loop-holds : tie.Need-loop-holds Inv-loop μ-loop
+loop-holds c = passed-none _ _
+
+is-round-edge-requires : tie.Need-is-round-edge-requires Inv-loop μ-loop
+is-round-edge-requires c κs = search needs
+
+sub-t6 : tie.Need-sub-t6 Inv-loop μ-loop
+sub-t6 c = search needs
+
+returns : tie.Need-returns Inv-loop μ-loop
+returns c =
+    let l = c .before .before .before .loop in
+    sym (round-found _ _ (l .a) (l .inv) (omega arith) (sym (c .before .is-round-edge .ensures) ∙ not-true _ (c .if1 .taken)))
+
+add-a : tie.Need-add-a Inv-loop μ-loop
+add-a c = search needs
+
+loop-less : tie.Need-loop-less Inv-loop μ-loop
+loop-less c = search needs
+
+loop-again : tie.Need-loop-again Inv-loop μ-loop
+loop-again c =
+    let l = c .before .before .before .loop in
+    passed-more _ _ (omega arith) (l .inv) (sym (c .before .is-round-edge .ensures) ∙ not-false _ (c .if1 .left))
+
+returns-2 : tie.Need-returns-2 Inv-loop μ-loop
+returns-2 c = sym (round-none _ _ (c .before .loop .a) (c .before .loop .inv) (omega arith))
+
+pub round-run-spec : {M : Type 1} → statement M
+round-run-spec =
+    tie.close
+    (tie.spec
+    Inv-loop
+    μ-loop
+    loop-holds
+    is-round-edge-requires
+    sub-t6
+    returns
+    add-a
+    loop-less
+    loop-again
+    returns-2)

@@ -1,0 +1,3 @@
+-- What the functions of this crate promise, beside the definitions of the crate scheme.
+pub mod Search
+pub mod Runs

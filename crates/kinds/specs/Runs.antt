@@ -1,0 +1,47 @@
+-- The moving columns of a row, as a run from one column to another.
+use mathlib.Core.Bool.{Bool, _&&_, cond}
+use Prim.Native.Nat.{ℕ, _+_, _-_}
+use lib.Dec.{leb, ltb}
+use Rattle.scheme.specs.declared.Grid.{Grid}
+use Rattle.scheme.specs.Instruments.{Kind, unknown, fixedString, halfFreeString, freeString, bar, membrane, roundMembrane, kind, points, inTable, atEdge, roundEdge}
+use Rattle.kinds.specs.declared.runs.Run.{Run}
+use Rattle.kinds.specs.Search.{leading}
+
+-- columns × rows, where the table has the size
+abbrev pub pointsOf : Grid → ℕ
+pointsOf g = cond (inTable g) (points g) 0
+
+abbrev pub run : ℕ → ℕ → Run
+run a b = record { from = a; to = b }
+
+-- column a is in the run
+abbrev pub inRun : Run → ℕ → Bool
+inRun r a = leb (r .from) a && ltb a (r .to)
+
+-- "the outer ring of kind 5" is fixed: what moves in row b of c columns and r rows
+unfoldable pub innerRun : ℕ → ℕ → ℕ → Run
+innerRun c r b = cond (atEdge r b) (run 0 0) (run 1 (c - 1))
+
+-- "in kind 6 with G columns each point whose column a and row b satisfy .." is fixed: what moves in row b, from the first column that does, and as far from the right
+unfoldable pub roundRun : ℕ → ℕ → Run
+roundRun G b =
+    let first = leading G (λ a. roundEdge G a b) in
+    cond (ltb first G) (run first (G - first)) (run 0 0)
+
+-- "Fixed points are the ends named above .. The rest move": in row b of c columns and r rows
+unfoldable pub runIn : Kind → ℕ → ℕ → ℕ → Run
+runIn unknown c r b = run 0 0
+runIn fixedString c r b = run 1 (c - 1)
+runIn halfFreeString c r b = run 1 c
+runIn freeString c r b = run 0 c
+runIn bar c r b = run 1 (c - 1)
+runIn membrane c r b = innerRun c r b
+runIn roundMembrane c r b = roundRun c b
+
+-- the moving columns of a row (`moving-run`): none in a grid whose size the table does not have, or in a row that the grid does not have
+unfoldable pub runOf : Grid → ℕ → Run
+runOf g b = cond (inTable g && ltb b (g .rows)) (runIn (kind g) (g .columns) (g .rows) b) (run 0 0)
+
+-- the distance of two numbers
+abbrev pub apart : ℕ → ℕ → ℕ
+apart x y = x - y + (y - x)

@@ -1,0 +1,109 @@
+// Fixed or moving: the moving columns of each row, by a match over the kind number.
+ghost use mathlib.Core.Path.{_≡_};
+ghost use mathlib.Core.Bool.{true, _&&_};
+ghost use Prim.Native.Nat.{_≤_, _<_};
+ghost use Rattle.scheme.specs.Instruments.{kindOf, sizeIn, inTable, moving, roundEdge};
+ghost use Rattle.kinds.specs.Runs.{inRun, innerRun, roundRun, runIn, runOf, apart};
+use crate::sizes::has_size;
+use scheme::Grid;
+
+// The columns a with from ≤ a < to.
+pub struct Run {
+    pub from: usize,
+    pub to: usize,
+}
+
+fn distance(x: usize, y: usize) -> usize
+    ensures { λ r. ⌜ r ≡ apart x y ⌝ }
+{
+    if x < y { y - x } else { x - y }
+}
+
+// Whether column a of row b is at the edge of a round membrane of c columns.
+fn is_round_edge(c: usize, a: usize, b: usize) -> bool
+    requires { ⌜ (c ≤ 64) × (a < c) × (b < c) ⌝ }
+    ensures { λ r. ⌜ r ≡ roundEdge c a b ⌝ }
+{
+    let x = distance(2 * a + 1, c);
+    let y = distance(2 * b + 1, c);
+    (c - 1) * (c - 1) <= x * x + y * y
+}
+
+// Row b of a round membrane of c columns: from its first moving column, and as far from the right.
+fn round_run(c: usize, b: usize) -> Run
+    requires { ⌜ (c ≤ 64) × (b < c) ⌝ }
+    ensures { λ r. ⌜ r ≡ roundRun c b ⌝ }
+{
+    let mut a = 0;
+    while a < c {
+        if !is_round_edge(c, a, b) {
+            return Run { from: a, to: c - a };
+        }
+        a += 1;
+    }
+    Run { from: 0, to: 0 }
+}
+
+// Row b of a rectangular membrane of c columns and r rows.
+fn inner_run(c: usize, r: usize, b: usize) -> Run
+    requires { ⌜ (1 ≤ c) × (b < r) ⌝ }
+    ensures { λ x. ⌜ x ≡ innerRun c r b ⌝ }
+{
+    if b == 0 {
+        return Run { from: 0, to: 0 };
+    }
+    if b + 1 == r {
+        return Run { from: 0, to: 0 };
+    }
+    Run { from: 1, to: c - 1 }
+}
+
+// Row b of c columns and r rows, a size that the table has for the kind.
+fn kind_run(kind: u64, c: usize, r: usize, b: usize) -> Run
+    requires { ⌜ (sizeIn (kindOf kind) c r ≡ true) × (b < r) ⌝ }
+    ensures { λ x. ⌜ x ≡ runIn (kindOf kind) c r b ⌝ }
+{
+    let last = c - 1;
+    match kind {
+        1 | 4 => Run { from: 1, to: last },
+        2 => Run { from: 1, to: c },
+        3 => Run { from: 0, to: c },
+        5 => inner_run(c, r, b),
+        6 => round_run(c, b),
+        _ => Run { from: 0, to: 0 },
+    }
+}
+
+// The moving columns of a row; none where the table does not have the grid's size, or the grid does not have the row.
+// Ruled out: the last column of kind 2 taken as fixed; the outer ring of kind 5 forgotten in its last row; > for ≥ at the round edge.
+pub fn movable_run(g: Grid, row: usize) -> Run
+    ensures { λ r. ⌜ r ≡ runOf g row ⌝ }
+{
+    if !has_size(g) {
+        return Run { from: 0, to: 0 };
+    }
+    if g.rows <= row {
+        return Run { from: 0, to: 0 };
+    }
+    kind_run(g.kind, g.columns, g.rows, row)
+}
+
+fn is_in(run: Run, a: usize) -> bool
+    ensures { λ r. ⌜ r ≡ inRun run a ⌝ }
+{
+    if run.from <= a { a < run.to } else { false }
+}
+
+// Whether a point moves, by the run of its row; none does where the table does not have the grid's size.
+// Ruled out: the row taken for the column; every row judged by the first.
+pub fn is_moving(g: Grid, point: usize) -> bool
+    ensures { λ r. ⌜ r ≡ (inTable g && moving g point) ⌝ }
+{
+    if !has_size(g) {
+        return false;
+    }
+    let columns = g.columns;
+    let row = point / columns;
+    let a = point % columns;
+    is_in(movable_run(g, row), a)
+}

@@ -1,0 +1,28 @@
+-- Points of a level that are not 0.
+use mathlib.Core.Bool.{Bool, _&&_, _||_}
+use mathlib.Core.List.{List}
+use Prim.Native.Nat.{ℕ, _+_, _-_}
+use lib.Dec.{ltb, eqb}
+use lib.IntN.{ℤ, natAbs}
+use lib.ListN.{length}
+use Rattle.scheme.specs.declared.Grid.{Grid}
+use Rattle.scheme.specs.Lists.{point, someBelow}
+use Rattle.scheme.specs.Instruments.{points, inTable}
+use Rattle.scheme.specs.Refusals.{fixedNotZero}
+use Rattle.kinds.specs.declared.runs.Run.{Run}
+
+-- point k is not 0
+abbrev pub notZero : List ℤ → ℕ → Bool
+notZero xs k = ltb 0 (natAbs (point xs k))
+
+-- some of the n points from a on is not 0
+unfoldable pub someNotZero : List ℤ → ℕ → ℕ → Bool
+someNotZero xs a n = someBelow n (λ k. notZero xs (a + k))
+
+-- some point of the row of c columns that begins at a is not 0, before its run or after it
+abbrev pub rowNotZero : List ℤ → ℕ → ℕ → Run → Bool
+rowNotZero xs a c r = someNotZero xs a (r .from) || someNotZero xs (a + r .to) (c - r .to)
+
+-- 12 "A fixed point .. not 0", of a level that is as long as a grid whose size the table has
+unfoldable pub unfixed : Grid → List ℤ → Bool
+unfixed g xs = inTable g && (eqb (length xs) (points g) && fixedNotZero g xs)

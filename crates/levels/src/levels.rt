@@ -1,0 +1,100 @@
+// What a level's points are refused for: one beyond the ceiling, a fixed one that is not 0.
+ghost use mathlib.Core.Path.{_≡_};
+ghost use mathlib.Core.Bool.{true};
+ghost use Prim.Native.Nat.{_+_, _≤_};
+ghost use lib.ListN.{length};
+ghost use Rattle.scheme.specs.Instruments.{points, beyond};
+ghost use Rattle.scheme.specs.Step.{someBeyond};
+ghost use Rattle.scheme.specs.Refusals.{fixedNotZero};
+ghost use Rattle.scheme.specs.Instruments.{inTable};
+ghost use Rattle.levels.specs.Levels.{someNotZero, rowNotZero, unfixed};
+use kinds::Run;
+use kinds::has_size;
+use kinds::movable_run;
+use kinds::points_of;
+use scheme::Grid;
+use scheme::Settings;
+
+// Ruled out: the ceiling itself taken as beyond; below zero, all but the points beyond.
+pub fn is_beyond(v: i64) -> bool
+    ensures { λ r. ⌜ r ≡ beyond v ⌝ }
+{
+    if v < -Settings::CEILING {
+        return true;
+    }
+    Settings::CEILING < v
+}
+
+// Ruled out: point 0 left out; every other point left out.
+pub fn some_beyond(xs: &[i64]) -> bool
+    ensures { λ r. ⌜ r ≡ someBeyond (now (xs .entry)) ⌝ }
+{
+    let mut point = 0;
+    while point < xs.len() {
+        if is_beyond(xs[point]) {
+            return true;
+        }
+        point += 1;
+    }
+    false
+}
+
+// Whether some of the n points from start on is not 0.
+fn some_not_zero(xs: &[i64], start: usize, n: usize) -> bool
+    requires { ⌜ start + n ≤ length (now xs) ⌝ }
+    ensures { λ r. ⌜ r ≡ someNotZero (now (xs .entry)) start n ⌝ }
+{
+    let mut k = 0;
+    while k < n {
+        if xs[start + k] != 0 {
+            return true;
+        }
+        k += 1;
+    }
+    false
+}
+
+// Whether some point of the row that begins at start is not 0, before its run or after it.
+fn row_not_zero(xs: &[i64], start: usize, columns: usize, run: Run) -> bool
+    requires { ⌜ (run .from ≤ columns) × (run .to ≤ columns) × (start + columns ≤ length (now xs)) ⌝ }
+    ensures { λ r. ⌜ r ≡ rowNotZero (now (xs .entry)) start columns run ⌝ }
+{
+    if some_not_zero(xs, start, run.from) {
+        return true;
+    }
+    some_not_zero(xs, start + run.to, columns - run.to)
+}
+
+// 12, of a level that is as long as the grid.
+fn rows_not_zero(g: Grid, xs: &[i64]) -> bool
+    requires { ⌜ (inTable g ≡ true) × (length (now xs) ≡ points g) ⌝ }
+    ensures { λ r. ⌜ r ≡ fixedNotZero g (now (xs .entry)) ⌝ }
+{
+    let columns = g.columns;
+    let rows = g.rows;
+    let mut row = 0;
+    let mut start = 0;
+    while row < rows {
+        let run = movable_run(g, row);
+        if row_not_zero(xs, start, columns, run) {
+            return true;
+        }
+        row += 1;
+        start += columns;
+    }
+    false
+}
+
+// 12, of a level as long as a grid whose size the table has; of any other the answer is no.
+// Ruled out: a run's first columns looked at in place of those after it; as many rows looked at as there are columns.
+pub fn is_unfixed(g: Grid, xs: &[i64]) -> bool
+    ensures { λ r. ⌜ r ≡ unfixed g (now (xs .entry)) ⌝ }
+{
+    if !has_size(g) {
+        return false;
+    }
+    if xs.len() != points_of(g) {
+        return false;
+    }
+    rows_not_zero(g, xs)
+}

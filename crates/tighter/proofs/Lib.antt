@@ -1,0 +1,9 @@
+pub mod Line
+pub mod Edge
+pub mod Coercive
+pub mod Lyapunov
+pub mod Loss
+pub mod Holding
+pub mod Bounds
+pub mod Points
+pub mod Programs

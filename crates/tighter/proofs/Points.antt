@@ -1,0 +1,106 @@
+-- Bounds at one point: a point's own part of the squared distances, demand 3's bound there, and the paper's example voice.
+use mathlib.Core.Path.{_≡_, refl, sym, ap, subst}
+use mathlib.Core.Bool.{true}
+use mathlib.Core.List.{List}
+use Prim.Native.Nat.{ℕ, zero, suc, _*_, _^_, _≤_, _<_}
+use native.Mathlib.Nat as N
+use native.Mathlib.Decide.{ℕ-discrete}
+use native.Mathlib.Omega.{arith}
+use lib.IntN.{ℤ, pos, _+ℤ_, _*ℤ_}
+use Rattle.integers.specs.Sum.{sum}
+use Rattle.integers.proofs.Ring.{#_, _⊕_, _⊗_, _²}
+use Rattle.integers.proofs.Order.{_⩽_, 0≤pos, pos≤, pos<, square-nonneg, nonneg-mul, *ℤ-mono-r, *ℤ-cancel, ≡-≤ℤ, ≤ℤ-≡}
+use Rattle.integers.proofs.Order.{≤ℤ-trans}
+use Rattle.integers.proofs.Lin.{_⊴_, _*≤_, _*⊴_, _⇒_, ⊩_, lin}
+use Rattle.integers.proofs.Sum.{sum-nonneg}
+use Rattle.scheme.specs.declared.Instrument.{Instrument}
+use Rattle.scheme.specs.Lists.{square}
+use Rattle.scheme.specs.Instruments.{D, kindOf, kind, points, freeIn}
+use Rattle.scheme.specs.Energy.{weight, squares}
+use Rattle.scheme.specs.Book.{LastStep, noStep, stepOf, scale, start, calls}
+use Rattle.scheme.specs.Claims.{distance, bound, Near}
+use Rattle.scheme.proofs.Theorems.Distance.{distance-bound}
+use Rattle.tighter.specs.Claims.{edged, reach, byTension, OfSteps, After, ForEver, difference, OnePoint, PointWithin}
+use Rattle.tighter.specs.Claims.{AtOnePoint, voice, VoiceWithin, VoiceForEver}
+use Rattle.tighter.proofs.Line.{sum-suc}
+use Rattle.tighter.proofs.Bounds.{for-ever-bound}
+
+-- one term of a sum of terms that are not negative
+one-of : (n : ℕ) (f : ℕ → ℤ) → ((k : ℕ) → k < n → pos 0 ⩽ f k) → (k : ℕ) → k < n → f k ⩽ sum n f
+one-of zero f h k l = absurd (omega arith)
+one-of (suc n) f h k l = ≤ℤ-≡ (go (ℕ-discrete k n) (one-of n f (λ j m. h j (omega arith)) k)) (sym (sum-suc n f))
+  where
+    go : Dec (k ≡ n) → (k < n → f k ⩽ sum n f) → f k ⩽ sum n f +ℤ f n
+    go (yes e) r = ≡-≤ℤ (ap f e) (lin 2 (λ s x. 1 *≤ # 0 ⊴ s ⇒ ⊩ x ⊴ s ⊕ x) refl (sum n f) (f n) (sum-nonneg n (λ j m. h j (omega arith))))
+    go (no e) r = lin 3 (λ s x y. 1 *≤ x ⊴ s ⇒ 1 *≤ # 0 ⊴ y ⇒ ⊩ x ⊴ s ⊕ y) refl
+        (sum n f) (f k) (f n) (r (omega (arith, e))) (h n (omega arith))
+
+pub one-point : OnePoint
+unfolding squares
+one-point i n newer unrounded k l =
+    one-of (points (i .grid)) (λ j. pos (weight (i .grid) j) *ℤ square (difference i n newer unrounded j))
+    (λ j m. nonneg-mul (0≤pos (weight (i .grid) j)) (square-nonneg (difference i n newer unrounded j))) k l
+
+-- ---- demand 3's bound
+
+at-most : {c k : ℕ} (x : ℤ) {y : ℤ} → c ≤ k → pos 0 ⩽ x → pos k *ℤ x ⩽ y → pos c *ℤ x ⩽ y
+at-most x l h b = ≤ℤ-trans (*ℤ-mono-r x h (pos≤ l)) b
+
+near-at : (newer : List ℤ) (n : ℕ) (unrounded : List ℤ) (last : LastStep) → Near newer n unrounded last
+    → After PointWithin newer n unrounded last
+near-at newer zero unrounded last h = h
+near-at newer (suc m) unrounded noStep h = h
+near-at newer (suc m) unrounded (stepOf i) h = (
+  h .all-points,
+  λ k l. let x : ℤ = square (difference i (suc m) newer unrounded k) in
+      at-most {k = 16 * weight (i .grid) k} x (N.mul-le-mul (omega arith) (N.le-refl (weight (i .grid) k)))
+      (square-nonneg (difference i (suc m) newer unrounded k))
+      (lin 4 (λ w x s B. 16 *≤ w ⊗ x ⊴ s ⇒ 1 *≤ # 16 ⊗ s ⊴ B ⇒ ⊩ (# 16 ⊗ w) ⊗ x ⊴ B) refl
+      (pos (weight (i .grid) k)) x (distance i (suc m) newer unrounded) (bound i (suc m)) (one-point i (suc m) newer unrounded k l)
+      (h .near)),
+)
+
+pub at-one-point : AtOnePoint
+at-one-point older newer ks = let t = calls ks (start older newer) in
+    near-at (t .newer) (t .book .n) (t .book .newer) (t .book .last) (distance-bound older newer ks)
+
+-- ---- the voice
+
+after-each : (P Q : OfSteps) → ((i : Instrument) (n : ℕ) (newer unrounded : List ℤ) → P i n newer unrounded → Q i n newer unrounded)
+    → (newer : List ℤ) (n : ℕ) (unrounded : List ℤ) (last : LastStep) → After P newer n unrounded last → After Q newer n unrounded last
+after-each P Q f newer zero unrounded last h = h
+after-each P Q f newer (suc m) unrounded noStep h = h
+after-each P Q f newer (suc m) unrounded (stepOf i) h = (h .0, f i (suc m) newer unrounded (h .1))
+
+voice-edged : edged (kind (voice .grid)) ≡ true
+unfolding edged kindOf
+voice-edged = refl
+
+voice-weight : (k : ℕ) → weight (voice .grid) k ≡ 2
+unfolding weight freeIn kindOf
+voice-weight k = refl
+
+-- from 2·x ≤ e and k·e ≤ y·r²·p, where the numbers say so
+by-numbers : (a b k y r : ℕ) (x e p : ℤ) → 0 < k → pos 0 ⩽ p → pos 2 *ℤ x ⩽ e → pos k *ℤ e ⩽ pos y *ℤ (square (pos r) *ℤ p)
+    → a * (y * (r * r)) ≤ 2 * k * b → pos a *ℤ x ⩽ pos b *ℤ p
+by-numbers a b k y r x e p some p-nonneg part all numbers = *ℤ-cancel {a = pos (2 * k)} (pos< (omega arith))
+    (lin 8 (λ a b k y r x e p. (a ⊗ k) *⊴ # 2 ⊗ x ⊴ e ⇒ a *⊴ k ⊗ e ⊴ y ⊗ (r ² ⊗ p) ⇒ p *⊴ a ⊗ (y ⊗ r ²) ⊴ # 2 ⊗ k ⊗ b ⇒
+    ⊩ (# 2 ⊗ k) ⊗ (a ⊗ x) ⊴ (# 2 ⊗ k) ⊗ (b ⊗ p)) refl
+    (pos a) (pos b) (pos k) (pos y) (pos r) x e p (0≤pos (a * k)) part (0≤pos a) all p-nonneg (pos≤ numbers))
+
+voice-at : (n : ℕ) (newer unrounded : List ℤ) → ForEver byTension voice n newer unrounded → (k : ℕ) → k < points (voice .grid)
+    → pos 625 *ℤ square (difference voice n newer unrounded k) ⩽ pos (2 ^ 56) *ℤ square (scale (voice .settings) n)
+voice-at n newer unrounded h k l =
+    let x : ℤ = square (difference voice n newer unrounded k) in
+    by-numbers 625 (2 ^ 56) (4 * (8 * 8 * 11378)) (reach (voice .grid) * D * (2 * points (voice .grid))) 65544
+    x (distance voice n newer unrounded) (square (scale (voice .settings) n)) (omega arith) (square-nonneg (scale (voice .settings) n))
+    (≡-≤ℤ (ap (λ (w : ℕ). pos w *ℤ x) (sym (voice-weight k))) (one-point voice n newer unrounded k l))
+    (h voice-edged (omega arith)) (omega arith)
+
+pub voice-for-ever : VoiceForEver
+voice-for-ever older newer ks = let t = calls ks (start older newer) in
+    after-each (ForEver byTension) VoiceWithin
+    (λ i n newer unrounded h e. subst (λ (j : Instrument). ForEver byTension j n newer unrounded → (k : ℕ) → k < points (j .grid)
+    → pos 625 *ℤ square (difference j n newer unrounded k) ⩽ pos (2 ^ 56) *ℤ square (scale (j .settings) n)) (sym e)
+    (voice-at n newer unrounded) h)
+    (t .newer) (t .book .n) (t .book .newer) (t .book .last) (for-ever-bound older newer ks)

@@ -1,0 +1,79 @@
+"""The proved bounds on the squared distances summed, as fractions: demand 3's and those of crates/tighter.
+
+Each takes a grid (kind, columns, rows), settings (q, m, s) and the steps n, and answers None where it says nothing.
+"""
+
+from fractions import Fraction
+
+from instrument import D
+
+# "edged" of crates/tighter/specs/Claims.antt: the kinds with a fixed edge.
+EDGED = (1, 2, 4, 5, 6)
+
+
+def by_tension(grid, settings):
+    """(hold, far)."""
+    return settings[0], grid[1] ** 2
+
+
+def by_stiffness(grid, settings):
+    return 2 * settings[1], grid[1] ** 4
+
+
+def size(grid):
+    return grid[1] * grid[2]
+
+
+def demanded(grid, settings, n):
+    """DistanceBound."""
+    return Fraction(size(grid) * (n * (n + 1)) ** 2, 16)
+
+
+def linear(holding, grid, settings, n):
+    """LinearBound, StiffLinearBound: 4 hold S <= far D N n^2."""
+    hold, far = holding(grid, settings)
+    if grid[0] in EDGED and hold:
+        return Fraction(far * D * size(grid) * n**2, 4 * hold)
+
+
+def loss_linear(grid, settings, n):
+    """LossLinearBound: 4 s^2 S <= N (D+s)^2 n^2."""
+    s = settings[2]
+    if s:
+        return Fraction(size(grid) * ((D + s) * n) ** 2, 4 * s**2)
+
+
+def for_ever(holding, grid, settings):
+    """ForEverBound, StiffForEverBound: 4 s^2 hold S <= far D N (D+s)^2 where far s^2 <= hold D."""
+    (hold, far), s = holding(grid, settings), settings[2]
+    if grid[0] in EDGED and s and hold and far * s**2 <= hold * D:
+        return Fraction(far * D * size(grid) * (D + s) ** 2, 4 * s**2 * hold)
+
+
+def heavy_loss(holding, grid, settings):
+    """HeavyLossBound, StiffHeavyLossBound: hold^2 S <= 4 far^2 N (D+s)^2 where hold D <= far s^2."""
+    (hold, far), s = holding(grid, settings), settings[2]
+    if grid[0] in EDGED and hold and hold * D <= far * s**2:
+        return Fraction(4 * far**2 * size(grid) * (D + s) ** 2, hold**2)
+
+
+def all_bounds(grid, settings, n):
+    """Every bound that says something, by the name of its proposition."""
+    found = {
+        "DistanceBound": demanded(grid, settings, n),
+        "LinearBound": linear(by_tension, grid, settings, n),
+        "StiffLinearBound": linear(by_stiffness, grid, settings, n),
+        "LossLinearBound": loss_linear(grid, settings, n),
+        "ForEverBound": for_ever(by_tension, grid, settings),
+        "StiffForEverBound": for_ever(by_stiffness, grid, settings),
+        "HeavyLossBound": heavy_loss(by_tension, grid, settings),
+        "StiffHeavyLossBound": heavy_loss(by_stiffness, grid, settings),
+    }
+    return {name: bound for name, bound in found.items() if bound is not None}
+
+
+def passed(book, newer):
+    """The names of the bounds that newer passes, with the book's n above 0: none, if what is proved is so."""
+    distance, twice = book.distance(newer), 2 * book.scale**2
+    return [name for name, bound in all_bounds(*book.last, book.n).items()
+            if distance * bound.denominator > bound.numerator * twice]

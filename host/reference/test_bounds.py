@@ -1,0 +1,88 @@
+"""The formulas of bounds.py: on runs that come near them, and against wrong formulas, which these runs pass.
+
+    python3 test_bounds.py
+"""
+
+import math
+import unittest
+from fractions import Fraction
+
+import bounds
+from book import Book, energy
+from instrument import D
+from step import next_level, round_half_away
+
+
+def run(grid, settings, older, newer, steps, hits=lambda book, older, newer: None):
+    """(S, book, newer) after so many steps, with S the squared distances summed, a free end counted half."""
+    book = Book(older, newer)
+    book.last = grid, settings
+    for _ in range(steps):
+        hit = hits(book, older, newer)
+        older, newer = newer, next_level(grid, settings, older, newer, hit)
+        book.step(hit)
+    return Fraction(book.distance(newer), 2 * book.scale**2), book, newer
+
+
+def resonance(book, older, newer):
+    """Kind 1, 3 points, q D - 1, s 0: a hit after which the next step rounds away from the error of now."""
+    error = newer[1] * book.scale - book.newer[1]
+    wanted = 16384 if error <= 0 else 16383
+    return 1, wanted - round_half_away(2 * newer[1] - D * older[1], D)
+
+
+class Bounds(unittest.TestCase):
+    def held(self, found):
+        """S of a run whose bounds all hold."""
+        total, book, newer = found
+        self.assertEqual(bounds.passed(book, newer), [])
+        return total
+
+    def test_string_at_rest(self):
+        """The engine rests on a parabola that the unrounded string leaves: C for C^2, no growth with n."""
+        grid, settings = (1, 64, 1), (32767, 0, 0)
+        level = [k * (63 - k) // 2 for k in range(64)]
+        total = self.held(run(grid, settings, level, level, 89))
+        bound = bounds.linear(bounds.by_tension, grid, settings, 89)
+        self.assertGreater(total, bound / 64)
+        self.assertGreater(total, bound / 89**2)
+
+    def test_free_string(self):
+        """No edge holds kind 3."""
+        grid, settings = (3, 3, 1), (D, 0, 1)
+        total = self.held(run(grid, settings, [0] * 3, [16384] * 3, 200))
+        self.assertGreater(total, bounds.linear(bounds.by_tension, (1, 3, 1), settings, 200))
+
+    def test_condition_of_for_ever(self):
+        total = self.held(run((1, 3, 1), (1, 0, 8192), [0, 18431, 0], [0, 18431, 0], 30000))
+        self.assertGreater(total, Fraction(9 * D * 3 * (D + 8192) ** 2, 4 * 8192**2))
+
+    def test_condition_of_heavy_loss(self):
+        """Without loss hits can drive the error on and on."""
+        total = self.held(run((1, 3, 1), (D - 1, 0, 0), [0, 16384, 0], [0, 16384, 0], 400, resonance))
+        self.assertGreater(total, Fraction(4 * 9**2 * 3 * D**2, (D - 1) ** 2))
+
+    def test_one_step(self):
+        """A point that is off by a half: 64 for 16, and 64 for 4 in the linear bound by loss."""
+        total = self.held(run((1, 3, 1), (1, 0, 0), [0, 16384, 0], [0, 16384, 0], 1))
+        self.assertGreater(total, bounds.demanded((1, 3, 1), (1, 0, 0), 1) / 4)
+        total = self.held(run((1, 3, 1), (D // 2, 0, D), [0] * 3, [0, 1, 0], 1))
+        self.assertGreater(total, bounds.loss_linear((1, 3, 1), (D // 2, 0, D), 1) / 16)
+
+    def test_levels_held_by_stiffness(self):
+        grid, settings = (4, 32, 1), (0, 16384, 0)
+        level = [round(10**6 * math.sin(math.pi * k / 31)) for k in range(32)]
+        squares = 2 * (2 * sum(x * x for x in level))
+        hold, far = bounds.by_stiffness(grid, settings)
+        self.assertLessEqual(hold * squares, far * energy(grid, settings, level, level))
+        self.assertGreater(hold * squares, 32**2 * energy(grid, settings, level, level))
+
+    def test_example_voice(self):
+        """VoiceForEver: a 25th of a sample unit."""
+        bound = bounds.for_ever(bounds.by_tension, (1, 101, 1), (11378, 0, 8))
+        self.assertLessEqual(bound, Fraction(2**56, 25**2))
+        self.assertGreater(bound, Fraction(2**56, 27**2))
+
+
+if __name__ == "__main__":
+    unittest.main()
