@@ -17,7 +17,7 @@ use Rattle.scheme.specs.Instruments.{D, kind, points, moving}
 use Rattle.scheme.specs.Step.{divisor}
 use Rattle.scheme.specs.Book.{LastStep, Book, scale, State, start, calls}
 use Rattle.scheme.specs.Claims.{distance}
-use Rattle.scheme.proofs.Laws.Refusals.{InstrumentPasses}
+use Rattle.scheme.specs.Passing.{InstrumentPasses}
 use Rattle.scheme.proofs.Theorems.Forms.{weighed, weighed-form, weighed-nonneg, squares-are}
 use Rattle.scheme.proofs.Theorems.Instance.{freeStep, free-still}
 use Rattle.scheme.proofs.Theorems.Distance.{gap, OfErrors, StepsKeep, Beside, Invariant, agrees, stepping, list-invariant}
@@ -43,7 +43,7 @@ module _ (C : OfSteps) (P : OfErrors) (kept : StepsKeep P)
       )
 
   of-every-list : OfEveryList C
-  of-every-list older newer ks = after (calls ks (start older newer)) (list-invariant P kept older newer ks)
+  of-every-list older newer ks = after ((calls ks (start older newer)) .state) (list-invariant P kept older newer ks)
 
 -- ---- what the steps of an instrument keep, with what they keep of its errors
 

@@ -22,7 +22,7 @@ use Rattle.scheme.specs.Instruments.{D, Kind, unknown, fixedString, halfFreeStr
 use Rattle.scheme.specs.Instruments.{moving}
 use Rattle.scheme.specs.Step.{beside, laplacian, innerLaplacian}
 use Rattle.scheme.specs.Energy.{weight, later, pairSum, laplacianSum, energy}
-use Rattle.scheme.proofs.Laws.Refusals.{InstrumentPasses}
+use Rattle.scheme.specs.Passing.{InstrumentPasses}
 use Rattle.scheme.proofs.Laws.Kinds.{degree, stable-means}
 use Rattle.scheme.proofs.Theorems.Balance.{beside-balance}
 use Rattle.scheme.proofs.Theorems.Forms.{weighed, weighed-form, weighed-nonneg, pair-form, pair-nonneg, laplacian-form, laplacian-nonneg}

@@ -16,7 +16,8 @@ use Rattle.scheme.specs.Lists.{point}
 use Rattle.scheme.specs.Instruments.{D, kind, points, moving}
 use Rattle.scheme.specs.Energy.{weight, squares, energy}
 use Rattle.scheme.proofs.Laws.Ranges.{coefficients-small}
-use Rattle.scheme.proofs.Laws.Refusals.{InstrumentPasses, instrument-passes, passes-still}
+use Rattle.scheme.specs.Passing.{InstrumentPasses}
+use Rattle.scheme.proofs.Laws.Refusals.{instrument-passes, passes-still}
 use Rattle.scheme.proofs.Theorems.Forms.{weighed, weighed-form, weighed-nonneg, stepForm, step-form, energy-is}
 use Rattle.scheme.proofs.Theorems.Bounds.{some-columns, energy-nonneg}
 use Rattle.scheme.proofs.Theorems.Instance.{freeStep, free-still, step-law}

@@ -61,7 +61,7 @@ near-at newer (suc m) unrounded (stepOf i) h = (
 )
 
 pub at-one-point : AtOnePoint
-at-one-point older newer ks = let t = calls ks (start older newer) in
+at-one-point older newer ks = let t = (calls ks (start older newer)) .state in
     near-at (t .newer) (t .book .n) (t .book .newer) (t .book .last) (distance-bound older newer ks)
 
 -- ---- the voice
@@ -98,7 +98,7 @@ voice-at n newer unrounded h k l =
     (h voice-edged (omega arith)) (omega arith)
 
 pub voice-for-ever : VoiceForEver
-voice-for-ever older newer ks = let t = calls ks (start older newer) in
+voice-for-ever older newer ks = let t = (calls ks (start older newer)) .state in
     after-each (ForEver byTension) VoiceWithin
     (λ i n newer unrounded h e. subst (λ (j : Instrument). ForEver byTension j n newer unrounded → (k : ℕ) → k < points (j .grid)
     → pos 625 *ℤ square (difference j n newer unrounded k) ⩽ pos (2 ^ 56) *ℤ square (scale (j .settings) n)) (sym e)

@@ -77,7 +77,7 @@ After P newer (suc m) unrounded (stepOf i) = (length newer ≡ points (i .grid))
 -- any two starting levels, any list of blocks and plucks, refused ones included
 abbrev pub OfEveryList : OfSteps → Type 0
 OfEveryList P = (older newer : List ℤ) (ks : List Call) →
-    let t = calls ks (start older newer) in After P (t .newer) (t .book .n) (t .book .newer) (t .book .last)
+    let t = (calls ks (start older newer)) .state in After P (t .newer) (t .book .n) (t .book .newer) (t .book .last)
 
 -- the same of the levels that a program holds, known by its calls
 abbrev pub OfEveryProgram : OfSteps → Type 0
