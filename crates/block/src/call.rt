@@ -60,7 +60,7 @@ fn carry_out(
 }
 
 // As many steps as samples has places, the hit in the first; or what refuses them.
-// Ruled out: a sample given in two places; a level written though its last point passes the ceiling.
+// Ruled out: every sample put in the first place; a level put in place though its last point passes the ceiling.
 pub fn block(
     i: Instrument,
     older: &mut [i64],

@@ -1,45 +1,15 @@
 -- The calls as C sees them: numbers and slices in, and all that comes back, the refusal by its number.
-use mathlib.Core.Bool.{cond}
 use mathlib.Core.List.{List}
 use Prim.Native.Nat.{ℕ}
-use lib.Dec.{eqb}
 use lib.Ieee.{Float}
 use lib.IntN.{ℤ}
-use Rattle.scheme.specs.declared.Grid.{Grid}
-use Rattle.scheme.specs.declared.Instrument.{Instrument}
-use Rattle.scheme.specs.declared.Hit.{Hit}
-use Rattle.scheme.specs.declared.Hit.the-variants.{Absent, At}
 use Rattle.scheme.specs.declared.ReadingAnswer.{ReadingAnswer}
 use Rattle.scheme.specs.Refusals.{number}
 use Rattle.scheme.specs.Calls.{AfterBlock, AfterPluck}
 use Rattle.scheme.specs.Calls as Calls
-use Rattle.sheet.specs.declared.Speed.{Speed}
-use Rattle.sheet.specs.declared.Speed.the-variants.{Hertz, Tension}
-use Rattle.sheet.specs.declared.Loss.{Loss}
-use Rattle.sheet.specs.declared.Loss.the-variants.{PerSecond, Seconds}
-use Rattle.sheet.specs.declared.Sheet.{Sheet}
 use Rattle.sheet.specs.declared.SheetAnswer.{SheetAnswer}
 use Rattle.sheet.specs.Call.{sheetCall}
-
--- ---- arguments
-
-abbrev pub gridOf : (kind columns rows : ℕ) → Grid
-gridOf kind columns rows = record { kind = kind; columns = columns; rows = rows }
-
-abbrev pub instrumentOf : (kind columns rows q m s : ℕ) → Instrument
-instrumentOf kind columns rows q m s = record { grid = gridOf kind columns rows; settings = record { q = q; m = m; s = s } }
-
--- a flag of 0: no hit
-abbrev pub hitOf : (hit point : ℕ) → ℤ → Hit
-hitOf hit point force = cond (eqb hit 0) Absent (At point force)
-
--- a flag of 0: the speed is in hertz, and the density plays no part
-abbrev pub speedOf : (byTension : ℕ) → (speed density : Float) → Speed
-speedOf byTension speed density = cond (eqb byTension 0) (Hertz speed) (Tension speed density)
-
--- a flag of 0: the loss is per second
-abbrev pub lossOf : (bySeconds : ℕ) → Float → Loss
-lossOf bySeconds loss = cond (eqb bySeconds 0) (PerSecond loss) (Seconds loss)
+use Rattle.packing.specs.Packing.{gridOf, instrumentOf, hitOf, sheetOf}
 
 -- ---- a block
 
@@ -52,7 +22,14 @@ pub record BlockLeft : Type 0 where
   pub samples : List ℤ
 
 abbrev pub blockLeft : (refusal steps : ℕ) → (older newer work samples : List ℤ) → BlockLeft
-blockLeft refusal steps older newer work samples = record { refusal = refusal; steps = steps; older = older; newer = newer; work = work; samples = samples }
+blockLeft refusal steps older newer work samples = record {
+  refusal = refusal;
+  steps = steps;
+  older = older;
+  newer = newer;
+  work = work;
+  samples = samples;
+}
 
 abbrev pub blockNumbers : AfterBlock → BlockLeft
 blockNumbers a = blockLeft (number (a .answer .refusal)) (a .answer .steps) (a .older) (a .newer) (a .work) (a .samples)
@@ -75,7 +52,8 @@ abbrev pub pluckNumbers : AfterPluck → PluckLeft
 pluckNumbers a = pluckLeft (number (a .refusal)) (a .older) (a .newer)
 
 abbrev pub pluck : (kind columns rows : ℕ) → (older newer : List ℤ) → (centre halfWidth : ℕ) → ℤ → PluckLeft
-pluck kind columns rows older newer centre halfWidth height = pluckNumbers (Calls.pluck (gridOf kind columns rows) older newer centre halfWidth height)
+pluck kind columns rows older newer centre halfWidth height =
+    pluckNumbers (Calls.pluck (gridOf kind columns rows) older newer centre halfWidth height)
 
 -- ---- the float reading
 
@@ -108,5 +86,4 @@ sheetNumbers a = sheetLeft (number (a .refusal)) (a .settings .q) (a .settings .
 
 abbrev pub sheet : (kind columns rows : ℕ) → (rate length bending : Float) → ℕ → (speed density : Float) → ℕ → Float → SheetLeft
 sheet kind columns rows rate length bending byTension speed density bySeconds loss =
-    let numbers : Sheet = record { rate = rate; length = length; bending = bending; speed = speedOf byTension speed density; loss = lossOf bySeconds loss } in
-    sheetNumbers (sheetCall (gridOf kind columns rows) numbers)
+    sheetNumbers (sheetCall (gridOf kind columns rows) (sheetOf rate length bending byTension speed density bySeconds loss))

@@ -1,54 +1,17 @@
 // The engine for C: numbers and lent slices in, the refusal's number out. host/include/buvcsolta.h declares these functions.
 // A slice arrives as a pointer and a length.
 ghost use mathlib.Core.Path.{_≡_};
-ghost use Rattle.c_api.specs.Exports.{hitOf, speedOf, lossOf};
 ghost use Rattle.c_api.specs.Exports as Exports;
 use engine::Grid;
-use engine::Hit;
-use engine::Instrument;
-use engine::Loss;
-use engine::Settings;
-use engine::Sheet;
-use engine::Speed;
 use engine::block;
 use engine::pluck;
 use engine::reading;
 use engine::settings_for;
+use packing::hit_of;
+use packing::instrument_of;
+use packing::sheet_of;
 
-fn hit_of(hit: u64, point: usize, force: i64) -> Hit
-    ensures { λ r. ⌜ r ≡ hitOf hit point force ⌝ }
-{
-    if hit == 0 {
-        Hit::Absent
-    } else {
-        Hit::At { point, force }
-    }
-}
-
-fn speed_of(by_tension: u64, speed: f64, density: f64) -> Speed
-    ensures { λ r. ⌜ r ≡ speedOf «by_tension» speed density ⌝ }
-{
-    if by_tension == 0 {
-        Speed::Hertz(speed)
-    } else {
-        Speed::Tension {
-            tension: speed,
-            density,
-        }
-    }
-}
-
-fn loss_of(by_seconds: u64, loss: f64) -> Loss
-    ensures { λ r. ⌜ r ≡ lossOf «by_seconds» loss ⌝ }
-{
-    if by_seconds == 0 {
-        Loss::PerSecond(loss)
-    } else {
-        Loss::Seconds(loss)
-    }
-}
-
-// A block. Ruled out: the hit given where its flag is 0; the count of steps left as it was.
+// A block. Ruled out: the count of steps not told; a hit where its flag is 0 (`hit_of`).
 #[no_mangle]
 pub extern "C" fn buvcsolta_block(
     kind: u64,
@@ -67,27 +30,19 @@ pub extern "C" fn buvcsolta_block(
     force: i64,
     steps: &mut usize,
 ) -> u64
-    ensures { λ r. ⌜ Exports.blockLeft r (now (steps .exit)) (now (older .exit)) (now (newer .exit)) (now (work .exit)) (now (samples .exit)) ≡ Exports.block kind columns rows q m s (now (older .entry)) (now (newer .entry)) (now (work .entry)) (now (samples .entry)) «pick_up» hit point force ⌝ }
+    ensures { λ r. ⌜ Exports.blockLeft r (now (steps .exit)) (now (older .exit)) (now (newer .exit)) (now (work .exit)) (now (samples .exit))
+        ≡ Exports.block kind columns rows q m s (now (older .entry)) (now (newer .entry)) (now (work .entry)) (now (samples .entry))
+            «pick_up» hit point force ⌝ }
 {
-    let i = Instrument {
-        grid: Grid::new(kind, columns, rows),
-        settings: Settings { q, m, s },
-    };
-    let answer = block(
-        i,
-        older,
-        newer,
-        work,
-        samples,
-        pick_up,
-        hit_of(hit, point, force),
-    );
+    let i = instrument_of(kind, columns, rows, q, m, s);
+    let h = hit_of(hit, point, force);
+    let answer = block(i, older, newer, work, samples, pick_up, h);
     *steps = answer.steps;
     let refusal = answer.refusal;
     refusal.number()
 }
 
-// A pluck. Ruled out: the centre taken for the half width; height 0 whatever is asked.
+// A pluck. Ruled out: the centre taken for the half width; columns and rows exchanged (`Grid::new`).
 #[no_mangle]
 pub extern "C" fn buvcsolta_pluck(
     kind: u64,
@@ -99,20 +54,15 @@ pub extern "C" fn buvcsolta_pluck(
     half_width: usize,
     height: i64,
 ) -> u64
-    ensures { λ r. ⌜ Exports.pluckLeft r (now (older .exit)) (now (newer .exit)) ≡ Exports.pluck kind columns rows (now (older .entry)) (now (newer .entry)) centre «half_width» height ⌝ }
+    ensures { λ r. ⌜ Exports.pluckLeft r (now (older .exit)) (now (newer .exit))
+        ≡ Exports.pluck kind columns rows (now (older .entry)) (now (newer .entry)) centre «half_width» height ⌝ }
 {
-    let refusal = pluck(
-        Grid::new(kind, columns, rows),
-        older,
-        newer,
-        centre,
-        half_width,
-        height,
-    );
+    let g = Grid::new(kind, columns, rows);
+    let refusal = pluck(g, older, newer, centre, half_width, height);
     refusal.number()
 }
 
-// The float reading. Ruled out: columns and rows exchanged; the value left as it was.
+// The float reading. Ruled out: the value not told; columns and rows exchanged (`Grid::new`).
 #[no_mangle]
 pub extern "C" fn buvcsolta_reading(
     kind: u64,
@@ -124,13 +74,14 @@ pub extern "C" fn buvcsolta_reading(
 ) -> u64
     ensures { λ r. ⌜ Exports.readingLeft r (now (value .exit)) ≡ Exports.reading kind columns rows (now (newer .entry)) «pick_up» ⌝ }
 {
-    let answer = reading(Grid::new(kind, columns, rows), newer, pick_up);
+    let g = Grid::new(kind, columns, rows);
+    let answer = reading(g, newer, pick_up);
     *value = answer.value;
     let refusal = answer.refusal;
     refusal.number()
 }
 
-// The settings of a sheet. Ruled out: q and m exchanged; a tension taken as hertz.
+// The settings of a sheet. Ruled out: q and m exchanged; a tension taken as hertz (`sheet_of`).
 #[no_mangle]
 pub extern "C" fn buvcsolta_sheet(
     kind: u64,
@@ -148,16 +99,14 @@ pub extern "C" fn buvcsolta_sheet(
     m: &mut u64,
     s: &mut u64,
 ) -> u64
-    ensures { λ r. ⌜ Exports.sheetLeft r (now (q .exit)) (now (m .exit)) (now (s .exit)) ≡ Exports.sheet kind columns rows rate length bending «by_tension» speed density «by_seconds» loss ⌝ }
+    ensures { λ r. ⌜ Exports.sheetLeft r (now (q .exit)) (now (m .exit)) (now (s .exit))
+        ≡ Exports.sheet kind columns rows rate length bending «by_tension» speed density «by_seconds» loss ⌝ }
 {
-    let sheet = Sheet {
-        rate,
-        length,
-        bending,
-        speed: speed_of(by_tension, speed, density),
-        loss: loss_of(by_seconds, loss),
-    };
-    let answer = settings_for(Grid::new(kind, columns, rows), sheet);
+    let g = Grid::new(kind, columns, rows);
+    let sheet = sheet_of(
+        rate, length, bending, by_tension, speed, density, by_seconds, loss,
+    );
+    let answer = settings_for(g, sheet);
     let settings = answer.settings;
     *q = settings.q;
     *m = settings.m;

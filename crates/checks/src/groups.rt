@@ -22,7 +22,7 @@ use scheme::Hit;
 use scheme::Instrument;
 use scheme::Refusal;
 
-// Whether a call is carried out. Ruled out: 13 taken for nothing; 11 taken for nothing.
+// Whether a call is carried out. Ruled out: 13 taken for nothing; nothing taken for a refusal.
 pub fn is_nothing(r: Refusal) -> bool
     ensures { λ b. ⌜ b ≡ accepted r ⌝ }
 {

@@ -17,7 +17,7 @@ use scheme::Hit;
 use scheme::Instrument;
 use scheme::Refusal;
 
-// A block's 1, 2 and 4 to 9, by a test of all the lengths that are lent. Ruled out: 9 answered before 7; the test of the lengths not looked at.
+// A block's 1, 2 and 4 to 9, by a test of all the lengths that are lent. Ruled out: the hit not looked at; the pick-up not looked at.
 pub fn input_refusal(i: Instrument, wrong: bool, pick: usize, h: Hit) -> Refusal
     ensures { λ r. ⌜ r ≡ lowest (inputChecks i wrong pick h) ⌝ }
 {
@@ -33,7 +33,7 @@ pub fn input_refusal(i: Instrument, wrong: bool, pick: usize, h: Hit) -> Refusal
 }
 
 // A block's 1, 2, 4 to 9, 11 and 12: `wrong` is 6's test of what is lent beside the two levels.
-// Ruled out: the length of older not looked at; the state of older not looked at.
+// Ruled out: the length of older not looked at; work of any length.
 pub fn block_refusal(
     i: Instrument,
     older: &[i64],
@@ -53,7 +53,7 @@ pub fn block_refusal(
     state_refusal(g, older, newer)
 }
 
-// A pluck's 1, 2, 6, 7, 8 and 10, by a test of the two lengths. Ruled out: kind 5 plucked; the height taken for 0.
+// A pluck's 1, 2, 6, 7, 8 and 10, by a test of the two lengths. Ruled out: kind 5 plucked; the height not looked at.
 pub fn pluck_refusal(g: Grid, wrong: bool, centre: usize, half_width: usize, height: i64) -> Refusal
     ensures { λ r. ⌜ r ≡ lowest (pluckChecks g wrong centre «half_width» height) ⌝ }
 {

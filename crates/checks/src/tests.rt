@@ -28,7 +28,7 @@ pub(crate) fn wrong_coefficient(c: Settings) -> bool
     )
 }
 
-// 6, of a lent level of n points. Ruled out: one point too many; any length for a grid of 0 points.
+// 6, of a lent level of n points. Ruled out: a longer level passes; a shorter level passes.
 pub fn wrong_length(g: Grid, n: usize) -> bool
     ensures { λ r. ⌜ r ≡ notLong g n ⌝ }
 {

@@ -1,9 +1,11 @@
 -- What a caller learns from the contracts of `block` and `pluck` is what the claim about a program asks of them.
+use mathlib.Core.Path.{ap}
 use contract.Lifetimes.{Lfts}
 use borrow.Fn.Kinds.{endedOf}
 use borrow.Fn.World.{ArgsD, ResD}
 use denote.Triple.Clauses.{AtExit}
-use Rattle.scheme.specs.Program.{blockMade, pluckMade, Kept}
+use Rattle.scheme.specs.Book.{blockCall, pluckCall, blockOutcome, pluckOutcome, leaves, leftByBlock, leftByPluck}
+use Rattle.scheme.specs.Program.{Made, Kept}
 use Rattle.block.proofs.block as block
 use Rattle.block.proofs.block.Kinds as block-kinds
 use Rattle.block.proofs.block.Reads as block-reads
@@ -12,12 +14,36 @@ use Rattle.pluck.proofs.pluck.Kinds as pluck-kinds
 use Rattle.pluck.proofs.pluck.Reads as pluck-reads
 
 -- instrument, older, newer, work, samples, pick-up, hit
-pub block-kept : (κs : Lfts 4) (a : ArgsD block.signature κs) (r : ResD block.signature κs) (s : AtExit (endedOf 4 block-kinds.ps block-kinds.r) κs) → block-reads.Learnt κs a r s
-    → Kept (a .1 .0 .now) (a .1 .1 .0 .now)
-    (blockMade (a .0) (a .1 .1 .1 .0 .now) (a .1 .1 .1 .1 .0 .now) (a .1 .1 .1 .1 .1 .0) (a .1 .1 .1 .1 .1 .1 .0) r (s .1 .0 .now) (s .1 .1 .0 .now) (s .1 .1 .1 .0 .now) (s .1 .1 .1 .1 .0 .now))
-block-kept κs a r s learnt = learnt
+module _ (κs : Lfts 4) (a : ArgsD block.signature κs) (r : ResD block.signature κs)
+    (s : AtExit (endedOf 4 block-kinds.ps block-kinds.r) κs) (learnt : block-reads.Learnt κs a r s) where
+  abbrev block-made : Made
+  block-made =
+      let lent = a .1 .1 .1 in
+      let left = s .1 in
+      record {
+        call = blockCall (a .0) (lent .0 .now) (lent .1 .0 .now) (lent .1 .1 .0) (lent .1 .1 .1 .0);
+        left = record {
+          outcome = blockOutcome r (left .1 .1 .0 .now) (left .1 .1 .1 .0 .now);
+          older = left .0 .now;
+          newer = left .1 .0 .now;
+        };
+      }
+
+  pub block-kept : Kept (a .1 .0 .now) (a .1 .1 .0 .now) block-made
+  unfolding leaves
+  block-kept = ap leftByBlock learnt
 
 -- grid, older, newer, centre, half width, height
-pub pluck-kept : (κs : Lfts 2) (a : ArgsD pluck.signature κs) (r : ResD pluck.signature κs) (s : AtExit (endedOf 2 pluck-kinds.ps pluck-kinds.r) κs) → pluck-reads.Learnt κs a r s
-    → Kept (a .1 .0 .now) (a .1 .1 .0 .now) (pluckMade (a .0) (a .1 .1 .1 .0) (a .1 .1 .1 .1 .0) (a .1 .1 .1 .1 .1 .0) r (s .1 .0 .now) (s .1 .1 .0 .now))
-pluck-kept κs a r s learnt = learnt
+module _ (κs : Lfts 2) (a : ArgsD pluck.signature κs) (r : ResD pluck.signature κs)
+    (s : AtExit (endedOf 2 pluck-kinds.ps pluck-kinds.r) κs) (learnt : pluck-reads.Learnt κs a r s) where
+  abbrev pluck-made : Made
+  pluck-made =
+      let shape = a .1 .1 .1 in
+      record {
+        call = pluckCall (a .0) (shape .0) (shape .1 .0) (shape .1 .1 .0);
+        left = record { outcome = pluckOutcome r; older = s .1 .0 .now; newer = s .1 .1 .0 .now };
+      }
+
+  pub pluck-kept : Kept (a .1 .0 .now) (a .1 .1 .0 .now) pluck-made
+  unfolding leaves
+  pluck-kept = ap leftByPluck learnt

@@ -147,7 +147,7 @@ sample-in-roles-requires c κs =
     (omega (arith, passes e .long, s .pre .0 .1), passes-low (g s) _ (passes e))
 
 put-requires : tie.Need-put-requires Inv-loop μ-loop
-put-requires c κs = struck (done (c .before) .before) .before .loop-test .taken
+put-requires c κs = omega (arith, struck (done (c .before) .before) .before .loop-test .taken)
 
 turned-requires : tie.Need-turned-requires Inv-loop μ-loop
 turned-requires c κs = tt

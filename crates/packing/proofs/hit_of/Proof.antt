@@ -2,9 +2,9 @@
 use mathlib.Core.Path.{ap, _∙_}
 use borrow.Author.Needs.{needs}
 use Rattle.scheme.specs.declared.Hit.the-variants.{At}
-use Rattle.c_api.proofs.Flags.{unset, set}
-use Rattle.c_api.proofs.hit_of.Statement.{statement}
-use Rattle.c_api.proofs.hit_of.Tie as tie
+use Rattle.packing.proofs.Flags.{unset, set}
+use Rattle.packing.proofs.hit_of.Statement.{statement}
+use Rattle.packing.proofs.hit_of.Tie as tie
 
 returns : tie.Need-returns
 returns c = unset _ _ _ (c .if1 .taken)

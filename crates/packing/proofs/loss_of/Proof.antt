@@ -1,7 +1,7 @@
 -- `loss_of` meets its contract: by its flag.
-use Rattle.c_api.proofs.Flags.{unset, set}
-use Rattle.c_api.proofs.loss_of.Statement.{statement}
-use Rattle.c_api.proofs.loss_of.Tie as tie
+use Rattle.packing.proofs.Flags.{unset, set}
+use Rattle.packing.proofs.loss_of.Statement.{statement}
+use Rattle.packing.proofs.loss_of.Tie as tie
 
 returns : tie.Need-returns
 returns c = unset _ _ _ (c .if1 .taken)
