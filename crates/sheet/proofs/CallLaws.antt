@@ -3,27 +3,24 @@ use mathlib.Core.Path.{_≡_, refl, sym, ap, _∙_, subst}
 use mathlib.Core.Bool.{Bool, true, false, not, cond, true≢false}
 use mathlib.Core.List.{List, [], _∷_}
 use Prim.Native.Nat.{ℕ}
-use borrow.Author.Tests.{le-ltb, not-true, not-false}
+use borrow.Author.Tests.{le-ltb, not-true}
 use lib.Dec.{ltb}
 use lib.Ieee.{Float}
 use Rattle.scheme.specs.declared.Settings.{Settings}
 use Rattle.scheme.specs.declared.Grid.{Grid}
 use Rattle.scheme.specs.declared.Refusal.{Refusal}
-use Rattle.scheme.specs.declared.Refusal.the-variants.{Nothing, SheetNumber, Coefficient, Unstable}
-use Rattle.scheme.specs.Instruments.{D, kind}
-use Rattle.scheme.specs.Refusals.{known, wrongCoefficient, unstable, Check, _⇒_, lowest, instrumentChecks, instrumentRefusal}
+use Rattle.scheme.specs.declared.Refusal.the-variants.{Nothing}
+use Rattle.scheme.specs.Instruments.{D, inTable}
+use Rattle.scheme.specs.Refusals.{lastKind, wrongCoefficient, Check, _⇒_, lowest, gridChecks, instrumentChecks, instrumentRefusal}
 use Rattle.scheme.specs.Calls.{accepted}
 use Rattle.scheme.proofs.Laws.Bools.{cases, neither-or}
 use Rattle.scheme.proofs.Laws.Refusals.{none-applies, applies-none, accepted-is}
-use Rattle.checks.specs.Refused.{gridChecksTo}
-use Rattle.checks.proofs.KindLaws.{known-is}
-use Rattle.checks.proofs.RefusalLaws.{Parts, grid-parts, second-answers, instrument-parts}
+use Rattle.checks.proofs.RefusalLaws as R
 use Rattle.nearest.specs.Nearest.{valueOf, nearestWhole}
 use Rattle.nearest.proofs.Values.{value-bounded}
 use Rattle.sheet.specs.declared.Sheet.{Sheet}
-use Rattle.sheet.specs.Numbers.{numbersAllowed}
-use Rattle.sheet.specs.Coefficients.{coefficients, someOutside, settingsOf}
-use Rattle.sheet.specs.Call.{instrumentOf, coefficientChecks, instrumentAfter, sheetChecks, sheetRefused, sheetAccepted, answerTo, sheetCall}
+use Rattle.sheet.specs.Coefficients.{coefficients, settingsOf}
+use Rattle.sheet.specs.Call.{instrumentOf, afterGrid, sheetChecks, sheetRefused, sheetAccepted, answerTo, sheetCall}
 use Rattle.sheet.specs.Claims.{SheetChecksInOrder, AcceptedPlayable}
 
 -- ---- the program's test t of a check b: where it holds the check answers, and where not the others do
@@ -36,22 +33,9 @@ pub passes : {t b : Bool} (r : Refusal) (cs : List Check) (c : Settings) → t �
 unfolding answerTo
 passes r cs c e h = ap (λ (b : Bool). answerTo (b ⇒ r ∷ cs) c) (sym e ∙ h)
 
-alike : (cs ds : List Check) (c : Settings) → lowest cs ≡ lowest ds → answerTo cs c ≡ answerTo ds c
+pub carried-out : (c : Settings) → answerTo [] c ≡ sheetAccepted c
 unfolding answerTo
-alike cs ds c e = ap (λ (r : Refusal). cond (accepted r) (sheetAccepted c) (sheetRefused r)) e
-
--- ---- checks that answer q, of which is_nothing said b
-
-module _ (cs : List Check) (c : Settings) {q : Refusal} {b : Bool} (answer : q ≡ lowest cs) (said : b ≡ accepted q) where
-  by-said : {t : Bool} → b ≡ t → answerTo cs c ≡ cond t (sheetAccepted c) (sheetRefused q)
-  unfolding answerTo
-  by-said e = simp (sym answer, sym said ∙ e)
-
-  pub refused-by : not b ≡ true → sheetRefused q ≡ answerTo cs c
-  refused-by e = sym (by-said (not-true b e))
-
-  pub accepted-by : not b ≡ false → sheetAccepted c ≡ answerTo cs c
-  accepted-by e = sym (by-said (not-false b e))
+carried-out c = refl
 
 -- ---- the coefficients
 
@@ -63,28 +47,23 @@ within-D : (columns : ℕ) (s : Sheet) → wrongCoefficient (settingsOf (coeffic
 unfolding coefficients
 within-D columns s = neither-or (neither-or (whole-low _) (whole-low _)) (whole-low _)
 
--- ---- the sheet's checks
+-- ---- 1 and 2 answered q, of which `is_nothing` said b
 
--- 3 to 5
-abbrev afterGrid : Grid → Sheet → List Check
-afterGrid g s = not (numbersAllowed (kind g) s) ⇒ SheetNumber ∷ coefficientChecks g (coefficients (g .columns) s)
+module _ (g : Grid) {q : Refusal} {b : Bool} (answer : q ≡ lowest (gridChecks lastKind g)) (said : b ≡ accepted q) where
+  pub grid-refused : (s : Sheet) (c : Settings) → not b ≡ true → sheetRefused q ≡ answerTo (sheetChecks g s) c
+  unfolding answerTo
+  grid-refused s c e =
+      let first = R.refused-by (gridChecks lastKind g) (afterGrid g s) tt answer said e in
+      simp (sym first, sym said ∙ not-true b e)
 
-pub sheet-parts : (g : Grid) (s : Sheet) → Parts (lowest (gridChecksTo 6 g)) (lowest (afterGrid g s)) (lowest (sheetChecks g s))
-sheet-parts g s = grid-parts 6 known known-is g (afterGrid g s)
+  pub grid-passed : (s : Sheet) (c : Settings) → not b ≡ false → answerTo (sheetChecks g s) c ≡ answerTo (afterGrid g s) c
+  unfolding answerTo
+  grid-passed s c e =
+      let after = R.goes-on (gridChecks lastKind g) (afterGrid g s) tt answer said e refl in
+      ap (λ (r : Refusal). cond (accepted r) (sheetAccepted c) (sheetRefused r)) (sym after)
 
-module _ (g : Grid) (s : Sheet) {q : Refusal} {b : Bool} (answer : q ≡ lowest (gridChecksTo 6 g)) (said : b ≡ accepted q) (e : not b ≡ false) where
-  pub grid-passed : (c : Settings) → answerTo (sheetChecks g s) c ≡ answerTo (afterGrid g s) c
-  grid-passed c = alike (sheetChecks g s) (afterGrid g s) c (sym (second-answers (sheet-parts g s) answer said e refl))
-
-  -- of the instrument's checks 5 alone may apply
-  pub instrument-after : let c = coefficients (g .columns) s in answerTo (coefficientChecks g c) (settingsOf c) ≡ answerTo (instrumentAfter g c) (settingsOf c)
-  unfolding instrumentRefusal
-  instrument-after =
-      let c = coefficients (g .columns) s in
-      let i = instrumentOf g c in
-      let stable = ap (λ (w : Bool). lowest (w ⇒ Coefficient ∷ unstable i ⇒ Unstable ∷ [])) (sym (within-D (g .columns) s)) in
-      alike (coefficientChecks g c) (instrumentAfter g c) (settingsOf c) (cases (λ (o : Bool). lowest (o ⇒ Coefficient ∷ unstable i ⇒ Unstable ∷ []) ≡ lowest (o ⇒ Coefficient ∷ instrumentChecks i)) (someOutside c)
-      (λ h. refl) (λ h. second-answers (instrument-parts i) answer said e stable))
+  pub grid-size : not b ≡ false → inTable g ≡ true
+  grid-size e = R.grid-in lastKind g (R.passed (gridChecks lastKind g) [] tt answer said e)
 
 -- ---- the claims
 

@@ -1,17 +1,16 @@
 -- The program's literals, and its tests of a float, as the definitions have them.
 use mathlib.Core.Path.{_≡_, refl, sym, ap, _∙_}
-use mathlib.Core.Bool.{true, false, not, _&&_}
+use mathlib.Core.Bool.{Bool, true, false, not, _&&_, and-false}
 use Prim.Native.Nat.{ℕ, zero, suc, _+_, _*_, _^_, _<_}
 use native.Mathlib.Nat.{mul-pos, zero-lt-suc}
 use native.Mathlib.Omega.{arith}
-use borrow.Author.Tests.{lt-ltb, le-ltb}
-use lib.Dec.{eqb·suc-zero}
+use borrow.Author.Tests.{lt-ltb, le-ltb, lt-leb}
+use lib.Dec.{leb, eqb·suc-zero}
 use lib.IntN.{ℤ}
 use lib.Ieee.{Float, nan, inf, fin, up, down, binary64, lt, mul, div, round, ofBits}
 use lib.Ieee.Fits.{up-pos}
 use Rattle.scheme.specs.Instruments.{kindOf, within}
-use Rattle.scheme.specs.Refusals.{plucked}
-use Rattle.checks.proofs.KindLaws.{by-number, plucked-is}
+use Rattle.kinds.proofs.KindLaws.{by-number}
 use Rattle.sheet.specs.declared.Speed.the-variants.{Hertz}
 use Rattle.sheet.specs.declared.Loss.the-variants.{Seconds}
 use Rattle.sheet.specs.Coefficients.{nearestFloat, courantSquared, lossPerStep}
@@ -74,4 +73,7 @@ positive-is (fin false (suc m) e) = let p = size-pos m e in simp (lt-ltb (0 * do
 -- ---- the kinds that take a pitch
 
 pub pitched-is : (k : ℕ) → within 1 4 k ≡ pitched (kindOf k)
-pitched-is k = sym (plucked-is k) ∙ by-number (λ k K. plucked K ≡ pitched K) refl refl refl refl refl refl refl (λ k h. refl) k
+pitched-is = by-number (λ k K. within 1 4 k ≡ pitched K) refl refl refl refl refl refl refl past
+  where
+    past : (k : ℕ) → 6 < k → within 1 4 k ≡ false
+    past k h = ap (λ (b : Bool). leb 1 k && b) (lt-leb k 4 (omega arith)) ∙ and-false (leb 1 k)

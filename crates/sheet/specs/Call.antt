@@ -7,7 +7,7 @@ use Rattle.scheme.specs.declared.Instrument.{Instrument}
 use Rattle.scheme.specs.declared.Refusal.{Refusal}
 use Rattle.scheme.specs.declared.Refusal.the-variants.{Nothing, SheetNumber, Coefficient, Unstable}
 use Rattle.scheme.specs.Instruments.{kind}
-use Rattle.scheme.specs.Refusals.{known, unstable, Check, _⇒_, lowest, gridChecks, instrumentChecks}
+use Rattle.scheme.specs.Refusals.{lastKind, unstable, Check, _⇒_, lowest, gridChecks}
 use Rattle.scheme.specs.Calls.{accepted}
 use Rattle.sheet.specs.declared.Sheet.{Sheet}
 use Rattle.sheet.specs.declared.SheetAnswer.{SheetAnswer}
@@ -23,13 +23,13 @@ instrumentOf g c = record { grid = g; settings = settingsOf c }
 abbrev pub coefficientChecks : Grid → Coefficients → List Check
 coefficientChecks g c = someOutside c ⇒ Coefficient ∷ unstable (instrumentOf g c) ⇒ Unstable ∷ []
 
--- 4, then all of the instrument's: where 1 and 2 have passed they answer as 4 and 5 do (`instrument-after`)
-abbrev pub instrumentAfter : Grid → Coefficients → List Check
-instrumentAfter g c = someOutside c ⇒ Coefficient ∷ instrumentChecks (instrumentOf g c)
+-- 3 to 5
+abbrev pub afterGrid : Grid → Sheet → List Check
+afterGrid g s = not (numbersAllowed (kind g) s) ⇒ SheetNumber ∷ coefficientChecks g (coefficients (g .columns) s)
 
 -- 1 to 5
 abbrev pub sheetChecks : Grid → Sheet → List Check
-sheetChecks g s = gridChecks known g ++ (not (numbersAllowed (kind g) s) ⇒ SheetNumber ∷ coefficientChecks g (coefficients (g .columns) s))
+sheetChecks g s = gridChecks lastKind g ++ afterGrid g s
 
 -- "a sheet's answer all zeros"
 abbrev pub sheetRefused : Refusal → SheetAnswer

@@ -9,10 +9,10 @@ use nearest::Whole;
 use scheme::Settings;
 
 // Each times D and rounded: q for R, m for μ², s for σ₀k.
-pub struct Coefficients {
-    pub q: Whole,
-    pub m: Whole,
-    pub s: Whole,
+pub(crate) struct Coefficients {
+    pub(crate) q: Whole,
+    pub(crate) m: Whole,
+    pub(crate) s: Whole,
 }
 
 // R, the squared Courant number.
@@ -47,7 +47,7 @@ fn loss_per_step(rate: f64, loss: Loss) -> f64
 
 impl Coefficients {
     // g is the number of spaces between columns, h the length of one.
-    pub fn of_sheet(columns: usize, sheet: Sheet) -> Coefficients
+    pub(crate) fn of_sheet(columns: usize, sheet: Sheet) -> Coefficients
         requires { ⌜ (1 ≤ columns) × (columns ≤ 1024) ⌝ }
         ensures { λ r. ⌜ r ≡ coefficients columns sheet ⌝ }
     {
@@ -63,7 +63,7 @@ impl Coefficients {
     }
 
     // 4: whether one of them is not in 0..D.
-    pub fn some_outside(self) -> bool
+    pub(crate) fn some_outside(self) -> bool
         ensures { λ r. ⌜ r ≡ someOutside self ⌝ }
     {
         let q = self.q;
@@ -73,7 +73,7 @@ impl Coefficients {
     }
 
     // Each is 0 where there is none.
-    pub fn settings(self) -> Settings
+    pub(crate) fn settings(self) -> Settings
         ensures { λ r. ⌜ r ≡ settingsOf self ⌝ }
     {
         let q = self.q;

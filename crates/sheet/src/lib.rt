@@ -3,14 +3,13 @@ mod coefficients;
 mod numbers;
 
 ghost use mathlib.Core.Path.{_≡_};
-ghost use Rattle.sheet.specs.Call.{instrumentAfter, sheetRefused, answerTo, sheetCall};
+ghost use Rattle.sheet.specs.Call.{coefficientChecks, sheetRefused, answerTo, sheetCall};
 ghost use Rattle.sheet.specs.Coefficients.{settingsOf};
 use crate::coefficients::Coefficients;
 use checks::grid_refusal;
-use checks::instrument_refusal;
 use checks::is_nothing;
+use kinds::is_stable;
 use scheme::Grid;
-use scheme::Instrument;
 use scheme::Refusal;
 use scheme::Settings;
 
@@ -50,17 +49,16 @@ fn refused(refusal: Refusal) -> SheetAnswer
     }
 }
 
-// The answer by 4 and 5: where 1 and 2 have let the grid pass, 5 is all that may refuse the instrument.
+// The answer by 4 and 5.
 fn answer(grid: Grid, c: Coefficients) -> SheetAnswer
-    ensures { λ r. ⌜ r ≡ answerTo (instrumentAfter grid c) (settingsOf c) ⌝ }
+    ensures { λ r. ⌜ r ≡ answerTo (coefficientChecks grid c) (settingsOf c) ⌝ }
 {
     if c.some_outside() {
         return refused(Refusal::Coefficient);
     }
     let settings = c.settings();
-    let refusal = instrument_refusal(Instrument { grid, settings });
-    if !is_nothing(refusal) {
-        return refused(refusal);
+    if !is_stable(grid.kind, settings.q, settings.m) {
+        return refused(Refusal::Unstable);
     }
     SheetAnswer {
         settings,
@@ -75,7 +73,7 @@ pub fn settings_for(grid: Grid, sheet: Sheet) -> SheetAnswer
 {
     let kind = grid.kind;
     let columns = grid.columns;
-    let refusal = grid_refusal(grid, 6);
+    let refusal = grid_refusal(grid, Grid::LAST);
     if !is_nothing(refusal) {
         return refused(refusal);
     }

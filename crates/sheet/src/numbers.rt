@@ -46,7 +46,7 @@ fn loss_allowed(loss: Loss) -> bool
 }
 
 // 3: whether each number of the sheet is allowed.
-pub fn are_allowed(kind: u64, sheet: Sheet) -> bool
+pub(crate) fn are_allowed(kind: u64, sheet: Sheet) -> bool
     ensures { λ r. ⌜ r ≡ numbersAllowed (kindOf kind) sheet ⌝ }
 {
     let speed = sheet.speed;

@@ -17,7 +17,8 @@ use Rattle.scheme.specs.Instruments.{ceiling}
 use Rattle.scheme.specs.Step.{floatOf}
 use Rattle.scheme.specs.Refusals.{readingRefusal}
 use Rattle.scheme.specs.Calls.{accepted}
-use Rattle.scheme.proofs.Laws.Refusals.{accepted-is, passes-low, ReadingPasses, reading-passes}
+use Rattle.scheme.specs.Passing.{ReadingPasses}
+use Rattle.scheme.proofs.Laws.Refusals.{accepted-is, passes-low, reading-passes}
 use Rattle.scheme.proofs.Laws.Calls.{reading-done, reading-refused}
 use Rattle.reading.proofs.reading.Statement.{statement}
 use Rattle.reading.proofs.reading.Tie as tie

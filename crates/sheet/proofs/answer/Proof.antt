@@ -1,10 +1,12 @@
--- `sheet::answer` meets its contract: 4, then the instrument's.
+-- `sheet::answer` meets its contract: 4, then 5.
 use mathlib.Core.Path.{_≡_, refl, sym, ap, _∙_}
+use mathlib.Core.Bool.{not}
 use borrow.Author.Needs.{needs}
-use Rattle.scheme.specs.declared.Refusal.the-variants.{Coefficient}
-use Rattle.scheme.specs.Refusals.{lowest, instrumentChecks, instrumentRefusal}
+use Rattle.scheme.specs.declared.Refusal.the-variants.{Coefficient, Unstable}
+use Rattle.scheme.specs.Instruments.{kind, stableIn}
+use Rattle.scheme.specs.Refusals.{unstable}
 use Rattle.sheet.specs.Call.{instrumentOf, sheetAccepted}
-use Rattle.sheet.proofs.CallLaws.{applies, passes, refused-by, accepted-by}
+use Rattle.sheet.proofs.CallLaws.{applies, passes, carried-out}
 use Rattle.sheet.proofs.answer.Statement.{statement}
 use Rattle.sheet.proofs.answer.Tie as tie
 
@@ -20,35 +22,34 @@ returns c = c .refused .ensures ∙ sym (applies Coefficient _ _ refl (c .before
 settings-requires : tie.Need-settings-requires
 settings-requires c κs = search needs
 
-instrument-refusal-requires : tie.Need-instrument-refusal-requires
-instrument-refusal-requires c κs = search needs
+is-stable-requires : tie.Need-is-stable-requires
+is-stable-requires c κs = search needs
 
-is-nothing-requires : tie.Need-is-nothing-requires
-is-nothing-requires c κs = search needs
+-- the program's test of 5, and what 5 says of the settings that the coefficients make
+unstable-is : (c : tie.After-is-stable) → let a = c .before .before .before .before .args in not (c .is-stable .result) ≡ unstable (instrumentOf (a .grid) (a .c))
+unstable-is c =
+    let g = c .before .before .before .before .args .grid in
+    ap not (c .is-stable .ensures ∙ ap (λ z. stableIn (kind g) (z .q) (z .m)) (c .before .settings .ensures))
 
 refused-requires-2 : tie.Need-refused-requires-2
 refused-requires-2 c κs = search needs
 
--- what refuses the instrument that the coefficients make
-refusal-is : (c : tie.After-instrument-refusal) → let a = c .before .before .before .before .args in c .instrument-refusal .result ≡ lowest (instrumentChecks (instrumentOf (a .grid) (a .c)))
-unfolding instrumentRefusal
-refusal-is c = c .instrument-refusal .ensures ∙ ap (λ z. instrumentRefusal (record { grid = c .before .before .before .before .args .grid; settings = z })) (c .before .settings .ensures)
-
 returns-2 : tie.Need-returns-2
 returns-2 c =
-    let said = c .before .before in
-    let outside = said .before .before .before in
+    let stable = c .before .before in
+    let outside = stable .before .before in
     c .refused2 .ensures
-    ∙ refused-by _ _ (refusal-is (said .before)) (said .is-nothing .ensures) (c .before .if2 .taken)
-    ∙ sym (passes Coefficient _ _ (outside .before .some-outside .ensures) (outside .if1 .left))
+    ∙ sym (passes Coefficient _ _ (outside .before .some-outside .ensures) (outside .if1 .left)
+    ∙ applies Unstable _ _ refl (unstable-is stable) (c .before .if2 .taken))
 
 returns-3 : tie.Need-returns-3
 returns-3 c =
-    let said = c .before in
-    let outside = said .before .before .before in
-    ap sheetAccepted (said .before .before .settings .ensures)
-    ∙ accepted-by _ _ (refusal-is (said .before)) (said .is-nothing .ensures) (c .if2 .left)
-    ∙ sym (passes Coefficient _ _ (outside .before .some-outside .ensures) (outside .if1 .left))
+    let stable = c .before in
+    let outside = stable .before .before in
+    ap sheetAccepted (stable .before .settings .ensures)
+    ∙ sym (passes Coefficient _ _ (outside .before .some-outside .ensures) (outside .if1 .left)
+    ∙ passes Unstable _ _ (unstable-is stable) (c .if2 .left)
+    ∙ carried-out _)
 
 pub answer-spec : {M : Type 1} → statement M
 answer-spec =
@@ -58,8 +59,7 @@ answer-spec =
     refused-requires
     returns
     settings-requires
-    instrument-refusal-requires
-    is-nothing-requires
+    is-stable-requires
     refused-requires-2
     returns-2
     returns-3)

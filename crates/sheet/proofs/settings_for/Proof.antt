@@ -6,10 +6,9 @@ use borrow.Author.Needs.{needs}
 use Rattle.scheme.specs.declared.Refusal.the-variants.{SheetNumber}
 use Rattle.scheme.specs.Instruments.{kind}
 use Rattle.scheme.proofs.Laws.Kinds.{sized}
-use Rattle.checks.proofs.RefusalLaws.{first-answers, grid-passes}
-use Rattle.sheet.specs.Call.{instrumentAfter, sheetChecks, answerTo, sheetCall}
+use Rattle.sheet.specs.Call.{coefficientChecks, answerTo, sheetCall}
 use Rattle.sheet.specs.Coefficients.{settingsOf}
-use Rattle.sheet.proofs.CallLaws.{applies, passes, refused-by, sheet-parts, grid-passed, instrument-after}
+use Rattle.sheet.proofs.CallLaws.{applies, passes, grid-refused, grid-passed, grid-size}
 use Rattle.sheet.proofs.settings_for.Statement.{statement}
 use Rattle.sheet.proofs.settings_for.Tie as tie
 
@@ -27,8 +26,7 @@ unfolding sheetCall
 returns c =
     let said = c .before .before in
     let a = said .before .before .args in
-    c .refused .ensures
-    ∙ refused-by (sheetChecks (a .grid) (a .sheet)) _ (first-answers (sheet-parts _ _) (said .before .grid-refusal .ensures) (said .is-nothing .ensures) (c .before .if1 .taken)) (said .is-nothing .ensures) (c .before .if1 .taken)
+    c .refused .ensures ∙ grid-refused (a .grid) (said .before .grid-refusal .ensures) (said .is-nothing .ensures) (a .sheet) _ (c .before .if1 .taken)
 
 are-allowed-requires : tie.Need-are-allowed-requires
 are-allowed-requires c κs = search needs
@@ -43,7 +41,7 @@ returns-2 c =
     let grid = numbers .before .before in
     let said = grid .before in
     c .refused2 .ensures
-    ∙ sym (grid-passed _ _ (said .before .grid-refusal .ensures) (said .is-nothing .ensures) (grid .if1 .left) _
+    ∙ sym (grid-passed _ (said .before .grid-refusal .ensures) (said .is-nothing .ensures) _ _ (grid .if1 .left)
     ∙ applies SheetNumber _ _ refl (ap not (numbers .before .are-allowed .ensures)) (numbers .if2 .taken))
 
 of-sheet-requires : tie.Need-of-sheet-requires
@@ -51,7 +49,7 @@ of-sheet-requires c κs =
     let grid = c .before .before in
     let said = grid .before in
     let g = said .before .before .args .grid in
-    let size = sized (kind g) (g .columns) (g .rows) (grid-passes 6 _ (said .before .grid-refusal .ensures) (said .is-nothing .ensures) (grid .if1 .left)) in
+    let size = sized (kind g) (g .columns) (g .rows) (grid-size g (said .before .grid-refusal .ensures) (said .is-nothing .ensures) (grid .if1 .left)) in
     (omega (arith, size .columns-low), size .columns-high)
 
 answer-requires : tie.Need-answer-requires
@@ -65,10 +63,9 @@ returns-3 c =
     let said = grid .before in
     let a = said .before .before .args in
     c .answer .ensures
-    ∙ ap (λ z. answerTo (instrumentAfter (a .grid) z) (settingsOf z)) (c .before .of-sheet .ensures)
-    ∙ sym (grid-passed _ _ (said .before .grid-refusal .ensures) (said .is-nothing .ensures) (grid .if1 .left) _
-    ∙ passes SheetNumber _ _ (ap not (numbers .before .are-allowed .ensures)) (numbers .if2 .left)
-    ∙ instrument-after (a .grid) (a .sheet) (said .before .grid-refusal .ensures) (said .is-nothing .ensures) (grid .if1 .left))
+    ∙ ap (λ z. answerTo (coefficientChecks (a .grid) z) (settingsOf z)) (c .before .of-sheet .ensures)
+    ∙ sym (grid-passed _ (said .before .grid-refusal .ensures) (said .is-nothing .ensures) _ _ (grid .if1 .left)
+    ∙ passes SheetNumber _ _ (ap not (numbers .before .are-allowed .ensures)) (numbers .if2 .left))
 
 pub settings-for-spec : {M : Type 1} → statement M
 settings-for-spec =
