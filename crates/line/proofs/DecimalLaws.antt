@@ -11,10 +11,10 @@ use lib.Dec.{ltb, leb}
 use lib.ListN.{length, drop, getD, drop-of-length-le}
 use lib.Seq.{drop-cons}
 use Rattle.scheme.proofs.Laws.Bools.{and-yes, and-no, and-both}
-use Rattle.line.specs.declared.decimals.Whole.the-variants.{Is, Wrong}
+use Rattle.line.specs.declared.decimals.Unsigned.the-variants.{Is, Wrong}
 use Rattle.line.specs.Lists.{all}
-use Rattle.line.specs.Requests.{isDigit, decimal, wholeTo}
-use Rattle.line.specs.Reading.{wholeRead}
+use Rattle.line.specs.Requests.{isDigit, digitsValue, unsignedTo}
+use Rattle.line.specs.Reading.{unsignedRead}
 
 pub and-no-second : (a : Bool) {b : Bool} → b ≡ false → (a && b) ≡ false
 and-no-second a e = ap (λ (x : Bool). a && x) e ∙ and-false a
@@ -37,50 +37,50 @@ grows n (d ∷ ds) = le-trans (more n d) (grows (next n d) ds)
 -- ---- whether a field is a number
 
 module _ (most : ℕ) (f : List ℕ) where
-  not-one : length f ≡ 0 → wholeTo most f ≡ false
-  unfolding wholeTo
+  not-one : length f ≡ 0 → unsignedTo most f ≡ false
+  unfolding unsignedTo
   not-one e = and-no _ (le-ltb 0 (length f) (omega arith))
 
-  not-digits : all isDigit f ≡ false → wholeTo most f ≡ false
-  unfolding wholeTo
+  not-digits : all isDigit f ≡ false → unsignedTo most f ≡ false
+  unfolding unsignedTo
   not-digits e = and-no-second (ltb 0 (length f)) (and-no _ e)
 
-  not-within : most < decimal f → wholeTo most f ≡ false
-  unfolding wholeTo
-  not-within h = and-no-second (ltb 0 (length f)) (and-no-second (all isDigit f) (lt-leb (decimal f) most h))
+  not-within : most < digitsValue f → unsignedTo most f ≡ false
+  unfolding unsignedTo
+  not-within h = and-no-second (ltb 0 (length f)) (and-no-second (all isDigit f) (lt-leb (digitsValue f) most h))
 
-  within : 0 < length f → all isDigit f ≡ true → decimal f ≤ most → wholeTo most f ≡ true
-  unfolding wholeTo
-  within p d l = and-yes (lt-ltb 0 (length f) p) ∙ and-yes d ∙ le-leb (decimal f) most l
+  within : 0 < length f → all isDigit f ≡ true → digitsValue f ≤ most → unsignedTo most f ≡ true
+  unfolding unsignedTo
+  within p d l = and-yes (lt-ltb 0 (length f) p) ∙ and-yes d ∙ le-leb (digitsValue f) most l
 
-  wrong : wholeTo most f ≡ false → wholeRead most f ≡ Wrong
-  unfolding wholeRead
-  wrong e = ap (λ (t : Bool). cond t (Is (decimal f)) Wrong) e
+  wrong : unsignedTo most f ≡ false → unsignedRead most f ≡ Wrong
+  unfolding unsignedRead
+  wrong e = ap (λ (t : Bool). cond t (Is (digitsValue f)) Wrong) e
 
-  right : wholeTo most f ≡ true → wholeRead most f ≡ Is (decimal f)
-  unfolding wholeRead
-  right e = ap (λ (t : Bool). cond t (Is (decimal f)) Wrong) e
+  right : unsignedTo most f ≡ true → unsignedRead most f ≡ Is (digitsValue f)
+  unfolding unsignedRead
+  right e = ap (λ (t : Bool). cond t (Is (digitsValue f)) Wrong) e
 
   -- what was read tells
-  pub wrong-read : wholeRead most f ≡ Wrong → wholeTo most f ≡ false
-  unfolding wholeRead
-  wrong-read = go (wholeTo most f)
+  pub wrong-read : unsignedRead most f ≡ Wrong → unsignedTo most f ≡ false
+  unfolding unsignedRead
+  wrong-read = go (unsignedTo most f)
     where
-      go : (t : Bool) → cond t (Is (decimal f)) Wrong ≡ Wrong → t ≡ false
+      go : (t : Bool) → cond t (Is (digitsValue f)) Wrong ≡ Wrong → t ≡ false
       go true e = absurd (let z : _≡_ {A = ℕ} 0 1 = cc in omega arith)
       go false e = refl
 
-  pub right-read : {n : ℕ} → wholeRead most f ≡ Is n → (wholeTo most f ≡ true) × (decimal f ≡ n)
-  unfolding wholeRead
-  right-read {n} = go (wholeTo most f)
+  pub right-read : {n : ℕ} → unsignedRead most f ≡ Is n → (unsignedTo most f ≡ true) × (digitsValue f ≡ n)
+  unfolding unsignedRead
+  right-read {n} = go (unsignedTo most f)
     where
-      go : (t : Bool) → cond t (Is (decimal f)) Wrong ≡ Is n → (t ≡ true) × (decimal f ≡ n)
+      go : (t : Bool) → cond t (Is (digitsValue f)) Wrong ≡ Is n → (t ≡ true) × (digitsValue f ≡ n)
       go true e = (refl, cc)
       go false e = absurd (let z : _≡_ {A = ℕ} 0 1 = cc in omega arith)
 
-  pub within-is : wholeTo most f ≡ true → decimal f ≤ most
-  unfolding wholeTo
-  within-is e = leb-true (decimal f) most (and-both (all isDigit f) _ (and-both (ltb 0 (length f)) _ e .1) .1)
+  pub within-is : unsignedTo most f ≡ true → digitsValue f ≤ most
+  unfolding unsignedTo
+  within-is e = leb-true (digitsValue f) most (and-both (all isDigit f) _ (and-both (ltb 0 (length f)) _ e .1) .1)
 
 -- ---- digit by digit
 
@@ -92,7 +92,7 @@ pub record Summed (most : ℕ) (f : List ℕ) (n i : ℕ) : Type 0 where
   pub reached : i ≤ length f
   pub small : n ≤ most
   pub digits : all isDigit f ≡ all isDigit (drop i f)
-  pub value : decimal f ≡ from n (drop i f)
+  pub value : digitsValue f ≡ from n (drop i f)
 
 module _ (most : ℕ) (f : List ℕ) where
   pub summed-none : Summed most f 0 0
@@ -107,24 +107,30 @@ module _ (most : ℕ) (f : List ℕ) where
     unfolding all
     digits-next = s .digits ∙ ap (all isDigit) (drop-cons f i 0 h)
 
-    value-next : decimal f ≡ from (next n b) (drop (suc i) f)
+    value-next : digitsValue f ≡ from (next n b) (drop (suc i) f)
     value-next = s .value ∙ ap (from n) (drop-cons f i 0 h)
 
     pub summed-more : isDigit b ≡ true → next n b ≤ most → Summed most f (next n b) (i + 1)
-    summed-more d l = record { reached = omega arith; small = l; digits = rw add-one (digits-next ∙ and-yes d); value = rw add-one value-next }
+    summed-more d l =
+        record {
+          reached = omega arith;
+          small = l;
+          digits = rw add-one (digits-next ∙ and-yes d);
+          value = rw add-one value-next;
+        }
 
-    pub no-digit : isDigit b ≡ false → wholeRead most f ≡ Wrong
+    pub no-digit : isDigit b ≡ false → unsignedRead most f ≡ Wrong
     no-digit d = wrong most f (not-digits most f (digits-next ∙ and-no _ d))
 
-    pub too-large : most < next n b → wholeRead most f ≡ Wrong
+    pub too-large : most < next n b → unsignedRead most f ≡ Wrong
     too-large l = wrong most f (not-within most f (omega (arith, value-next, grows (next n b) (drop (suc i) f))))
 
-  pub empty-wrong : length f ≡ 0 → wholeRead most f ≡ Wrong
+  pub empty-wrong : length f ≡ 0 → unsignedRead most f ≡ Wrong
   empty-wrong e = wrong most f (not-one most f e)
 
-  pub summed-all : {n i : ℕ} → 0 < length f → length f ≤ i → Summed most f n i → wholeRead most f ≡ Is n
+  pub summed-all : {n i : ℕ} → 0 < length f → length f ≤ i → Summed most f n i → unsignedRead most f ≡ Is n
   unfolding all
   summed-all {n} {i} p h s =
       let r = drop-of-length-le f h in
-      let v : decimal f ≡ n = s .value ∙ ap (from n) r in
+      let v : digitsValue f ≡ n = s .value ∙ ap (from n) r in
       right most f (within most f p (s .digits ∙ ap (all isDigit) r) (omega (arith, v, s .small))) ∙ ap Is v

@@ -1,4 +1,4 @@
--- The fields of a line, one after the other, and what they are accepted for.
+-- The fields of a line, one after the other, and when they are well formed.
 use mathlib.Core.Path.{_≡_, refl, sym, ap, _∙_}
 use mathlib.Core.Bool.{Bool, true, false, cond}
 use mathlib.Core.List.{List, [], _∷_}
@@ -12,35 +12,36 @@ use lib.ListN.{length, take, drop, set, getD, length-drop}
 use lib.Seq.{drop-cons, drop-drop, getD-set-same, getD-set-other}
 use Rattle.scheme.proofs.Laws.Bools.{and-yes, and-no}
 use Rattle.line.specs.Lists.{all, before, onFirst, splitOn}
-use Rattle.line.specs.Requests.{decimal, isWhole, isForce, space, fields, field, accepted}
+use Rattle.line.specs.Requests.{digitsValue, isUnsigned, isSigned, space, fields, field, wellFormed}
 use Rattle.line.specs.Reading.{Read}
 use Rattle.line.proofs.DecimalLaws.{and-no-second}
 use Rattle.line.proofs.ListLaws.{before-short, before-take, split-last, split-more}
 
--- ---- what is accepted
+-- ---- well formed or not
 
 module _ (fs : List (List ℕ)) where
-  pub not-ten : (length fs ≡ 10 → ⊥) → accepted fs ≡ false
-  unfolding accepted
+  pub not-ten : (length fs ≡ 10 → ⊥) → wellFormed fs ≡ false
+  unfolding wellFormed
   not-ten f = and-no _ (ne-eqb (length fs) 10 f)
 
-  pub not-whole : all isWhole (take 9 fs) ≡ false → accepted fs ≡ false
-  unfolding accepted
-  not-whole e = and-no-second (eqb (length fs) 10) (and-no _ e)
+  pub not-unsigned : all isUnsigned (take 9 fs) ≡ false → wellFormed fs ≡ false
+  unfolding wellFormed
+  not-unsigned e = and-no-second (eqb (length fs) 10) (and-no _ e)
 
-  pub not-force : isForce (field fs 9) ≡ false → accepted fs ≡ false
-  unfolding accepted
-  not-force e = and-no-second (eqb (length fs) 10) (and-no-second (all isWhole (take 9 fs)) (and-no _ e))
+  pub not-signed : isSigned (field fs 9) ≡ false → wellFormed fs ≡ false
+  unfolding wellFormed
+  not-signed e = and-no-second (eqb (length fs) 10) (and-no-second (all isUnsigned (take 9 fs)) (and-no _ e))
 
-  pub not-steps : 8192 < decimal (field fs 7) → accepted fs ≡ false
-  unfolding accepted
+  pub not-steps : 8192 < digitsValue (field fs 7) → wellFormed fs ≡ false
+  unfolding wellFormed
   not-steps h =
       and-no-second (eqb (length fs) 10)
-      (and-no-second (all isWhole (take 9 fs)) (and-no-second (isForce (field fs 9)) (lt-leb (decimal (field fs 7)) 8192 h)))
+      (and-no-second (all isUnsigned (take 9 fs)) (and-no-second (isSigned (field fs 9)) (lt-leb (digitsValue (field fs 7)) 8192 h)))
 
-  pub all-right : length fs ≡ 10 → all isWhole (take 9 fs) ≡ true → isForce (field fs 9) ≡ true → decimal (field fs 7) ≤ 8192 → accepted fs ≡ true
-  unfolding accepted
-  all-right l w f h = and-yes (eq-eqb (length fs) 10 l) ∙ and-yes w ∙ and-yes f ∙ le-leb (decimal (field fs 7)) 8192 h
+  pub all-right : length fs ≡ 10 → all isUnsigned (take 9 fs) ≡ true → isSigned (field fs 9) ≡ true → digitsValue (field fs 7) ≤ 8192 →
+      wellFormed fs ≡ true
+  unfolding wellFormed
+  all-right l w f h = and-yes (eq-eqb (length fs) 10 l) ∙ and-yes w ∙ and-yes f ∙ le-leb (digitsValue (field fs 7)) 8192 h
 
 -- ---- all of the first n, one by one
 
@@ -108,7 +109,7 @@ module _ (line values : List ℕ) (i at : ℕ) (r : Read line i values at) (n : 
     pub last-is : field fs i ≡ rest
     last-is = at-is fs i [] last
 
-    pub too-few : i < 9 → accepted fs ≡ false
+    pub too-few : i < 9 → wellFormed fs ≡ false
     too-few b = not-ten fs (λ e. omega (arith, last-length))
 
   -- it is not
@@ -125,26 +126,33 @@ module _ (line values : List ℕ) (i at : ℕ) (r : Read line i values at) (n : 
         same : length (before space rest) ≡ at + n - at
         same = omega arith
 
-    pub too-many : 9 ≤ i → accepted fs ≡ false
+    pub too-many : 9 ≤ i → wellFormed fs ≡ false
     too-many b = not-ten fs (λ e. omega (arith, more-length))
 
-    pub wrong-field : i < 9 → isWhole (take (at + n - at) rest) ≡ false → accepted fs ≡ false
-    wrong-field b e = not-whole fs (not-all-take isWhole [] 9 fs i b (omega (arith, more-length)) (ap isWhole more-is ∙ e))
+    pub wrong-field : i < 9 → isUnsigned (take (at + n - at) rest) ≡ false → wellFormed fs ≡ false
+    wrong-field b e = not-unsigned fs (not-all-take isUnsigned [] 9 fs i b (omega (arith, more-length)) (ap isUnsigned more-is ∙ e))
 
-    pub read-more : (v : ℕ) → i < length values → isWhole (take (at + n - at) rest) ≡ true → decimal (take (at + n - at) rest) ≡ v → Read line (i + 1) (set values i v) (at + n + 1)
+    pub read-more : (v : ℕ) → i < length values → let f = take (at + n - at) rest in isUnsigned f ≡ true → digitsValue f ≡ v →
+        Read line (i + 1) (set values i v) (at + n + 1)
     read-more v b e d =
         record {
           inside = omega arith;
-          rest = rw (add-one i) (after-is fs i [] more ∙ ap fields (drop-drop (suc (length (before space rest))) at line ∙ ap (λ (k : ℕ). drop k line) place));
-          each = below-more _ i (r .each) (ap isWhole more-is ∙ e);
-          value = below-more _ i (λ k q. getD-set-other values i k v 0 (other k q) ∙ r .value k q) (getD-set-same values i v 0 b ∙ sym (ap decimal more-is ∙ d));
+          rest = rw (add-one i) (after-is fs i [] more ∙ ap fields next-rest);
+          each = below-more _ i (r .each) (ap isUnsigned more-is ∙ e);
+          value = below-more _ i earlier (getD-set-same values i v 0 b ∙ sym this);
         }
       where
         place : at + suc (length (before space rest)) ≡ at + n + 1
         place = omega arith
 
-        other : (k : ℕ) → k < i → k ≡ i → ⊥
-        other k q e = omega arith
+        next-rest : drop (suc (length (before space rest))) rest ≡ drop (at + n + 1) line
+        next-rest = drop-drop (suc (length (before space rest))) at line ∙ ap (λ (k : ℕ). drop k line) place
+
+        this : digitsValue (field fs i) ≡ v
+        this = ap digitsValue more-is ∙ d
+
+        earlier : (k : ℕ) → k < i → getD (set values i v) k 0 ≡ digitsValue (field fs k)
+        earlier k q = getD-set-other values i k v 0 (λ e. omega arith) ∙ r .value k q
 
 pub read-none : (line values : List ℕ) → Read line 0 values 0
 read-none line values = record { inside = omega arith; rest = refl; each = below-none _; value = below-none _ }

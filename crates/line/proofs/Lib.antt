@@ -1,6 +1,6 @@
 pub mod Examples
 pub mod ListLaws
 pub mod DecimalLaws
-pub mod ForceLaws
+pub mod SignedLaws
 pub mod FieldLaws
 pub mod RequestLaws

@@ -19,30 +19,34 @@ tail-is l n = take-all (length l - n) (drop n l) (le-of-eq (length-drop n l))
 -- ---- a search from the front
 
 -- the first i numbers are not s
-pub record Passed (s : ℕ) (l : List ℕ) (i : ℕ) : Type 0 where
+pub record Skipped (s : ℕ) (l : List ℕ) (i : ℕ) : Type 0 where
   pub reached : i ≤ length l
   pub same : length (before s l) ≡ i + length (before s (drop i l))
 
 module _ (s : ℕ) (l : List ℕ) where
-  pub passed-none : Passed s l 0
-  passed-none = record { reached = omega arith; same = omega arith }
+  pub skipped-none : Skipped s l 0
+  skipped-none = record { reached = omega arith; same = omega arith }
 
   -- what is left begins with a number that is s, or is not
   stops : (i : ℕ) → i < length l → getD l i 0 ≡ s → length (before s (drop i l)) ≡ 0
   unfolding before
-  stops i h e = rw (drop-cons l i 0) (ap (λ (t : Bool). length (cond t [] (getD l i 0 ∷ before s (drop (suc i) l)))) (eq-eqb (getD l i 0) s e))
+  stops i h e =
+      rw (drop-cons l i 0)
+      (ap (λ (t : Bool). length (cond t [] (getD l i 0 ∷ before s (drop (suc i) l)))) (eq-eqb (getD l i 0) s e))
 
   goes-on : (i : ℕ) → i < length l → (getD l i 0 ≡ s → ⊥) → length (before s (drop i l)) ≡ suc (length (before s (drop (i + 1) l)))
   unfolding before
-  goes-on i h f = rw (add-one, drop-cons l i 0) (ap (λ (t : Bool). length (cond t [] (getD l i 0 ∷ before s (drop (suc i) l)))) (ne-eqb (getD l i 0) s f))
+  goes-on i h f =
+      rw (add-one, drop-cons l i 0)
+      (ap (λ (t : Bool). length (cond t [] (getD l i 0 ∷ before s (drop (suc i) l)))) (ne-eqb (getD l i 0) s f))
 
-  pub passed-more : {i : ℕ} → i < length l → Passed s l i → (getD l i 0 ≡ s → ⊥) → Passed s l (i + 1)
-  passed-more {i} h p f = record { reached = omega arith; same = omega (arith, goes-on i h f) }
+  pub skipped-more : {i : ℕ} → i < length l → Skipped s l i → (getD l i 0 ≡ s → ⊥) → Skipped s l (i + 1)
+  skipped-more {i} h p f = record { reached = omega arith; same = omega (arith, goes-on i h f) }
 
-  pub found-is : {i : ℕ} → i < length l → Passed s l i → getD l i 0 ≡ s → i ≡ length (before s l)
+  pub found-is : {i : ℕ} → i < length l → Skipped s l i → getD l i 0 ≡ s → i ≡ length (before s l)
   found-is {i} h p e = omega (arith, stops i h e)
 
-  pub end-is : {i : ℕ} → length l ≤ i → Passed s l i → i ≡ length (before s l)
+  pub end-is : {i : ℕ} → length l ≤ i → Skipped s l i → i ≡ length (before s l)
   unfolding before
   end-is {i} h p = omega (arith, ap (λ (r : List ℕ). length (before s r)) (drop-of-length-le l h))
 
@@ -62,7 +66,8 @@ unfolding before
 before-take s [] = refl
 before-take s (b ∷ bs) = go (eqb b s) (before-take s bs)
   where
-    go : (t : Bool) → take (length (before s bs)) bs ≡ before s bs → take (length (cond t [] (b ∷ before s bs))) (b ∷ bs) ≡ cond t [] (b ∷ before s bs)
+    go : (t : Bool) → take (length (before s bs)) bs ≡ before s bs →
+        take (length (cond t [] (b ∷ before s bs))) (b ∷ bs) ≡ cond t [] (b ∷ before s bs)
     go true e = refl
     go false e = ap (λ (r : List ℕ). b ∷ r) e
 
@@ -73,7 +78,8 @@ before-first s zero l = refl
 before-first s (suc n) [] = refl
 before-first s (suc n) (b ∷ bs) = go (eqb b s) (before-first s n bs)
   where
-    go : (t : Bool) → before s (take n bs) ≡ take n (before s bs) → cond t [] (b ∷ before s (take n bs)) ≡ take (suc n) (cond t [] (b ∷ before s bs))
+    go : (t : Bool) → before s (take n bs) ≡ take n (before s bs) →
+        cond t [] (b ∷ before s (take n bs)) ≡ take (suc n) (cond t [] (b ∷ before s bs))
     go true e = refl
     go false e = ap (λ (r : List ℕ). b ∷ r) e
 
@@ -91,13 +97,15 @@ split-last s (b ∷ bs) h = go (eqb b s) h (split-last s bs)
     go false h e = ap (onFirst b) (e (omega arith))
 
 -- the list before the first that is s, and those of what comes after it
-pub split-more : (s : ℕ) (l : List ℕ) → length (before s l) < length l → splitOn s l ≡ before s l ∷ splitOn s (drop (suc (length (before s l))) l)
+pub split-more : (s : ℕ) (l : List ℕ) → length (before s l) < length l →
+    splitOn s l ≡ before s l ∷ splitOn s (drop (suc (length (before s l))) l)
 unfolding before splitOn
 split-more s [] h = absurd (omega arith)
 split-more s (b ∷ bs) h = go (eqb b s) h (split-more s bs)
   where
     go : (t : Bool) → length (cond t [] (b ∷ before s bs)) < suc (length bs) →
         (length (before s bs) < length bs → splitOn s bs ≡ before s bs ∷ splitOn s (drop (suc (length (before s bs))) bs)) →
-        cond t ([] ∷ splitOn s bs) (onFirst b (splitOn s bs)) ≡ cond t [] (b ∷ before s bs) ∷ splitOn s (drop (suc (length (cond t [] (b ∷ before s bs)))) (b ∷ bs))
+        let first = cond t [] (b ∷ before s bs) in
+        cond t ([] ∷ splitOn s bs) (onFirst b (splitOn s bs)) ≡ first ∷ splitOn s (drop (suc (length first)) (b ∷ bs))
     go true h e = refl
     go false h e = ap (onFirst b) (e (omega arith))

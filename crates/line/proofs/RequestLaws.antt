@@ -12,18 +12,19 @@ use lib.Seq.{take-all, length-take-le}
 use Rattle.line.specs.declared.types.Numbers.{Numbers}
 use Rattle.line.specs.declared.types.Request.{Request}
 use Rattle.line.specs.declared.types.Request.the-variants.{Input, Run}
-use Rattle.line.specs.declared.decimals.Force.the-variants.{Is, Wrong}
+use Rattle.line.specs.declared.decimals.Signed.the-variants.{Is, Wrong}
 use Rattle.line.specs.Lists.{before}
-use Rattle.line.specs.Requests.{isWhole, isForce, forceOf, lineFeed, space, fields, field, accepted, numbers, lineRequest, requestOf}
-use Rattle.line.specs.Reading.{forceRead, Read}
+use Rattle.line.specs.Requests.{isUnsigned, isSigned, signedValue, lineFeed, space, fields, field, wellFormed, numbers}
+use Rattle.line.specs.Requests.{digitsValue, lineRequest, requestOf}
+use Rattle.line.specs.Reading.{signedRead, Read}
 use Rattle.line.specs.Claims.{FirstBytesTell}
 use Rattle.line.proofs.ListLaws.{before-take, before-first}
-use Rattle.line.proofs.ForceLaws.{force-wrong, force-right}
-use Rattle.line.proofs.FieldLaws.{all-take, not-force, not-steps, all-right, last-length, last-is}
+use Rattle.line.proofs.SignedLaws.{signed-wrong, signed-right}
+use Rattle.line.proofs.FieldLaws.{all-take, not-signed, not-steps, all-right, last-length, last-is}
 
 -- ---- a line
 
-pub turned-down : (line : List ℕ) → accepted (fields line) ≡ false → Input ≡ lineRequest line
+pub turned-down : (line : List ℕ) → wellFormed (fields line) ≡ false → Input ≡ lineRequest line
 unfolding lineRequest
 turned-down line e = sym (ap (λ (t : Bool). cond t (Run (numbers (fields line))) Input) e)
 
@@ -44,26 +45,28 @@ ten values z =
     }
 
 -- nine fields were read, and the tenth has n bytes and is the last
-module _ (line values : List ℕ) (at : ℕ) (r : Read line 9 values at) (n : ℕ) (z : n ≡ length (before space (drop at line))) (h : length line ≤ at + n) where
+module _ (line values : List ℕ) (at : ℕ) (r : Read line 9 values at)
+    (n : ℕ) (z : n ≡ length (before space (drop at line))) (h : length line ≤ at + n) where
   abbrev fs : List (List ℕ)
   fs = fields line
 
   last : field fs 9 ≡ drop at line
   last = last-is line values 9 at r n z h
 
-  pub force-turned-down : forceRead (drop at line) ≡ Wrong → Input ≡ lineRequest line
-  force-turned-down e = turned-down line (not-force fs (ap isForce last ∙ force-wrong (drop at line) e))
+  pub force-turned-down : signedRead (drop at line) ≡ Wrong → Input ≡ lineRequest line
+  force-turned-down e = turned-down line (not-signed fs (ap isSigned last ∙ signed-wrong (drop at line) e))
 
   pub steps-turned-down : 8192 < getD values 7 0 → Input ≡ lineRequest line
   steps-turned-down b = turned-down line (not-steps fs (omega (arith, r .value 7 (lit< tt))))
 
-  pub taken : (v : ℤ) → forceRead (drop at line) ≡ Is v → getD values 7 0 ≤ 8192 → Run (ten values v) ≡ lineRequest line
+  pub taken : (v : ℤ) → signedRead (drop at line) ≡ Is v → getD values 7 0 ≤ 8192 → Run (ten values v) ≡ lineRequest line
   unfolding lineRequest
   taken v e b =
-      let f = force-right (drop at line) e in
-      let ok : accepted fs ≡ true =
-      all-right fs (last-length line values 9 at r n z h) (all-take isWhole [] 9 fs (r .each)) (ap isForce last ∙ f .0) (omega (arith, r .value 7 (lit< tt))) in
-      let value : v ≡ forceOf (field fs 9) = sym (ap forceOf last ∙ f .1) in
+      let f = signed-right (drop at line) e in
+      let fields-ten : length fs ≡ 10 = last-length line values 9 at r n z h in
+      let low : digitsValue (field fs 7) ≤ 8192 = omega (arith, r .value 7 (lit< tt)) in
+      let ok = all-right fs fields-ten (all-take isUnsigned [] 9 fs (r .each)) (ap isSigned last ∙ f .0) low in
+      let value : v ≡ signedValue (field fs 9) = sym (ap signedValue last ∙ f .1) in
       let same : ten values v ≡ numbers fs =
       λ j. record {
         kind = r .value 0 (lit< tt) j;
@@ -84,13 +87,16 @@ module _ (line values : List ℕ) (at : ℕ) (r : Read line 9 values at) (n : �
 module _ (bytes : List ℕ) (n : ℕ) (z : n ≡ length (before lineFeed bytes)) where
   pub too-long : 255 < n → Input ≡ requestOf bytes
   unfolding requestOf
-  too-long h = sym (ap (λ (t : Bool). cond t (lineRequest (before lineFeed bytes)) Input) (lt-leb (length (before lineFeed bytes)) 255 (omega arith)))
+  too-long h =
+      let l = before lineFeed bytes in
+      sym (ap (λ (t : Bool). cond t (lineRequest l) Input) (lt-leb (length l) 255 (omega arith)))
 
   pub first-line : n ≤ 255 → lineRequest (take n bytes) ≡ requestOf bytes
   unfolding requestOf
   first-line h =
+      let l = before lineFeed bytes in
       ap (λ (k : ℕ). lineRequest (take k bytes)) z ∙ ap lineRequest (before-take lineFeed bytes) ∙
-      sym (ap (λ (t : Bool). cond t (lineRequest (before lineFeed bytes)) Input) (le-leb (length (before lineFeed bytes)) 255 (omega arith)))
+      sym (ap (λ (t : Bool). cond t (lineRequest l) Input) (le-leb (length l) 255 (omega arith)))
 
 -- ---- the first bytes
 
@@ -108,5 +114,6 @@ first-bytes-tell bytes = ap told (before-first lineFeed 256 bytes) ∙ cases (be
         go true e = ap told (take-all 256 l (omega (arith, leb-true (length l) 255 e)))
         go false e =
             let h : 256 ≤ length l = omega (arith, leb-false (length l) 255 e) in
-            ap (λ (t : Bool). cond t (lineRequest (take 256 l)) Input) (lt-leb (length (take 256 l)) 255 (omega (arith, length-take-le 256 l h)))
+            let f = take 256 l in
+            ap (λ (t : Bool). cond t (lineRequest f) Input) (lt-leb (length f) 255 (omega (arith, length-take-le 256 l h)))
             ∙ sym (ap (λ (t : Bool). cond t (lineRequest l) Input) e)

@@ -28,8 +28,16 @@ zeros n = replicate n 48
 abbrev line : String → List ℕ
 line force = text "1 3 1 65536 0 0 1 4 1 " ++ text force
 
+-- it with other steps, and another force
+abbrev stepsRun : ℕ → ℤ → Request
+stepsRun n z = Run (record { kind = 1; columns = 3; rows = 1; q = 65536; m = 0; s = 0; pick = 1; steps = n; point = 1; force = z })
+
 abbrev lineRun : ℤ → Request
-lineRun z = Run (record { kind = 1; columns = 3; rows = 1; q = 65536; m = 0; s = 0; pick = 1; steps = 4; point = 1; force = z })
+lineRun z = stepsRun 4 z
+
+-- ten numbers that all differ
+abbrev nineToNought : Request
+nineToNought = Run (record { kind = 9; columns = 8; rows = 7; q = 6; m = 5; s = 4; pick = 3; steps = 2; point = 1; force = pos 0 })
 
 -- ---- the table
 
@@ -39,7 +47,7 @@ table =
     (text "1 3 1 65536 0 0 1 4 1 268435456" gives lineRun (pos 268435456)) ∷
     (line "268435456\n" gives lineRun (pos 268435456)) ∷
     (line "2\n5 5 5" gives lineRun (pos 2)) ∷
-    (text "9 8 7 6 5 4 3 2 1 0" gives Run (record { kind = 9; columns = 8; rows = 7; q = 6; m = 5; s = 4; pick = 3; steps = 2; point = 1; force = pos 0 })) ∷
+    (text "9 8 7 6 5 4 3 2 1 0" gives nineToNought) ∷
     -- "only force may be negative, by one leading minus"
     (line "-7" gives lineRun (negℤ (pos 7))) ∷
     (line "-0" gives lineRun (pos 0)) ∷
@@ -69,7 +77,7 @@ table =
     (line "7\r\n" gives Input) ∷
     (line "7\0" gives Input) ∷
     -- "steps above 8192"
-    (text "1 3 1 65536 0 0 1 8192 1 0" gives Run (record { kind = 1; columns = 3; rows = 1; q = 65536; m = 0; s = 0; pick = 1; steps = 8192; point = 1; force = pos 0 })) ∷
+    (text "1 3 1 65536 0 0 1 8192 1 0" gives stepsRun 8192 (pos 0)) ∷
     (text "1 3 1 65536 0 0 1 8193 1 0" gives Input) ∷
     -- "a number outside signed 64 bits"
     (line "9223372036854775807" gives lineRun (pos 9223372036854775807)) ∷

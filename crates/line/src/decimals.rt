@@ -3,19 +3,21 @@ ghost use mathlib.Core.Path.{_≡_};
 ghost use Prim.Native.Nat.{_-_, _^_, _≤_, _<_};
 ghost use lib.IntN.{pos, negℤ};
 ghost use Rattle.line.specs.Requests.{isDigit};
-ghost use Rattle.line.specs.Reading.{wholeRead, forceRead};
+ghost use Rattle.line.specs.Reading.{unsignedRead, signedRead};
 
 const MINUS: u8 = 45;
 
 // 2⁶³ − 1, the largest number of signed 64 bits.
-pub const MOST: u64 = 9223372036854775807;
+pub(crate) const MOST: u64 = 9223372036854775807;
 
-pub enum Whole {
+// A number that may not be negative. The definition `unsignedRead` tells which fields are none, and the value of the others.
+pub(crate) enum Unsigned {
     Is(u64),
     Wrong,
 }
 
-pub enum Force {
+// A number that may be negative. The definition `signedRead` tells which fields are none, and the value of the others.
+pub(crate) enum Signed {
     Is(i64),
     Wrong,
 }
@@ -36,29 +38,30 @@ fn digit_of(byte: u8) -> u64
     (byte - 48) as u64
 }
 
-// The value of a field of digits, which is no more than most. It is compared before it is computed: 10 × n + digit ≤ most, and nothing wraps.
-pub fn read_whole(digits: &[u8], most: u64) -> Whole
+// A field of digits, of a value of at most `most`. It is compared before it is computed, so that nothing wraps.
+// Ruled out: a number past `most` taken; a field with no digit taken as 0.
+pub(crate) fn read_unsigned(digits: &[u8], most: u64) -> Unsigned
     requires { ⌜ (9 ≤ most) × (most ≤ 2 ^ 63) ⌝ }
-    ensures { λ r. ⌜ r ≡ wholeRead most (now (digits .entry)) ⌝ }
+    ensures { λ r. ⌜ r ≡ unsignedRead most (now (digits .entry)) ⌝ }
 {
     if digits.len() == 0 {
-        return Whole::Wrong;
+        return Unsigned::Wrong;
     }
     let mut n = 0;
     let mut i = 0;
     while i < digits.len() {
         let byte = digits[i];
         if !is_digit(byte) {
-            return Whole::Wrong;
+            return Unsigned::Wrong;
         }
         let digit = digit_of(byte);
         if (most - digit) / 10 < n {
-            return Whole::Wrong;
+            return Unsigned::Wrong;
         }
         n = 10 * n + digit;
         i += 1;
     }
-    Whole::Is(n)
+    Unsigned::Is(n)
 }
 
 fn plus(n: u64) -> i64
@@ -79,21 +82,21 @@ fn minus(n: u64) -> i64
     -1 - ((n - 1) as i64)
 }
 
-// A field of digits, which may have one minus before them.
-pub fn read_force(field: &[u8]) -> Force
-    ensures { λ r. ⌜ r ≡ forceRead (now (field .entry)) ⌝ }
+// A field of digits, which may have one minus before them. Ruled out: −2⁶³ not taken; the minus ignored.
+pub(crate) fn read_signed(field: &[u8]) -> Signed
+    ensures { λ r. ⌜ r ≡ signedRead (now (field .entry)) ⌝ }
 {
     if field.len() == 0 {
-        return Force::Wrong;
+        return Signed::Wrong;
     }
     if field[0] == MINUS {
-        return match read_whole(&field[1..], MOST + 1) {
-            Whole::Is(n) => Force::Is(minus(n)),
-            Whole::Wrong => Force::Wrong,
+        return match read_unsigned(&field[1..], MOST + 1) {
+            Unsigned::Is(n) => Signed::Is(minus(n)),
+            Unsigned::Wrong => Signed::Wrong,
         };
     }
-    match read_whole(field, MOST) {
-        Whole::Is(n) => Force::Is(plus(n)),
-        Whole::Wrong => Force::Wrong,
+    match read_unsigned(field, MOST) {
+        Unsigned::Is(n) => Signed::Is(plus(n)),
+        Unsigned::Wrong => Signed::Wrong,
     }
 }

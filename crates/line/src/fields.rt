@@ -4,15 +4,15 @@ ghost use lib.ListN.{length};
 ghost use Rattle.line.specs.Lists.{before};
 ghost use Rattle.line.specs.Reading.{NineRead};
 use crate::decimals::MOST;
-use crate::decimals::Whole;
-use crate::decimals::read_whole;
+use crate::decimals::Unsigned;
+use crate::decimals::read_unsigned;
 
-pub const LINE_FEED: u8 = 10;
+pub(crate) const LINE_FEED: u8 = 10;
 
-pub const SPACE: u8 = 32;
+pub(crate) const SPACE: u8 = 32;
 
 // Where the first byte that is sought stands; the length where there is none.
-pub fn find(bytes: &[u8], sought: u8) -> usize
+pub(crate) fn find(bytes: &[u8], sought: u8) -> usize
     ensures { λ r. ⌜ r ≡ length (before sought (now (bytes .entry))) ⌝ }
 {
     let mut i = 0;
@@ -25,13 +25,14 @@ pub fn find(bytes: &[u8], sought: u8) -> usize
     i
 }
 
-pub enum Rest {
+// Where the tenth field begins, or no nine numbers. The definition `NineRead` tells what each says of the line.
+pub(crate) enum Rest {
     At(usize),
     Wrong,
 }
 
 // The values of the first nine fields, a space after each, and where the tenth begins.
-pub fn read_nine(line: &[u8], values: &mut [u64; 9]) -> Rest
+pub(crate) fn read_nine(line: &[u8], values: &mut [u64; 9]) -> Rest
     requires { ⌜ length (now values) ≡ 9 ⌝ }
     ensures { λ r. ⌜ NineRead (now (line .entry)) (now (values .exit)) r ⌝ }
 {
@@ -42,7 +43,7 @@ pub fn read_nine(line: &[u8], values: &mut [u64; 9]) -> Rest
         if end == line.len() {
             return Rest::Wrong;
         }
-        let Whole::Is(n) = read_whole(&line[at..end], MOST) else {
+        let Unsigned::Is(n) = read_unsigned(&line[at..end], MOST) else {
             return Rest::Wrong;
         };
         values[i] = n;

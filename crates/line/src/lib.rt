@@ -5,8 +5,8 @@ mod types;
 
 ghost use mathlib.Core.Path.{_≡_};
 ghost use Rattle.line.specs.Requests.{lineRequest, requestOf};
-use crate::decimals::Force;
-use crate::decimals::read_force;
+use crate::decimals::Signed;
+use crate::decimals::read_signed;
 use crate::fields::LINE_FEED;
 use crate::fields::Rest;
 use crate::fields::SPACE;
@@ -27,7 +27,7 @@ fn line_request(line: &[u8]) -> Request
     if find(last, SPACE) < last.len() {
         return Request::Input;
     }
-    let Force::Is(force) = read_force(last) else {
+    let Signed::Is(force) = read_signed(last) else {
         return Request::Input;
     };
     if 8192 < values[7] {

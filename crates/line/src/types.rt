@@ -13,7 +13,8 @@ pub struct Numbers {
     pub force: i64,
 }
 
-// What the program does: print `input`, or run.
+// What a line asks for: to print `input`, or to run on ten numbers. The definition `requestOf` tells which, and `numbers` the values;
+// `answerTo` of the crate shell tells what is printed for each.
 pub enum Request {
     Input,
     Run(Numbers),

@@ -1,7 +1,7 @@
 -- `line_request` meets its contract: nine numbers, then the force, then the limit of the steps.
 use mathlib.Core.Path.{_≡_, sym, ap, _∙_, subst}
 use mathlib.Core.List.{List}
-use Prim.Native.Nat.{ℕ, _+_, _≤_}
+use Prim.Native.Nat.{ℕ, _+_, _≤_, _<_}
 use native.Mathlib.Omega.{arith}
 use borrow.Author.Needs.{needs}
 use lib.IntN.{ℤ}
@@ -11,35 +11,48 @@ use mir.ValLaws.{toZ-ofZ}
 use Rattle.line.specs.declared.types.Request.the-variants.{Run}
 use Rattle.line.specs.Lists.{before}
 use Rattle.line.specs.Requests.{space}
-use Rattle.line.specs.Reading.{forceRead, Read, NineRead}
+use Rattle.line.specs.Reading.{signedRead, Read, NineRead}
 use Rattle.line.proofs.ListLaws.{tail-is}
 use Rattle.line.proofs.FieldLaws.{too-many}
 use Rattle.line.proofs.RequestLaws.{turned-down, ten, force-turned-down, steps-turned-down, taken}
 use Rattle.line.proofs.line_request.Statement.{statement}
 use Rattle.line.proofs.line_request.Tie as tie
 
-abbrev line : tie.After-known-told → List ℕ
-line c = c .before .before .before .before .before .before .args .line .now
+-- nine fields were read
+module _ (c : tie.After-known-told) where
+  abbrev done : tie.After-read-nine
+  done = c .before .before .before
 
-abbrev values : tie.After-known-told → List ℕ
-values c = c .before .before .before .read-nine .last .1 .0
+  abbrev line : List ℕ
+  line = done .before .before .before .args .line .now
 
--- where the tenth field begins
-abbrev at : tie.After-known-told → ℕ
-at c = c .before .at .given .0 .0
+  abbrev values : List ℕ
+  values = done .read-nine .last .1 .0
 
-nine : (c : tie.After-known-told) → Read (line c) 9 (values c) (at c)
-nine c = subst (NineRead (line c) (values c)) (c .before .at .given .1) (c .before .before .before .read-nine .ensures)
+  -- where the tenth begins
+  abbrev at : ℕ
+  at = c .before .at .given .0 .0
 
+  nine : Read line 9 values at
+  nine = subst (NineRead line values) (c .before .at .given .1) (done .read-nine .ensures)
+
+-- the tenth has as many bytes as find tells
 size-is : (c : tie.After-find) → let k = c .before .before in c .find .result ≡ length (before space (drop (at k) (line k)))
 size-is c = let k = c .before .before in c .find .ensures ∙ ap (λ (l : List ℕ). length (before space l)) (tail-is (line k) (at k))
 
 -- it ends the line
-ends : (c : tie.Else1) → let k = c .before .before .before in length (line k) ≤ at k + c .before .find .result
-ends c = omega (arith, c .if1 .left, nine (c .before .before .before) .inside)
+module _ (c : tie.Else1) where
+  abbrev read : tie.After-known-told
+  read = c .before .before .before
 
-force-is : (c : tie.After-read-force) → let k = c .before .before .before .before in c .read-force .result ≡ forceRead (drop (at k) (line k))
-force-is c = let k = c .before .before .before .before in c .read-force .ensures ∙ ap forceRead (tail-is (line k) (at k))
+  size : c .before .find .result ≡ length (before space (drop (at read) (line read)))
+  size = size-is (c .before)
+
+  ends : length (line read) ≤ at read + c .before .find .result
+  ends = omega (arith, c .if1 .left, nine read .inside)
+
+force-is : (c : tie.After-read-signed) → let k = read (c .before) in c .read-signed .result ≡ signedRead (drop (at k) (line k))
+force-is c = let k = read (c .before) in c .read-signed .ensures ∙ ap signedRead (tail-is (line k) (at k))
 
 read-nine-requires : tie.Need-read-nine-requires
 read-nine-requires c κs = search needs
@@ -68,10 +81,11 @@ find-requires c κs = search needs
 returns-2 : tie.Need-returns-2
 returns-2 c =
     let k = c .before .before .before in
-    turned-down (line k) (too-many (line k) (values k) 9 (at k) (nine k) _ (size-is (c .before)) (omega (arith, c .if1 .taken, nine k .inside)) (omega arith))
+    let more : at k + c .before .find .result < length (line k) = omega (arith, c .if1 .taken, nine k .inside) in
+    turned-down (line k) (too-many (line k) (values k) 9 (at k) (nine k) _ (size-is (c .before)) more (omega arith))
 
-read-force-requires : tie.Need-read-force-requires
-read-force-requires c κs = search needs
+read-signed-requires : tie.Need-read-signed-requires
+read-signed-requires c κs = search needs
 
 enum-known-force : tie.Need-enum-known-force
 enum-known-force c = search needs
@@ -81,9 +95,10 @@ enum-told-2 c = search needs
 
 returns-3 : tie.Need-returns-3
 returns-3 c =
-    let e = c .before .before .before in
-    let k = e .before .before .before in
-    force-turned-down (line k) (values k) (at k) (nine k) _ (size-is (e .before)) (ends e) (sym (force-is (c .before .before)) ∙ c .enum-told2 .given .1)
+    let f = c .before .before in
+    let e = f .before in
+    let k = read e in
+    force-turned-down (line k) (values k) (at k) (nine k) _ (size e) (ends e) (sym (force-is f) ∙ c .enum-told2 .given .1)
 
 array-read-if2 : tie.Need-array-read-if2
 array-read-if2 c = search needs
@@ -91,8 +106,8 @@ array-read-if2 c = search needs
 returns-4 : tie.Need-returns-4
 returns-4 c =
     let e = c .before .before .before .before .before in
-    let k = e .before .before .before in
-    steps-turned-down (line k) (values k) (at k) (nine k) _ (size-is (e .before)) (ends e) (omega (arith, c .if2 .taken))
+    let k = read e in
+    steps-turned-down (line k) (values k) (at k) (nine k) _ (size e) (ends e) (omega (arith, c .if2 .taken))
 
 array-read-t16 : tie.Need-array-read-t16
 array-read-t16 c = search needs
@@ -123,11 +138,13 @@ array-read-t44 c = search needs
 
 returns-5 : tie.Need-returns-5
 returns-5 c =
-    let e = c .before .before .before .before .before in
-    let k = e .before .before .before in
-    let f = c .before .before .force .given in
+    let g = c .before .before in
+    let f = g .before .before in
+    let e = f .before in
+    let k = read e in
+    let force = sym (force-is f) ∙ g .force .given .1 in
     ap (λ (z : ℤ). Run (ten (values k) z)) (toZ-ofZ w64 _ (record { sfits = c .before .known-told2 .given .0 .1 }))
-    ∙ taken (line k) (values k) (at k) (nine k) _ (size-is (e .before)) (ends e) _ (sym (force-is (c .before .before .before .before)) ∙ f .1) (omega (arith, c .if2 .left))
+    ∙ taken (line k) (values k) (at k) (nine k) _ (size e) (ends e) _ force (omega (arith, c .if2 .left))
 
 pub line-request-spec : {M : Type 1} → statement M
 line-request-spec =
@@ -142,7 +159,7 @@ line-request-spec =
     part-last-end
     find-requires
     returns-2
-    read-force-requires
+    read-signed-requires
     enum-known-force
     enum-told-2
     returns-3

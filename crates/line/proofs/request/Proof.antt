@@ -17,15 +17,15 @@ returns c = too-long _ _ (c .before .find .ensures) (omega (arith, c .if1 .taken
 
 slice-aggregate-line-request : tie.Need-slice-aggregate-line-request
 slice-aggregate-line-request c =
-    let bytes = c .before .before .before .before .args .bytes .now in
-    let n = c .before .before .find .result in
-    omega (arith, length-take-le n bytes (omega (arith, c .before .before .find .ensures, before-short lineFeed bytes)))
+    let f = c .before .before in
+    let bytes = f .before .before .args .bytes .now in
+    omega (arith, length-take-le (f .find .result) bytes (omega (arith, f .find .ensures, before-short lineFeed bytes)))
 
 line-request-requires : tie.Need-line-request-requires
 line-request-requires c κs = search needs
 
 returns-2 : tie.Need-returns-2
-returns-2 c = c .line-request .ensures ∙ first-line _ _ (c .before .before .before .find .ensures) (omega arith)
+returns-2 c = let f = c .before .before .before in c .line-request .ensures ∙ first-line _ _ (f .find .ensures) (omega arith)
 
 pub request-spec : {M : Type 1} → statement M
 request-spec = tie.close (tie.spec find-requires returns slice-aggregate-line-request line-request-requires returns-2)

@@ -20,18 +20,28 @@ Inv-loop line values₀ at₀ i₀ values at i = Read line i values at × (i ≤
 abbrev μ-loop : tie.MeasureT-loop
 μ-loop line values₀ at₀ i₀ values at i = 9 - i
 
-abbrev line : tie.After-find Inv-loop μ-loop → List ℕ
-line c = c .before .before .before .before .before .args .line .now
+-- the end of the next field was found
+module _ (c : tie.After-find Inv-loop μ-loop) where
+  abbrev loop : tie.At-loop Inv-loop μ-loop
+  loop = c .before .before .before
 
--- what find tells of the next field
-size-is : (c : tie.After-find Inv-loop μ-loop) → c .find .result ≡ length (before space (drop (c .before .before .before .loop .at) (line c)))
-size-is c = c .find .ensures ∙ ap (λ (l : List ℕ). length (before space l)) (tail-is (line c) (c .before .before .before .loop .at))
+  abbrev line : List ℕ
+  line = loop .before .before .args .line .now
 
-end-inside : (c : tie.After-find Inv-loop μ-loop) → c .before .before .before .loop .at + c .find .result ≤ length (line c)
-end-inside c = let l = c .before .before .before .loop in next-inside (line c) (l .values) (l .i) (l .at) (l .inv .0) (c .find .result) (size-is c)
+  abbrev at : ℕ
+  at = loop .loop .at
+
+  abbrev so-far : Read line (loop .loop .i) (loop .loop .values) at
+  so-far = loop .loop .inv .0
+
+  size-is : c .find .result ≡ length (before space (drop at line))
+  size-is = c .find .ensures ∙ ap (λ (l : List ℕ). length (before space l)) (tail-is line at)
+
+  end-inside : at + c .find .result ≤ length line
+  end-inside = next-inside line _ _ at so-far (c .find .result) size-is
 
 -- a field that does not end the line
-goes-on : (c : tie.Else1 Inv-loop μ-loop) → c .before .before .before .before .loop .at + c .before .find .result < length (line (c .before))
+goes-on : (c : tie.Else1 Inv-loop μ-loop) → let f = c .before in at f + f .find .result < length (line f)
 goes-on c = omega (arith, end-inside (c .before), c .if1 .left)
 
 loop-holds : tie.Need-loop-holds Inv-loop μ-loop
@@ -50,24 +60,24 @@ find-requires : tie.Need-find-requires Inv-loop μ-loop
 find-requires c κs = tt
 
 add-end : tie.Need-add-end Inv-loop μ-loop
-add-end c = omega (arith, end-inside c, c .before .before .before .before .before .good .0)
+add-end c = omega (arith, end-inside c, loop c .before .before .good .0)
 
 returns : tie.Need-returns Inv-loop μ-loop
 returns c =
-    let l = c .before .before .before .before .loop in
-    too-few (line (c .before)) (l .values) (l .i) (l .at) (l .inv .0) _ (size-is (c .before)) (omega (arith, c .if1 .taken)) (omega arith)
+    let f = c .before in
+    too-few (line f) _ _ (at f) (so-far f) _ (size-is f) (omega (arith, c .if1 .taken)) (omega arith)
 
-sub-read-whole : tie.Need-sub-read-whole Inv-loop μ-loop
-sub-read-whole c = search needs
+sub-read-unsigned : tie.Need-sub-read-unsigned Inv-loop μ-loop
+sub-read-unsigned c = search needs
 
-part-read-whole-start : tie.Need-part-read-whole-start Inv-loop μ-loop
-part-read-whole-start c = search needs
+part-read-unsigned-start : tie.Need-part-read-unsigned-start Inv-loop μ-loop
+part-read-unsigned-start c = search needs
 
-part-read-whole-end : tie.Need-part-read-whole-end Inv-loop μ-loop
-part-read-whole-end c = let h = goes-on c in search needs
+part-read-unsigned-end : tie.Need-part-read-unsigned-end Inv-loop μ-loop
+part-read-unsigned-end c = let h = goes-on c in search needs
 
-read-whole-requires : tie.Need-read-whole-requires Inv-loop μ-loop
-read-whole-requires c κs = search needs
+read-unsigned-requires : tie.Need-read-unsigned-requires Inv-loop μ-loop
+read-unsigned-requires c κs = search needs
 
 enum-known-n : tie.Need-enum-known-n Inv-loop μ-loop
 enum-known-n c = search needs
@@ -77,10 +87,11 @@ enum-told c = search needs
 
 returns-2 : tie.Need-returns-2 Inv-loop μ-loop
 returns-2 c =
-    let e = c .before .before .before .before in
-    let l = e .before .before .before .before .loop in
-    wrong-field (line (e .before)) (l .values) (l .i) (l .at) (l .inv .0) _ (size-is (e .before)) (goes-on e) (omega arith)
-    (wrong-read _ _ (sym (c .before .before .read-whole .ensures) ∙ c .enum-told .given .1))
+    let r = c .before .before in
+    let e = r .before .before in
+    let f = e .before in
+    wrong-field (line f) _ _ (at f) (so-far f) _ (size-is f) (goes-on e) (omega arith)
+    (wrong-read _ _ (sym (r .read-unsigned .ensures) ∙ c .enum-told .given .1))
 
 mul-values : tie.Need-mul-values Inv-loop μ-loop
 mul-values c = search needs
@@ -91,7 +102,7 @@ element-write-values c = search needs
 add-at : tie.Need-add-at Inv-loop μ-loop
 add-at c =
     let e = c .before .before .before .before .before in
-    omega (arith, goes-on e, e .before .before .before .before .before .before .good .0)
+    omega (arith, goes-on e, loop (e .before) .before .before .good .0)
 
 add-i : tie.Need-add-i Inv-loop μ-loop
 add-i c = search needs
@@ -101,16 +112,21 @@ loop-less c = search needs
 
 loop-again : tie.Need-loop-again Inv-loop μ-loop
 loop-again c =
-    let e = c .before .before .before .before .before in
-    let l = e .before .before .before .before .loop in
-    let w = right-read _ _ (sym (c .before .before .before .read-whole .ensures) ∙ c .before .n .given .1) in
-    (read-more (line (e .before)) (l .values) (l .i) (l .at) (l .inv .0) _ (size-is (e .before)) (goes-on e) _ (omega (arith, l .inv .2)) (w .0) (w .1), omega arith, simp length-set (l .inv .2))
+    let r = c .before .before .before in
+    let e = r .before .before in
+    let f = e .before in
+    let long = loop f .loop .inv .2 in
+    let w = right-read _ _ (sym (r .read-unsigned .ensures) ∙ c .before .n .given .1) in (
+      read-more (line f) _ _ (at f) (so-far f) _ (size-is f) (goes-on e) _ (omega (arith, long)) (w .0) (w .1),
+      omega arith,
+      simp length-set long,
+    )
 
 returns-3 : tie.Need-returns-3 Inv-loop μ-loop
 returns-3 c =
-    let i : c .before .loop .i ≡ 9 = omega arith in
-    let l = c .before .loop in
-    subst (λ (n : ℕ). Read (c .before .before .before .args .line .now) n (l .values) (l .at)) i (c .before .loop .inv .0)
+    let h = c .before in
+    let nine : h .loop .i ≡ 9 = omega arith in
+    subst (λ (n : ℕ). Read (h .before .before .args .line .now) n (h .loop .values) (h .loop .at)) nine (h .loop .inv .0)
 
 pub read-nine-spec : {M : Type 1} → statement M
 read-nine-spec =
@@ -125,10 +141,10 @@ read-nine-spec =
     find-requires
     add-end
     returns
-    sub-read-whole
-    part-read-whole-start
-    part-read-whole-end
-    read-whole-requires
+    sub-read-unsigned
+    part-read-unsigned-start
+    part-read-unsigned-end
+    read-unsigned-requires
     enum-known-n
     enum-told
     returns-2
