@@ -1,13 +1,14 @@
 -- The table T keeps its rule: tests that are computed over the whole table, and laws that turn them into the rule at each entry.
-use mathlib.Core.Path.{refl, sym, subst, _∙_}
+use mathlib.Core.Path.{_≡_, refl, sym, ap, subst, _∙_}
 use mathlib.Core.Bool.{Bool, true, _&&_}
 use mathlib.Core.List.{List, [], _∷_}
 use Prim.Native.Nat.{ℕ, zero, suc, _+_, _-_, _≤_, _<_}
 use native.Mathlib.Nat.{add-zero, zero-add, add-suc, suc-add, le-of-suc-le-suc, not-suc-le-zero}
+use native.Mathlib.Omega.{arith}
 use mir.Facts.{and-yes}
 use lib.Dec.{T, leb, eqb, leb→le, eqb→eq}
 use lib.ListN.{length, getD}
-use Rattle.scheme.specs.Table.{TableRule, table}
+use Rattle.scheme.specs.Table.{ShapeRule, TableRule, table}
 
 -- the test f passes at each place of the list, counted from i, and its entry
 abbrev every : (ℕ → ℕ → Bool) → ℕ → List ℕ → Bool
@@ -43,9 +44,22 @@ all-mirrored = tt
 pub table-rule : TableRule table
 unfolding table mirrored
 table-rule = record {
-  long = refl;
-  begins = refl;
-  ends = refl;
-  rises = λ j h. rises table tt j h;
-  mirrors = λ j h. eqb→eq (getD table j 0 + getD table (1024 - j) 0) 65536 (subst (λ (m : ℕ). T (mirrored m (getD table j 0))) (zero-add j) (from mirrored table 0 all-mirrored j h));
+  shape = record { long = refl; begins = refl; ends = refl; rises = λ j h. rises table tt j h };
+  mirrors = λ j h. eqb→eq (getD table j 0 + getD table (1024 - j) 0) 65536
+      (subst (λ (m : ℕ). T (mirrored m (getD table j 0))) (zero-add j) (from mirrored table 0 all-mirrored j h));
 }
+
+-- ---- any table that keeps the rule of a shape
+
+module _ (t : List ℕ) (rule : ShapeRule t) where
+  climbs : (j n : ℕ) → j + n < 1025 → getD t j 0 ≤ getD t (j + n) 0
+  climbs j zero h = subst (λ (m : ℕ). getD t j 0 ≤ getD t m 0) (sym (add-zero j)) (omega arith)
+  climbs j (suc n) h =
+      let one = rule .rises (j + n) (omega arith) in
+      subst (λ (m : ℕ). getD t j 0 ≤ getD t m 0) (sym (add-suc j n)) (omega (arith, climbs j n (omega arith)))
+
+  -- no entry is above the last
+  pub entry-high : (j : ℕ) → j < 1025 → getD t j 0 ≤ 65536
+  entry-high j h =
+      let e : j + (1024 - j) ≡ 1024 = omega arith in
+      subst (λ (m : ℕ). getD t j 0 ≤ m) (ap (λ (m : ℕ). getD t m 0) e ∙ rule .ends) (climbs j (1024 - j) (omega arith))
