@@ -10,12 +10,13 @@ use Rattle.packing.proofs.instrument_of.Tie as tie
 new-requires : tie.Need-new-requires
 new-requires c κs = search needs
 
-new-2-requires : tie.Need-new-2-requires
-new-2-requires c κs = search needs
+new-requires-2 : tie.Need-new-requires-2
+new-requires-2 c κs = search needs
 
 returns : tie.Need-returns
 returns c =
-    ap₂ (λ (g : Grid) (k : Settings). record { grid = g; settings = k } : Instrument) (c .before .new .ensures) (c .new-2 .ensures)
+    let made : Grid → Settings → Instrument = λ g k. record { grid = g; settings = k } in
+    ap₂ made (c .before .new .ensures) (c .new2 .ensures)
 
 pub instrument-of-spec : {M : Type 1} → statement M
-instrument-of-spec = tie.close (tie.spec new-requires new-2-requires returns)
+instrument-of-spec = tie.close (tie.spec new-requires new-requires-2 returns)
