@@ -8,9 +8,8 @@ use lib.IntN.{ℤ, pos, natAbs}
 use lib.ListN.{length}
 use Rattle.scheme.specs.Lists.{point}
 use Rattle.scheme.specs.Instruments.{ceiling}
-use Rattle.scheme.specs.Table.{table}
 use Rattle.scheme.specs.Pluck.{distanceFrom, pluckValue}
-use Rattle.checks.specs.Runs.{inRun}
+use Rattle.kinds.specs.Runs.{inRun}
 use Rattle.pluck.specs.declared.shape.Shape.{Shape}
 
 -- what the refusals let pass: 8 the height, 10 the half width
@@ -20,8 +19,10 @@ pub record Shaped (s : Shape) : Type 0 where
   pub low : natAbs (s .height) ≤ ceiling
 
 -- "A moving point at distance d ≤ w gets ..; the others get 0": on a line, whose moving points are one run (`shape-is`)
-unfoldable pub shapeAt : Shape → ℕ → ℤ
-shapeAt s i = cond (inRun (s .run) i && leb (distanceFrom (s .centre) i) (s .width)) (pluckValue table (s .width) (s .height) (distanceFrom (s .centre) i)) (pos 0)
+unfoldable pub shapeAt : (table : List ℕ) → Shape → ℕ → ℤ
+shapeAt table s i =
+    let d = distanceFrom (s .centre) i in
+    cond (inRun (s .run) i && leb d (s .width)) (pluckValue table (s .width) (s .height) d) (pos 0)
 
 -- the first k of n points are f's
 pub record Filled (n : ℕ) (f : ℕ → ℤ) (xs : List ℤ) (k : ℕ) : Type 0 where

@@ -1,30 +1,59 @@
 // The call: its checks, and both levels.
 ghost use mathlib.Core.Path.{_≡_};
+ghost use mathlib.Core.Bool.{_||_};
+ghost use lib.ListN.{length};
 ghost use Rattle.scheme.specs.declared.Refusal.the-variants.{Nothing};
 ghost use Rattle.scheme.specs.Refusals.{pluckRefusal};
-ghost use Rattle.scheme.specs.Table.{table};
+ghost use Rattle.scheme.specs.Table.{ShapeRule};
 ghost use Rattle.scheme.specs.Pluck.{pluckLevel};
 ghost use Rattle.scheme.specs.Calls.{pluckLeft};
 ghost use Rattle.scheme.specs.Calls as Calls;
+ghost use Rattle.checks.specs.Refused.{notLong};
 use crate::shape::Shape;
 use crate::shape::fill;
+use crate::table::TABLE;
 use checks::is_nothing;
-use checks::movable_run;
 use checks::pluck_refusal;
+use checks::wrong_length;
+use kinds::movable_run;
 use scheme::Grid;
 use scheme::Refusal;
 
-// A pluck that nothing refuses.
+// 6, of two levels of so many points.
+fn wrong_levels(g: Grid, older: usize, newer: usize) -> bool
+    ensures { λ r. ⌜ r ≡ (notLong g older || notLong g newer) ⌝ }
+{
+    if wrong_length(g, older) { true } else { wrong_length(g, newer) }
+}
+
+// What refuses a pluck of two levels of so many points.
+fn refusal_of(
+    g: Grid,
+    older: usize,
+    newer: usize,
+    centre: usize,
+    half_width: usize,
+    height: i64,
+) -> Refusal
+    ensures { λ r. ⌜ r ≡ pluckRefusal g older newer centre «half_width» height ⌝ }
+{
+    let wrong = wrong_levels(g, older, newer);
+    pluck_refusal(g, wrong, centre, half_width, height)
+}
+
+// A pluck that nothing refuses, by any table that keeps the rule of a shape.
 fn carry_out(
     g: Grid,
+    table: &[u32],
     older: &mut [i64],
     newer: &mut [i64],
     centre: usize,
     half_width: usize,
     height: i64,
 )
-    requires { ⌜ pluckRefusal g (now older) (now newer) centre «half_width» height ≡ Nothing ⌝ }
-    ensures { λ _. ⌜ (now (older .exit) ≡ pluckLevel table g centre «half_width» height) × (now (newer .exit) ≡ pluckLevel table g centre «half_width» height) ⌝ }
+    requires { ⌜ ShapeRule (now table) × (pluckRefusal g (length (now older)) (length (now newer)) centre «half_width» height ≡ Nothing) ⌝ }
+    ensures { λ _. ⌜ (now (older .exit) ≡ pluckLevel (now (table .entry)) g centre «half_width» height)
+        × (now (newer .exit) ≡ pluckLevel (now (table .entry)) g centre «half_width» height) ⌝ }
 {
     let run = movable_run(g, 0);
     let shape = Shape {
@@ -33,8 +62,8 @@ fn carry_out(
         width: half_width,
         height,
     };
-    fill(shape, older);
-    fill(shape, newer);
+    fill(shape, table, older);
+    fill(shape, table, newer);
 }
 
 // Both levels overwritten with the shape of the pluck; or what refuses it, and both as they were.
@@ -47,12 +76,14 @@ pub fn pluck(
     half_width: usize,
     height: i64,
 ) -> Refusal
-    ensures { λ r. ⌜ pluckLeft r (now (older .exit)) (now (newer .exit)) ≡ Calls.pluck g (now (older .entry)) (now (newer .entry)) centre «half_width» height ⌝ }
+    ensures { λ r. ⌜ pluckLeft r (now (older .exit)) (now (newer .exit))
+        ≡ Calls.pluck g (now (older .entry)) (now (newer .entry)) centre «half_width» height ⌝ }
 {
-    let refusal = pluck_refusal(g, older.len(), newer.len(), centre, half_width, height);
+    let refusal = refusal_of(g, older.len(), newer.len(), centre, half_width, height);
     if !is_nothing(refusal) {
         return refusal;
     }
-    carry_out(g, older, newer, centre, half_width, height);
+    let table = TABLE;
+    carry_out(g, &table, older, newer, centre, half_width, height);
     Refusal::Nothing
 }

@@ -1,11 +1,7 @@
 // The table T of a pluck.
-ghost use mathlib.Core.Path.{_≡_};
-ghost use Prim.Native.Nat.{_<_};
-ghost use lib.ListN.{getD};
-ghost use Rattle.scheme.specs.Table.{table};
 
 // Entry j is the nearest whole number to 32768(1−cos(πj/1024)).
-const TABLE: [u64; 1025] = [
+pub(crate) const TABLE: [u32; 1025] = [
     0,
     0,
     1,
@@ -1032,10 +1028,3 @@ const TABLE: [u64; 1025] = [
     65536,
     65536,
 ];
-
-pub fn entry(j: usize) -> u64
-    requires { ⌜ j < 1025 ⌝ }
-    ensures { λ r. ⌜ r ≡ getD table j 0 ⌝ }
-{
-    TABLE[j]
-}

@@ -1,3 +1,4 @@
+-- `carry_out` meets its contract: the run of the line's moving points, and one shape for both levels.
 use mathlib.Core.Path.{_≡_, sym, ap, _∙_, subst}
 use borrow.Author.Needs.{needs}
 use lib.ListN.{length}
@@ -14,25 +15,38 @@ use Rattle.pluck.proofs.call.carry_out.Tie as tie
 -- the shape as the code makes it
 module _ (c : tie.After-movable-run) where
   abbrev s : tie.Start
-  s = c .before
+  s = c .before .before
 
   abbrev made : Shape
-  made = record { run = c .movable-run .result; centre = s .args .centre; width = s .args .half-width; height = toZ w64 (ofZ w64 (s .args .height)) }
+  made = record {
+    run = c .movable-run .result;
+    centre = s .args .centre;
+    width = s .args .half-width;
+    height = toZ w64 (ofZ w64 (s .args .height));
+  }
 
   made-is : made ≡ shapeOf (s .args .g) (s .args .centre) (s .args .half-width) (s .args .height)
-  made-is = λ j. record { run = c .movable-run .ensures j; centre = s .args .centre; width = s .args .half-width; height = back (s .args .height) (s .fits .height .sfits) j }
+  made-is = λ j. record {
+    run = c .movable-run .ensures j;
+    centre = s .args .centre;
+    width = s .args .half-width;
+    height = back (s .args .height) (s .fits .height .sfits) j;
+  }
 
   made-shaped : Shaped made
-  made-shaped = subst Shaped (sym made-is) (shaped (s .args .g) (s .args .older .now) (s .args .newer .now) (s .args .centre) (s .args .half-width) (s .args .height) (s .pre))
+  made-shaped =
+      let a = s .args in
+      subst Shaped (sym made-is)
+      (shaped (a .g) (length (a .older .now)) (length (a .newer .now)) (a .centre) (a .half-width) (a .height) (s .pre .1))
 
 movable-run-requires : tie.Need-movable-run-requires
 movable-run-requires c κs = search needs
 
 fill-requires : tie.Need-fill-requires
-fill-requires c κs = made-shaped (c .before)
+fill-requires c κs = (made-shaped (c .before), s (c .before) .pre .0)
 
 fill-requires-2 : tie.Need-fill-requires-2
-fill-requires-2 c κs = made-shaped (c .before .before .before .before)
+fill-requires-2 c κs = let m = c .before .before .before .before in (made-shaped m, s m .pre .0)
 
 same-length : tie.Need-same-length
 same-length c = search needs
@@ -42,12 +56,15 @@ same-length-2 c = search needs
 
 returns : tie.Need-returns
 returns c =
-    let m = c .before .before .before .before .before .before in
-    let a = s m .args in (
-      c .before .before .before .before .fill .ensures ∙ ap (λ (x : Shape). tabulate (length (a .older .now)) (shapeAt x)) (made-is m) ∙
-          older-is (a .g) (a .older .now) (a .newer .now) (a .centre) (a .half-width) (a .height) (s m .pre),
-      c .before .fill2 .ensures ∙ ap (λ (x : Shape). tabulate (length (a .newer .now)) (shapeAt x)) (made-is m) ∙
-          newer-is (a .g) (a .older .now) (a .newer .now) (a .centre) (a .half-width) (a .height) (s m .pre),
+    let f = c .before .before .before .before in
+    let m = f .before .before in
+    let a = s m .args in
+    let o = length (a .older .now) in
+    let n = length (a .newer .now) in (
+      f .fill .ensures ∙ ap (λ (x : Shape). tabulate o (shapeAt (a .table .now) x)) (made-is m) ∙
+          older-is (a .g) o n (a .centre) (a .half-width) (a .height) (s m .pre .1) (a .table .now),
+      c .before .fill2 .ensures ∙ ap (λ (x : Shape). tabulate n (shapeAt (a .table .now) x)) (made-is m) ∙
+          newer-is (a .g) o n (a .centre) (a .half-width) (a .height) (s m .pre .1) (a .table .now),
     )
 
 pub carry-out-spec : {M : Type 1} → statement M

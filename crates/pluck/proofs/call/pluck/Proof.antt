@@ -1,3 +1,4 @@
+-- `pluck` meets its contract: the constant is the definition's table, entry by entry.
 use mathlib.Core.Path.{_≡_, sym, ap, ap₂, _∙_}
 use mathlib.Core.List.{List}
 use borrow.Author.Needs.{needs}
@@ -13,52 +14,58 @@ use Rattle.scheme.specs.Table.{table}
 use Rattle.scheme.specs.Pluck.{pluckLevel}
 use Rattle.scheme.specs.Refusals.{pluckRefusal}
 use Rattle.scheme.specs.Calls.{accepted, overwritten, pluckLeft}
+use Rattle.scheme.proofs.Laws.Table.{table-rule}
 use Rattle.scheme.proofs.Laws.Refusals.{accepted-is}
 use Rattle.scheme.proofs.Laws.Calls.{pluck-done, pluck-refused}
-use Rattle.checks.specs.Refused.{lentPluckRefusal}
-use Rattle.checks.proofs.RefusalLaws.{pluck-refusal-is}
 use Rattle.pluck.proofs.call.pluck.Statement.{statement}
 use Rattle.pluck.proofs.call.pluck.Tie as tie
 
--- the height as it was passed on
-height-is : (s : tie.Start) → toZ w64 (ofZ w64 (s .args .height)) ≡ s .args .height
-height-is s = back (s .args .height) (s .fits .height .sfits)
-
--- what was answered is what refuses the pluck
-module _ (c : tie.After-pluck-refusal) where
+module _ (c : tie.After-refusal-of) where
   abbrev s : tie.Start
   s = c .before
 
-  abbrev refuses : Refusal
-  refuses = pluckRefusal (s .args .g) (s .args .older .now) (s .args .newer .now) (s .args .centre) (s .args .half-width) (s .args .height)
+  -- the height as it was passed on
+  height-is : toZ w64 (ofZ w64 (s .args .height)) ≡ s .args .height
+  height-is = back (s .args .height) (s .fits .height .sfits)
 
-  answer-is : c .pluck-refusal .result ≡ refuses
-  answer-is =
-      c .pluck-refusal .ensures ∙
-      ap (λ (z : ℤ). lentPluckRefusal (s .args .g) (length (s .args .older .now)) (length (s .args .newer .now)) (s .args .centre) (s .args .half-width) z) (height-is s) ∙
-      sym (pluck-refusal-is (s .args .g) (s .args .older .now) (s .args .newer .now) (s .args .centre) (s .args .half-width) (s .args .height))
+  -- what refuses the pluck, of a height
+  abbrev refuses : ℤ → Refusal
+  refuses z = let a = s .args in pluckRefusal (a .g) (length (a .older .now)) (length (a .newer .now)) (a .centre) (a .half-width) z
+
+  -- what was answered
+  answer-is : c .refusal-of .result ≡ refuses (s .args .height)
+  answer-is = c .refusal-of .ensures ∙ ap refuses height-is
 
 -- nothing does
-nothing-is : (c : tie.Else1) → refuses (c .before .before) ≡ Nothing
-nothing-is c = accepted-is _ (ap accepted (sym (answer-is (c .before .before))) ∙ sym (c .before .is-nothing .ensures) ∙ not-false _ (c .if1 .left))
+nothing-is : (c : tie.Else1) → let m = c .before .before in refuses m (s m .args .height) ≡ Nothing
+nothing-is c =
+    let m = c .before .before in
+    accepted-is _ (ap accepted (sym (answer-is m)) ∙ sym (c .before .is-nothing .ensures) ∙ not-false _ (c .if1 .left))
 
-pluck-refusal-requires : tie.Need-pluck-refusal-requires
-pluck-refusal-requires c κs = search needs
+refusal-of-requires : tie.Need-refusal-of-requires
+refusal-of-requires c κs = search needs
 
 is-nothing-requires : tie.Need-is-nothing-requires
 is-nothing-requires c κs = search needs
 
 returns : tie.Need-returns
 returns c =
-    let r = answer-is (c .before .before) in
-    let a = c .before .before .before .args in
+    let m = c .before .before in
+    let r = answer-is m in
+    let a = s m .args in
     ap (λ (q : Refusal). pluckLeft q (a .older .now) (a .newer .now)) r ∙
-    sym (pluck-refused (a .g) (a .older .now) (a .newer .now) (a .centre) (a .half-width) (a .height) (ap accepted (sym r) ∙ sym (c .before .is-nothing .ensures) ∙ not-true _ (c .if1 .taken)))
+    sym (pluck-refused (a .g) (a .older .now) (a .newer .now) (a .centre) (a .half-width) (a .height)
+    (ap accepted (sym r) ∙ sym (c .before .is-nothing .ensures) ∙ not-true _ (c .if1 .taken)))
+
+slice-aggregate-carry-out : tie.Need-slice-aggregate-carry-out
+slice-aggregate-carry-out c = search needs
 
 carry-out-requires : tie.Need-carry-out-requires
+unfolding table
 carry-out-requires c κs =
-    let a = c .before .before .before .before .before .args in
-    ap (λ (z : ℤ). pluckRefusal (a .g) (a .older .now) (a .newer .now) (a .centre) (a .half-width) z) (height-is (c .before .before .before .before .before)) ∙ nothing-is (c .before .before)
+    let e = c .before .before .before in
+    let m = e .before .before in
+    (table-rule .shape, ap (refuses m) (height-is m) ∙ nothing-is e)
 
 same-length : tie.Need-same-length
 same-length c = search needs
@@ -67,21 +74,24 @@ same-length-2 : tie.Need-same-length-2
 same-length-2 c = search needs
 
 returns-2 : tie.Need-returns-2
+unfolding table
 returns-2 c =
-    let t = c .before .before .before .before .before in
-    let a = t .before .before .before .args in
     let done = c .before .before .carry-out in
-    coe 0 1 (j. pluckLeft Nothing (done .last .1 .0) (done .last .1 .1 .0) ≡ overwritten (pluckLevel table (a .g) (a .centre) (a .half-width) (height-is (t .before .before .before) j)))
-    (ap₂ (λ (x y : List ℤ). pluckLeft Nothing x y) (done .ensures .0) (done .ensures .1)) ∙
-    sym (pluck-done (a .g) (a .older .now) (a .newer .now) (a .centre) (a .half-width) (a .height) (nothing-is t))
+    let e = c .before .before .before .before .before .before in
+    let m = e .before .before in
+    let a = s m .args in
+    let level : ℤ → List ℤ = λ z. pluckLevel table (a .g) (a .centre) (a .half-width) z in
+    ap₂ (λ (x y : List ℤ). pluckLeft Nothing x y) (done .ensures .0 ∙ ap level (height-is m)) (done .ensures .1 ∙ ap level (height-is m)) ∙
+    sym (pluck-done (a .g) (a .older .now) (a .newer .now) (a .centre) (a .half-width) (a .height) (nothing-is e))
 
 pub pluck-spec : {M : Type 1} → statement M
 pluck-spec =
     tie.close
     (tie.spec
-    pluck-refusal-requires
+    refusal-of-requires
     is-nothing-requires
     returns
+    slice-aggregate-carry-out
     carry-out-requires
     same-length
     same-length-2

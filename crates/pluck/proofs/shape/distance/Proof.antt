@@ -2,8 +2,8 @@ use mathlib.Core.Path.{_≡_, sym, _∙_}
 use Prim.Native.Nat.{_-_}
 use native.Mathlib.Omega.{arith}
 use borrow.Author.Needs.{needs}
-use Rattle.checks.specs.Runs.{apart}
-use Rattle.checks.proofs.RoundLaws.{gap}
+use Rattle.kinds.specs.Runs.{apart}
+use Rattle.kinds.proofs.RoundLaws.{gap}
 use Rattle.pluck.proofs.shape.distance.Statement.{statement}
 use Rattle.pluck.proofs.shape.distance.Tie as tie
 

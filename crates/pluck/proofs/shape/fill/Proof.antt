@@ -1,3 +1,4 @@
+-- `fill` meets its contract: the points passed have the shape.
 use mathlib.Core.Path.{refl, _∙_}
 use Prim.Native.Nat.{_-_, _≤_}
 use native.Mathlib.Omega.{arith}
@@ -9,21 +10,20 @@ use Rattle.pluck.proofs.ShapeLaws.{filled-none, filled-more, filled-all
 use Rattle.pluck.proofs.shape.fill.Statement.{statement}
 use Rattle.pluck.proofs.shape.fill.Tie as tie
 
--- the points passed have the shape
 abbrev Inv-loop : tie.InvT-loop
-Inv-loop shape level₀ k₀ level k = (k ≤ length level₀) × Filled (length level₀) (shapeAt shape) level k
+Inv-loop shape table level₀ k₀ level k = Filled (length level₀) (shapeAt table shape) level k
 
 abbrev μ-loop : tie.MeasureT-loop
-μ-loop shape level₀ k₀ level k = length level₀ - k
+μ-loop shape table level₀ k₀ level k = length level₀ - k
 
 loop-holds : tie.Need-loop-holds Inv-loop μ-loop
-loop-holds c = (search needs, filled-none _ _ refl)
+loop-holds c = filled-none _ _ refl
 
 value-at-requires : tie.Need-value-at-requires Inv-loop μ-loop
 value-at-requires c κs = search needs
 
-mul-t4 : tie.Need-mul-t4 Inv-loop μ-loop
-mul-t4 c = search needs
+mul-t5 : tie.Need-mul-t5 Inv-loop μ-loop
+mul-t5 c = search needs
 
 slice-set-from-level : tie.Need-slice-set-from-level Inv-loop μ-loop
 slice-set-from-level c = search needs
@@ -36,14 +36,13 @@ loop-less c = search needs
 
 loop-again : tie.Need-loop-again Inv-loop μ-loop
 loop-again c =
-    let l = c .before .before .loop in
-    (search needs, filled-more _ _ (omega arith) (l .inv .1) (back (c .value-at .result) (c .value-at .ok) ∙ c .value-at .ensures))
+    filled-more _ _ (omega arith) (c .before .before .loop .inv) (back (c .value-at .result) (c .value-at .ok) ∙ c .value-at .ensures)
 
 same-length : tie.Need-same-length Inv-loop μ-loop
 same-length c = search needs
 
 returns : tie.Need-returns Inv-loop μ-loop
-returns c = filled-all _ _ (omega arith) (c .before .loop .inv .1)
+returns c = filled-all _ _ (omega arith) (c .before .loop .inv)
 
 pub fill-spec : {M : Type 1} → statement M
 fill-spec =
@@ -53,7 +52,7 @@ fill-spec =
     μ-loop
     loop-holds
     value-at-requires
-    mul-t4
+    mul-t5
     slice-set-from-level
     add-point
     loop-less
