@@ -12,7 +12,7 @@ use Rattle.scheme.specs.Calls.{play, block, pluck, reading}
 use Rattle.scheme.specs.Energy.{weight, squares, later, pairSum, laplacianSum, energy}
 use Rattle.scheme.specs.Book.{unroundedAt, unroundedStep, unroundedSteps, goesOn, bookBlock, bookPluck, leaves, bookCall, calls}
 use Rattle.scheme.specs.Examples.{A, B, C, D, E, F, G, H, I, J, ExamplesHold}
-use Rattle.scheme.specs.FurtherExamples.{freeEndTwice, halfFree, barWithLoss, freeWithHit, fixedRing, roundRing, membraneStep, numbers, kinds, lineSizes, membraneSizes, roundSizes, coefficients, stability, stiffness, lengths, hits, forces, pickUps, highPoints, fixedPoints, pluckKinds, pluckLengths, pluckCentres, pluckHeights, widths, readingRefusals, lowestFirst, samples, readings, plucked, pluckedDown, pluckedFree, pluckedBoth, ringListing, endedBlock, atOnce, blockTurnedDown, emptyBlock, energies, bookGoesOn, bookStartsAnew, pluckedBook, pluckThenStep, distances, FurtherHold}
+use Rattle.scheme.specs.FurtherExamples.{freeEndTwice, halfFree, barWithLoss, freeWithHit, fixedRing, roundRing, membraneStep, numbers, kinds, lineSizes, membraneSizes, roundSizes, coefficients, stability, stiffness, lengths, hits, forces, pickUps, highPoints, fixedPoints, pluckKinds, pluckLengths, pluckCentres, pluckHeights, widths, readingRefusals, lowestFirst, samples, readings, plucked, pluckedDown, pluckedFree, pluckedBoth, ringListing, endedBlock, atOnce, blockTurnedDown, emptyBlock, energies, bookGoesOn, bookStartsAnew, pluckedBook, pluckThenStep, outcomes, distances, halfOff, FurtherHold}
 
 pub examples-hold : ExamplesHold
 unfolding tabulate only kindOf countBelow sumOver sizeIn stableIn roundEdge fixedIn moving freeIn beside neighbours laplacian innerLaplacian numerator roundAway nextAt nextLevel instrumentRefusal
@@ -73,4 +73,6 @@ further-hold bookGoesOn = refl
 further-hold bookStartsAnew = refl
 further-hold pluckedBook = refl
 further-hold pluckThenStep = refl
+further-hold outcomes = refl
 further-hold distances = (refl, refl)
+further-hold halfOff = record { all-points = refl; near = record { le = tt } }

@@ -19,8 +19,8 @@ use Rattle.scheme.specs.Pluck.{pluckLevel}
 use Rattle.scheme.specs.Refusals.{number, wrongLength, instrumentRefusal, blockRefusal, pluckRefusal, readingRefusal}
 use Rattle.scheme.specs.Calls.{block, pluck, reading}
 use Rattle.scheme.specs.Energy.{energy}
-use Rattle.scheme.specs.Book.{stepOf, Call, blockCall, pluckCall, State, start, calls}
-use Rattle.scheme.specs.Claims.{distance, bound}
+use Rattle.scheme.specs.Book.{stepOf, Call, blockCall, pluckCall, blockOutcome, pluckOutcome, AfterCalls, State, start, calls}
+use Rattle.scheme.specs.Claims.{distance, bound, Near}
 use Rattle.scheme.specs.Examples.{grid, instrument, level, minus, next, middle3}
 
 -- the numbers of refusals
@@ -82,8 +82,24 @@ plucks = pluckCall (grid 1 4 1) 2 2 (pos 9)
 abbrev pluckTurnedDown : Call
 pluckTurnedDown = pluckCall (grid 1 4 1) 0 2 (pos 9)
 
+abbrev fromHere : List Call → AfterCalls
+fromHere ks = calls ks (start (pos 0 ∷ pos 1 ∷ minus 2 ∷ pos 0 ∷ []) (level (0 ∷ 3 ∷ 4 ∷ 0 ∷ [])))
+
 abbrev after : List Call → State
-after ks = calls ks (start (pos 0 ∷ pos 1 ∷ minus 2 ∷ pos 0 ∷ []) (level (0 ∷ 3 ∷ 4 ∷ 0 ∷ []))) .state
+after ks = fromHere ks .state
+
+-- one step of a free string of 20 points after which every point lies half a unit from the unrounded scheme
+abbrev halves : Instrument
+halves = instrument 3 20 1 16384 0 0
+
+abbrev still20 : List ℤ
+still20 = level (0 ∷ 0 ∷ 0 ∷ 0 ∷ 0 ∷ 0 ∷ 0 ∷ 0 ∷ 0 ∷ 0 ∷ 0 ∷ 0 ∷ 0 ∷ 0 ∷ 0 ∷ 0 ∷ 0 ∷ 0 ∷ 0 ∷ 0 ∷ [])
+
+abbrev zigzag20 : List ℤ
+zigzag20 = level (0 ∷ 1 ∷ 0 ∷ 1 ∷ 0 ∷ 1 ∷ 0 ∷ 1 ∷ 0 ∷ 1 ∷ 0 ∷ 1 ∷ 0 ∷ 1 ∷ 0 ∷ 1 ∷ 0 ∷ 1 ∷ 0 ∷ 1 ∷ [])
+
+abbrev afterHalves : State
+afterHalves = calls (blockCall halves still20 (level (0 ∷ [])) 0 Absent ∷ []) (start still20 zigzag20) .state
 
 pub data Further : Type 0 where
   -- one step
@@ -95,7 +111,7 @@ pub data Further : Type 0 where
   -- samples, readings, plucks, blocks
   samples readings plucked pluckedDown pluckedFree pluckedBoth ringListing endedBlock atOnce blockTurnedDown emptyBlock : Further
   -- energy, distance and book
-  energies bookGoesOn bookStartsAnew pluckedBook pluckThenStep distances : Further
+  energies bookGoesOn bookStartsAnew pluckedBook pluckThenStep outcomes distances halfOff : Further
 
 abbrev pub shows : Further → Type 0
 -- "there newer "0 4 0" over zeros must give "8 0 8""
@@ -245,10 +261,17 @@ shows pluckThenStep = after (twoSteps ∷ plucks ∷ oneStep ∷ []) ≡ record 
   newer = level (0 ∷ 4 ∷ 7 ∷ 0 ∷ []);
   book = record { n = 1; older = level (0 ∷ 262164 ∷ 589869 ∷ 0 ∷ []); newer = level (0 ∷ 272164 ∷ 449869 ∷ 0 ∷ []); last = stepOf (voice 5) };
 }
+shows outcomes = fromHere (twoSteps ∷ refused ∷ plucks ∷ pluckTurnedDown ∷ []) .outcomes ≡
+    blockOutcome (record { steps = 2; refusal = Nothing }) rest (level (0 ∷ 0 ∷ [])) ∷
+    blockOutcome (record { steps = 0; refusal = PickUp }) nines (level (0 ∷ 0 ∷ [])) ∷
+    pluckOutcome Nothing ∷
+    pluckOutcome NotMoving ∷ []
 -- the distance of `bookGoesOn`, times 2 × (D+s)⁶, and its bound times 32 × (D+s)⁶
 shows distances =
     (distance (voice 5) 3 (level (0 ∷ 22 ∷ 16 ∷ 0 ∷ [])) (level (0 ∷ 5982145047920445 ∷ 4594315337286502 ∷ 0 ∷ [])) ≡ pos 105739055655369542657018668490) ×
     (bound (voice 5) 3 ≡ pos 91312631662562532654555856021632)
+-- 152 × D² of 160 × D²: with 17 for 16 the bound would not hold
+shows halfOff = Near (afterHalves .newer) 1 (afterHalves .book .newer) (afterHalves .book .last)
 
 abbrev pub FurtherHold : Type 0
 FurtherHold = (x : Further) → shows x
