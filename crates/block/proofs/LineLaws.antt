@@ -62,14 +62,16 @@ module _ (s : Stretch) {p : Plan} {older newer : List ℤ} (r : Ready p (s .forc
     line = line;
     first = clamped (s .from) (s .to) order (λ k. 1 ≤ k) 1 (λ h. h) (λ h l. omega arith) (λ h. omega (arith, some));
     last =
-        clamped (s .from) (s .to) order (λ k. k + 1 ≤ g .columns) (n - 1) (λ h. omega (arith, some, within, n-is)) (λ h l. omega (arith, n-is, three))
+        clamped (s .from) (s .to) order (λ k. k + 1 ≤ g .columns) (n - 1) (λ h. omega (arith, some, within, n-is))
+        (λ h l. omega (arith, n-is, three))
         (λ h. omega (arith, n-is, three));
   }
 
   pub inner-moves : Moves g (clamp (s .from) (s .to) 1) (clamp (s .from) (s .to) (n - 1))
   inner-moves = record {
     order = clamp-rises (s .from) (s .to) order 1 (n - 1) (omega (arith, three));
-    each = λ k a b. all .each k (omega (arith, clamp-low (s .from) (s .to) order 1)) (omega (arith, clamp-high (s .from) (s .to) order (n - 1)));
+    each = λ k a b. all .each k (omega (arith, clamp-low (s .from) (s .to) order 1))
+        (omega (arith, clamp-high (s .from) (s .to) order (n - 1)));
   }
 
   -- where L of L counts, all points are inner ones
@@ -78,14 +80,16 @@ module _ (s : Stretch) {p : Plan} {older newer : List ℤ} (r : Ready p (s .forc
   inner-has (inl e) = inl e
   inner-has {ls} (inr l) = go (ℕ-discrete (i .settings .m) 0)
     where
-      go : Dec (i .settings .m ≡ 0) → (i .settings .m ≡ 0) ⊎ LaplaciansOf g newer (clamp (s .from) (s .to) 1) (clamp (s .from) (s .to) (n - 1)) ls
+      go : Dec (i .settings .m ≡ 0) → (i .settings .m ≡ 0) ⊎ LaplaciansOf g newer (clamp (s .from) (s .to) 1)
+          (clamp (s .from) (s .to) (n - 1)) ls
       go (yes e) = inl e
       go (no d) =
           let b = is-bar i ok d in
           let first = bar-inner i ok line (s .from) (all .each (s .from) (omega arith) some) b in
           let last = bar-inner i ok line (s .to - 1) (all .each (s .to - 1) (omega (arith, some)) (omega (arith, some))) b in
           let e : clamp (s .from) (s .to) 1 ≡ s .from = clamp-before (s .from) (s .to) order 1 (first .0) in
-          let f : clamp (s .from) (s .to) (n - 1) ≡ s .to = clamp-after (s .from) (s .to) order (n - 1) (omega (arith, last .1, n-is, some)) in
+          let f : clamp (s .from) (s .to) (n - 1) ≡ s .to =
+          clamp-after (s .from) (s .to) order (n - 1) (omega (arith, last .1, n-is, some)) in
           inr (coe 1 0 (j. LaplaciansOf g newer (e j) (f j) ls) l)
 
   -- ---- one part after the other
@@ -98,7 +102,8 @@ module _ (s : Stretch) {p : Plan} {older newer : List ℤ} (r : Ready p (s .forc
 
   module _ (placed : s .base ≤ s .from) {out₀ out₁ : List ℤ} where
     -- from the first point of the stretch
-    from-first : {b : ℕ} {fine : Bool} → Advanced p s older newer out₀ out₁ (clamp (s .from) (s .to) 0) b fine → Advanced p s older newer out₀ out₁ (s .from) b fine
+    from-first : {b : ℕ} {fine : Bool} → Advanced p s older newer out₀ out₁ (clamp (s .from) (s .to) 0) b fine
+        → Advanced p s older newer out₀ out₁ (s .from) b fine
     from-first {b} {fine} q = subst (λ (a : ℕ). Advanced p s older newer out₀ out₁ a b fine) begin q
 
     pub first-stops : Advanced p s older newer out₀ out₁ (clamp (s .from) (s .to) 0) (clamp (s .from) (s .to) 1) false
@@ -116,9 +121,11 @@ module _ (s : Stretch) {p : Plan} {older newer : List ℤ} (r : Ready p (s .forc
           → Advanced p s older newer out₀ out₂ (s .from) (s .to) false
       inner-stops q = ran-stops (clamp-high (s .from) (s .to) order (n - 1)) (two q)
 
-      pub all-parts : {out₃ : List ℤ} {fine : Bool} → Advanced p s older newer out₁ out₂ (clamp (s .from) (s .to) 1) (clamp (s .from) (s .to) (n - 1)) true
+      pub all-parts : {out₃ : List ℤ} {fine : Bool}
+          → Advanced p s older newer out₁ out₂ (clamp (s .from) (s .to) 1) (clamp (s .from) (s .to) (n - 1)) true
           → Advanced p s older newer out₂ out₃ (clamp (s .from) (s .to) (n - 1)) (clamp (s .from) (s .to) n) fine
           → Advanced p s older newer out₀ out₃ (s .from) (s .to) fine
       all-parts q t =
           ran-ends end
-          (ran-append placed (clamp-low (s .from) (s .to) order (n - 1)) (clamp-rises (s .from) (s .to) order (n - 1) n (omega arith)) (two q) t)
+          (ran-append placed (clamp-low (s .from) (s .to) order (n - 1)) (clamp-rises (s .from) (s .to) order (n - 1) n (omega arith))
+          (two q) t)

@@ -13,7 +13,8 @@ use scheme::Settings;
 // D of the papers, signed.
 pub(crate) const D: i64 = Settings::D as i64;
 
-// An instrument, and its settings as the factors of a step: q, m, D − s kept of the older value, D + s. A numerator within limit is rounded to a value within the ceiling.
+// An instrument, and its settings as the factors of a step: q, m, D − s kept of the older value, D + s.
+// A numerator within limit is rounded to a value within the ceiling.
 pub(crate) struct Plan {
     pub(crate) instrument: Instrument,
     pub(crate) q: i64,

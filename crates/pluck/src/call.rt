@@ -23,7 +23,11 @@ use scheme::Refusal;
 fn wrong_levels(g: Grid, older: usize, newer: usize) -> bool
     ensures { λ r. ⌜ r ≡ (notLong g older || notLong g newer) ⌝ }
 {
-    if wrong_length(g, older) { true } else { wrong_length(g, newer) }
+    if wrong_length(g, older) {
+        true
+    } else {
+        wrong_length(g, newer)
+    }
 }
 
 // What refuses a pluck of two levels of so many points.

@@ -20,7 +20,8 @@ module _ (s : tie.Start) where
   planned : Planned (s .args .plan)
   planned = s .pre .0
 
-  given : Updatable (s .args .plan .instrument .settings) (s .args .u) (s .args .sum) (s .args .count) (s .args .b) (s .args .p) (s .args .f)
+  given : Updatable (s .args .plan .instrument .settings) (s .args .u) (s .args .sum) (s .args .count) (s .args .b) (s .args .p)
+      (s .args .f)
   given = s .pre .1
 
   abbrev l : ℤ
@@ -46,10 +47,12 @@ module _ (s : tie.Start) where
 
   -- q × L and m × B: each at most 4·D·C, by the limits of stability
   pull : Num (red q# *ℤ red l#) (s .args .plan .q *ℤ l) (4 * (D * ceiling))
-  pull = product q# l# (4 * (D * ceiling)) tt tt (subst (λ (q : ℤ). natAbs (q *ℤ l) ≤ 4 * (D * ceiling)) (sym (planned .q-is)) (omega (arith, given .terms .neighbouring)))
+  pull = product q# l# (4 * (D * ceiling)) tt tt (subst (λ (q : ℤ). natAbs (q *ℤ l) ≤ 4 * (D * ceiling)) (sym (planned .q-is))
+      (omega (arith, given .terms .neighbouring)))
 
   bend : Num (red m# *ℤ red b#) (s .args .plan .m *ℤ s .args .b) (4 * (D * ceiling))
-  bend = product m# b# (4 * (D * ceiling)) tt tt (subst (λ (m : ℤ). natAbs (m *ℤ s .args .b) ≤ 4 * (D * ceiling)) (sym (planned .m-is)) (omega (arith, given .terms .neighbouring)))
+  bend = product m# b# (4 * (D * ceiling)) tt tt (subst (λ (m : ℤ). natAbs (m *ℤ s .args .b) ≤ 4 * (D * ceiling)) (sym (planned .m-is))
+      (omega (arith, given .terms .neighbouring)))
 
   abbrev own# : E
   own# = num 131072 ⊠ u#

@@ -29,7 +29,8 @@ module _ (c : tie.In-loop Inv-loop μ-loop) where
   abbrev k : ℕ
   k = c .before .loop .at
 
-  abbrev inv : Filling (lineLaplacian (start .args .xs .now)) (start .args .base) (start .args .out .now) (start .args .from) (start .args .to) (c .before .loop .out) k
+  abbrev inv : Filling (lineLaplacian (start .args .xs .now)) (start .args .base) (start .args .out .now) (start .args .from)
+      (start .args .to) (c .before .loop .out) k
   inv = c .before .loop .inv
 
   first : 1 ≤ k

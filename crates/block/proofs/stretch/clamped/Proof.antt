@@ -22,7 +22,8 @@ returns : tie.Need-returns
 returns c = let a = c .before .before .args in clamp-first (a .from) (a .to) (a .k) (c .before .if1 .a) (larger (c .before)) (c .if2 .taken)
 
 returns-2 : tie.Need-returns-2
-returns-2 c = let a = c .before .before .args in clamp-second (a .from) (a .to) (a .k) (c .before .if1 .a) (larger (c .before)) (c .if2 .left)
+returns-2 c = let a = c .before .before .args in
+    clamp-second (a .from) (a .to) (a .k) (c .before .if1 .a) (larger (c .before)) (c .if2 .left)
 
 pub clamped-spec : {M : Type 1} → statement M
 clamped-spec = tie.close (tie.spec returns returns-2)

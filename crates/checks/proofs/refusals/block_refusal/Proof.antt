@@ -27,17 +27,20 @@ module _ (c : tie.After-input-refusal) where
   input = inputChecks (s .args .i) (levels || s .args .wrong) (s .args .pick) (s .args .h)
 
   abbrev state : List Check
-  state = stateChecks (someBeyond (s .args .older .now) || someBeyond (s .args .newer .now)) (fixedNotZero (s .args .i .grid) (s .args .older .now) || fixedNotZero (s .args .i .grid) (s .args .newer .now))
+  state = stateChecks (someBeyond (s .args .older .now) || someBeyond (s .args .newer .now))
+      (fixedNotZero (s .args .i .grid) (s .args .older .now) || fixedNotZero (s .args .i .grid) (s .args .newer .now))
 
   test-is : inTable (s .args .i .grid) ≡ true → c .before .either2 .result ≡ (levels || s .args .wrong)
   test-is size =
       let e = c .before .before in
       c .before .either2 .ensures ∙ ap (λ (t : Bool). t || s .args .wrong)
-      (e .either .ensures ∙ ap₂ _||_ (e .before .before .wrong-length .ensures ∙ long-is (s .args .i .grid) (length (s .args .older .now)) size)
+      (e .either .ensures ∙ ap₂ _||_ (e .before .before .wrong-length .ensures
+      ∙ long-is (s .args .i .grid) (length (s .args .older .now)) size)
       (e .before .wrong-length2 .ensures ∙ long-is (s .args .i .grid) (length (s .args .newer .now)) size))
 
   input-is : c .input-refusal .result ≡ lowest input
-  input-is = c .input-refusal .ensures ∙ input-same (s .args .i) (c .before .either2 .result) (levels || s .args .wrong) (s .args .pick) (s .args .h) test-is
+  input-is = c .input-refusal .ensures ∙ input-same (s .args .i) (c .before .either2 .result) (levels || s .args .wrong) (s .args .pick)
+      (s .args .h) test-is
 
 wrong-length-requires : tie.Need-wrong-length-requires
 wrong-length-requires c κs = search needs
