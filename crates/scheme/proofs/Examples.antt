@@ -23,8 +23,7 @@ use Rattle.scheme.specs.FurtherExamples.{distances, halfOff, FurtherHold
 
 pub examples-hold : ExamplesHold
 unfolding tabulate only kindOf countBelow sumOver sizeIn stableIn roundEdge fixedIn moving freeIn beside neighbours laplacian innerLaplacian
-
-unfolding numerator roundAway nextAt nextLevel instrumentRefusal
+    numerator roundAway nextAt nextLevel instrumentRefusal
 examples-hold A = refl
 examples-hold B = refl
 examples-hold C = refl
@@ -38,12 +37,9 @@ examples-hold J = (refl, refl)
 
 pub further-hold : FurtherHold
 unfolding sum sumOver tabulate someBelow only kindOf sizeIn stableIn roundEdge fixedIn moving freeIn beside neighbours laplacian
-
-unfolding innerLaplacian numerator roundAway nextAt nextLevel someBeyond sampleOf floatOf table pluckAt pluckLevel fixedNotZero blockRefusal
-
-unfolding pluckRefusal readingRefusal instrumentRefusal play block pluck reading weight squares later pairSum laplacianSum energy
-
-unfolding unroundedAt unroundedStep unroundedSteps goesOn bookBlock bookPluck leaves bookCall calls ofBits div ofInt
+    innerLaplacian numerator roundAway nextAt nextLevel someBeyond sampleOf floatOf table pluckAt pluckLevel fixedNotZero blockRefusal
+    pluckRefusal readingRefusal instrumentRefusal play block pluck reading weight squares later pairSum laplacianSum energy
+    unroundedAt unroundedStep unroundedSteps goesOn bookBlock bookPluck leaves bookCall calls ofBits div ofInt
 further-hold freeEndTwice = refl
 further-hold halfFree = (refl, refl)
 further-hold barWithLoss = refl
