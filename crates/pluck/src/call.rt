@@ -71,7 +71,7 @@ fn carry_out(
 }
 
 // Both levels overwritten with the shape of the pluck; or what refuses it, and both as they were.
-// Ruled out: point 0 of the levels left as it was; the index of the table taken with 1023 for 1024; a refused pluck answered as carried out.
+// Ruled out: point 0 left as it was; the index of the table taken with 1023 for 1024; a refused pluck answered as carried out.
 pub fn pluck(
     g: Grid,
     older: &mut [i64],
