@@ -1,10 +1,11 @@
 -- `put_answer` meets its contract: `input`, or a run.
 use mathlib.Core.Path.{refl, sym, ap, _∙_}
 use native.Mathlib.Omega.{arith}
-use Rattle.line.specs.Lists.{text}
-use Rattle.shell.specs.Answer.{answerTo, answer}
-use Rattle.shell.proofs.AnswerLaws.{steps-low}
 use borrow.Author.Needs.{needs}
+use Rattle.line.specs.Lists.{text}
+use Rattle.shell.specs.Answer.{textFor, answer}
+use Rattle.shell.proofs.TextLaws.{put-same}
+use Rattle.shell.proofs.AnswerLaws.{steps-low}
 use Rattle.shell.proofs.output.put_answer.Statement.{statement}
 use Rattle.shell.proofs.output.put_answer.Tie as tie
 
@@ -35,7 +36,7 @@ returns c =
     let d = c .before .before in
     let e = d .before .before .before in (
       omega (arith, d .put-bytes .ensures .ends),
-      d .put-bytes .ensures .holds ∙ ap answerTo (sym (e .enum-told .given .1) ∙ e .before .before .request .ensures),
+      put-same (ap textFor (sym (e .enum-told .given .1) ∙ e .before .before .request .ensures)) (d .put-bytes .ensures),
     )
 
 same-length-2 : tie.Need-same-length-2
@@ -47,7 +48,7 @@ returns-2 c =
     let d = c .before .before in
     let a = d .before .before .before in (
       d .put-run .ensures .0,
-      d .put-run .ensures .1 ∙ ap answerTo (sym (a .asked .given .1) ∙ a .before .before .request .ensures),
+      put-same (ap textFor (sym (a .asked .given .1) ∙ a .before .before .request .ensures)) (d .put-run .ensures .1),
     )
 
 pub put-answer-spec : {M : Type 1} → statement M

@@ -66,8 +66,9 @@ returns c =
     let p = l .before .before .before .before in
     let end = done-length (p .play .result .steps) (e .number .result) (omega (arith, done-low p)) (refusal-low e) in (
       omega (arith, d .put-done .ensures .ends, l .put-steps .ensures .0, end),
-      put-put (put-same (lines p) (l .put-steps .ensures .1)) (put-same (ap (doneLine (p .play .result .steps)) (e .number .ensures)) (d .put-done .ensures)) .holds
-          ∙ ap playedText (p .play .ensures),
+      put-same (ap playedText (p .play .ensures))
+          (put-put (put-same (lines p) (l .put-steps .ensures .1))
+          (put-same (ap (doneLine (p .play .result .steps)) (e .number .ensures)) (d .put-done .ensures))),
     )
 
 pub put-played-spec : {M : Type 1} → statement M

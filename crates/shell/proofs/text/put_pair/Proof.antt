@@ -7,13 +7,13 @@ use mir.Syntax.{w16}
 use mir.Val.{toZ, ofZ}
 use mir.ValLaws.{toZ-ofZ}
 use Rattle.line.specs.Lists.{text}
-use Rattle.shell.specs.Text.{signed, pairLine}
+use Rattle.shell.specs.Text.{signedDecimal, pairLine}
 use Rattle.shell.proofs.TextLaws.{put-put, put-same, pair-parts}
 use Rattle.shell.proofs.text.put_pair.Statement.{statement}
 use Rattle.shell.proofs.text.put_pair.Tie as tie
 
-value-is : (c : tie.Start) → signed (toZ w16 (ofZ w16 (c .args .value))) ≡ signed (c .args .value)
-value-is c = ap signed (toZ-ofZ w16 (c .args .value) (c .fits .value))
+value-is : (c : tie.Start) → signedDecimal (toZ w16 (ofZ w16 (c .args .value))) ≡ signedDecimal (c .args .value)
+value-is c = ap signedDecimal (toZ-ofZ w16 (c .args .value) (c .fits .value))
 
 -- the texts before each
 abbrev first : tie.After-put-bytes-arg2 → tie.After-put-decimal

@@ -10,7 +10,7 @@ use mir.Syntax.{w16}
 use mir.Val.{toZ, ofZ}
 use mir.ValLaws.{toZ-ofZ}
 use Rattle.line.specs.Lists.{text}
-use Rattle.shell.specs.Text.{decimal, signed}
+use Rattle.shell.specs.Text.{decimal, signedDecimal}
 use Rattle.shell.proofs.TextLaws.{put-put, put-same, signed-below, signed-from-0}
 use Rattle.shell.proofs.text.put_signed.Statement.{statement}
 use Rattle.shell.proofs.text.put_signed.Tie as tie
@@ -19,10 +19,10 @@ use Rattle.shell.proofs.text.put_signed.Tie as tie
 back : (c : tie.Start) → toZ w16 (ofZ w16 (c .args .v)) ≡ c .args .v
 back c = toZ-ofZ w16 (c .args .v) (c .fits .v)
 
-with-minus : (c : tie.Then1) → let v = c .before .before .args .v in signed v ≡ text "-" ++ decimal (natAbs v)
+with-minus : (c : tie.Then1) → let v = c .before .before .args .v in signedDecimal v ≡ text "-" ++ decimal (natAbs v)
 with-minus c = let s = c .before .before in signed-below (s .args .v) (ap (λ (z : ℤ). ltZ z (pos 0)) (sym (back s)) ∙ c .if1 .taken)
 
-without : (c : tie.Else1) → let v = c .before .before .args .v in signed v ≡ decimal (natAbs v)
+without : (c : tie.Else1) → let v = c .before .before .args .v in signedDecimal v ≡ decimal (natAbs v)
 without c = let s = c .before .before in signed-from-0 (s .args .v) (ap (λ (z : ℤ). ltZ z (pos 0)) (sym (back s)) ∙ c .if1 .left)
 
 -- the digits after the minus

@@ -41,7 +41,7 @@ line-length c = let l = c .before .before .before .loop in pair-length (suc (l .
 
 loop-holds : tie.Need-loop-holds Inv-loop μ-loop
 unfolding stepLines
-loop-holds c = (omega arith, refl, omega arith, record { ends = refl; holds = refl })
+loop-holds c = (omega arith, refl, omega arith, record { ends = refl; holds = refl; kept = refl })
 
 add-put-pair : tie.Need-add-put-pair Inv-loop μ-loop
 add-put-pair c = search needs
