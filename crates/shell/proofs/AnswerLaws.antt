@@ -11,7 +11,8 @@ use lib.IntN.{ℤ, pos}
 use lib.ListN.{length, take}
 use lib.Seq.{getD-take}
 use Rattle.scheme.specs.declared.Refusal.{Refusal}
-use Rattle.scheme.specs.declared.Refusal.the-variants.{Nothing, UnknownKind, WrongSize, SheetNumber, Coefficient, Unstable, WrongLength, NotMoving, TooStrong, PickUp, HalfWidth, PointBeyond, FixedNotZero, NextBeyond}
+use Rattle.scheme.specs.declared.Refusal.the-variants.{Nothing, UnknownKind, WrongSize, SheetNumber, Coefficient, Unstable, WrongLength}
+use Rattle.scheme.specs.declared.Refusal.the-variants.{NotMoving, TooStrong, PickUp, HalfWidth, PointBeyond, FixedNotZero, NextBeyond}
 use Rattle.scheme.specs.Lists.{point}
 use Rattle.scheme.specs.Refusals.{number, wrongLength, blockRefusal}
 use Rattle.scheme.specs.Calls.{AfterBlock, accepted}
@@ -22,8 +23,7 @@ use Rattle.line.specs.declared.types.Numbers.{Numbers}
 use Rattle.line.specs.declared.types.Request.{Request}
 use Rattle.line.specs.declared.types.Request.the-variants.{Input, Run}
 use Rattle.line.specs.Lists.{all}
-use Rattle.line.specs.Requests as Requests
-use Rattle.line.specs.Requests.{isUnsigned, isSigned, field, fields, lineRequest, firstLine, requestOf}
+use Rattle.line.specs.Requests.{digitsValue, isUnsigned, isSigned, field, fields, wellFormed, lineRequest, firstLine, requestOf}
 use Rattle.line.proofs.RequestLaws as line
 use Rattle.shell.specs.Play.{gridOf, instrumentOf, hitOf, rest, isTooLarge, fromRest, played}
 use Rattle.shell.specs.Text.{pairLine, stepLines}
@@ -65,7 +65,8 @@ module _ (n : Numbers) (samples : List ℤ) where
       go : (t : Bool) → accepted refusal ≡ t → fromRest n samples .answer .steps ≤ length samples
       go true e =
           let b = stands-behind (instrumentOf n) (n .pick) (hitOf n) level level samples in
-          subst⁻¹ (λ (a : AfterBlock). a .answer .steps ≤ length samples) (block-done (instrumentOf n) level level level samples _ _ (accepted-is _ e))
+          subst⁻¹ (λ (a : AfterBlock). a .answer .steps ≤ length samples)
+          (block-done (instrumentOf n) level level level samples _ _ (accepted-is _ e))
           (⊎-elim (λ u. omega (arith, u .1)) (λ u. omega (arith, u .1)) (b .ends))
       go false e =
           subst⁻¹ (λ (a : AfterBlock). a .answer .steps ≤ length samples) (block-refused (instrumentOf n) level level level samples _ _ e)
@@ -97,15 +98,17 @@ StepsLow (Run n) = n .steps ≤ 8192
 last-of-four : (a b c d : Bool) → (a && (b && (c && d))) ≡ true → d ≡ true
 last-of-four a b c d e = and-both c d (and-both b (c && d) (and-both a (b && (c && d)) e .1) .1) .1
 
-formed-low : (fs : List (List ℕ)) → Requests.wellFormed fs ≡ true → Requests.digitsValue (field fs 7) ≤ 8192
-unfolding Requests.wellFormed
-formed-low fs e = leb-true _ _ (last-of-four (eqb (length fs) 10) (all isUnsigned (take 9 fs)) (isSigned (field fs 9)) (leb (Requests.digitsValue (field fs 7)) 8192) e)
+formed-low : (fs : List (List ℕ)) → wellFormed fs ≡ true → digitsValue (field fs 7) ≤ 8192
+unfolding wellFormed
+formed-low fs e =
+    let low = leb (digitsValue (field fs 7)) 8192 in
+    leb-true _ _ (last-of-four (eqb (length fs) 10) (all isUnsigned (take 9 fs)) (isSigned (field fs 9)) low e)
 
 line-low : (l : List ℕ) → StepsLow (lineRequest l)
 unfolding lineRequest
-line-low l = go (Requests.wellFormed (fields l)) refl
+line-low l = go (wellFormed (fields l)) refl
   where
-    go : (t : Bool) → Requests.wellFormed (fields l) ≡ t → StepsLow (lineRequest l)
+    go : (t : Bool) → wellFormed (fields l) ≡ t → StepsLow (lineRequest l)
     go true e = simp e (formed-low (fields l) e)
     go false e = simp e tt
 

@@ -14,5 +14,8 @@ use Rattle.shell.specs.Answer.{runText, answer}
 use Rattle.shell.specs.Examples.{table, ExamplesHold}
 
 pub examples-hold : ExamplesHold
-unfolding sumOver tabulate someBelow only kindOf sizeIn stableIn roundEdge fixedIn moving freeIn beside neighbours laplacian innerLaplacian numerator roundAway nextAt nextLevel someBeyond sampleOf fixedNotZero blockRefusal play block all before splitOn unsignedTo isSigned signedValue wellFormed lineRequest requestOf played text digitsIn decimal signedDecimal pairLine stepLines doneLine runText answer table
+unfolding sumOver tabulate someBelow only kindOf sizeIn stableIn roundEdge fixedIn moving freeIn beside neighbours laplacian innerLaplacian
+    numerator roundAway nextAt nextLevel someBeyond sampleOf fixedNotZero blockRefusal play block
+    all before splitOn unsignedTo isSigned signedValue wellFormed lineRequest requestOf
+    played text digitsIn decimal signedDecimal pairLine stepLines doneLine runText answer table
 examples-hold = refl

@@ -41,7 +41,8 @@ module _ (i : Instrument) (unknown : within 1 lastKind (i .grid .kind) ≡ false
 
   pub unknown-refused : block i older newer work samples pick h ≡ blockRefused UnknownKind older newer work samples
   unknown-refused =
-      block-refused i older newer work samples pick h (ap accepted first) ∙ ap (λ (r : Refusal). blockRefused r older newer work samples) first
+      block-refused i older newer work samples pick h (ap accepted first)
+      ∙ ap (λ (r : Refusal). blockRefused r older newer work samples) first
 
 pub too-large : (n : Numbers) (samples : List ℤ) → isTooLarge (gridOf n) ≡ true →
     heard (record { steps = 0; refusal = WrongSize }) samples ≡ played n samples

@@ -33,6 +33,9 @@ put-put {a} {b} {at = at} {m} {r} {s} {t} p q =
 pub put-same : {a b : List ℕ} {at r : ℕ} {s t : List ℕ} → s ≡ t → Put a at s r b → Put a at t r b
 put-same {a} {b} {at} {r} e p = subst (λ (l : List ℕ). Put a at l r b) e p
 
+pub put-until : {a b : List ℕ} {at r e : ℕ} {s : List ℕ} → r ≡ e → Put a at s r b → Put a at s e b
+put-until {a} {b} {at} {s = s} e p = subst (λ (k : ℕ). Put a at s k b) e p
+
 -- a text at the start, and the whole buffer
 pub put-over : {a b : List ℕ} {r : ℕ} {s : List ℕ} → Put a 0 s r b → (r ≡ length s) × (b ≡ over s a)
 put-over {a} {b} {r} {s} p =
@@ -74,6 +77,10 @@ ten-powers : (k : ℕ) → 10 ≤ 10 ^ suc k
 ten-powers zero = omega arith
 ten-powers (suc k) = omega (arith, pow-suc 10 (suc k), ten-powers k)
 
+-- without its last digit
+tenth : (n k : ℕ) → n < 10 ^ suc k → n / 10 < 10 ^ k
+tenth n k h = div-lt-iff-lt-mul {k = 10} (omega arith) .1 (subst (λ (p : ℕ). n < p) (pow-suc 10 k) h)
+
 -- the fewest digits are the decimal's
 pub spelled : (k n : ℕ) → Fewest 10 1 n k → digits 10 k n ≡ decimal n
 spelled zero n f = absurd (omega (arith, f .0))
@@ -82,7 +89,7 @@ spelled (suc (suc k)) n f =
     let less : suc (suc k) - 1 ≡ suc k = omega arith in
     let less-still : suc k - 1 ≡ k = omega arith in
     let low : 10 ^ suc k ≤ n = subst (λ (j : ℕ). 10 ^ j ≤ n) less (f .2 (omega arith)) in
-    let rest-high : n / 10 < 10 ^ suc k = div-lt-iff-lt-mul {k = 10} (omega arith) .1 (subst (λ (p : ℕ). n < p) (pow-suc 10 (suc k)) (f .1)) in
+    let rest-high : n / 10 < 10 ^ suc k = tenth n (suc k) (f .1) in
     let rest-low : 10 ^ k ≤ n / 10 = le-div-iff-mul-le {k = 10} (omega arith) .1 (subst (λ (p : ℕ). p ≤ n) (pow-suc 10 k) low) in
     let rest = spelled (suc k) (n / 10) (omega arith, rest-high, λ h. subst⁻¹ (λ (j : ℕ). 10 ^ j ≤ n / 10) less-still rest-low) in
     ap (λ (l : List ℕ). l ++ (glyph (n % 10) ∷ [])) rest
@@ -94,7 +101,7 @@ spelled (suc (suc k)) n f =
 pub decimal-length : (k n : ℕ) → n < 10 ^ suc k → length (decimal n) ≤ suc k
 decimal-length zero n h = omega (arith, ap length (decimal-one n (omega arith)))
 decimal-length (suc k) n h =
-    go (ltb n 10) refl (decimal-length k (n / 10) (div-lt-iff-lt-mul {k = 10} (omega arith) .1 (subst (λ (p : ℕ). n < p) (pow-suc 10 (suc k)) h)))
+    go (ltb n 10) refl (decimal-length k (n / 10) (tenth n (suc k) h))
   where
     go : (t : Bool) → ltb n 10 ≡ t → length (decimal (n / 10)) ≤ suc k → length (decimal n) ≤ suc (suc k)
     go true e l = omega (arith, ap length (decimal-one n (ltb-true n 10 e)))
@@ -119,7 +126,9 @@ signed-length (negsuc n) h = omega (arith, decimal-length 4 (suc n) h)
 
 pub pair-parts : (number : ℕ) (v : ℤ) → length (pairLine number v) ≡ length (decimal number) + 1 + length (signedDecimal v) + 1
 unfolding pairLine text
-pair-parts number v = omega (arith, length-append (decimal number) (32 ∷ (signedDecimal v ++ (10 ∷ []))), length-append (signedDecimal v) (10 ∷ []))
+pair-parts number v =
+    let end = signedDecimal v ++ (10 ∷ []) in
+    omega (arith, length-append (decimal number) (32 ∷ end), length-append (signedDecimal v) (10 ∷ []))
 
 pub pair-length : (number : ℕ) (v : ℤ) → number < 10000 → natAbs v < 100000 → length (pairLine number v) ≤ 12
 pair-length number v h k = omega (arith, pair-parts number v, decimal-length 3 number h, signed-length v k)
@@ -130,4 +139,6 @@ done-parts count refusal = omega arith
 
 pub done-length : (count refusal : ℕ) → count < 10000 → refusal < 100 → length (doneLine count refusal) ≤ 13
 unfolding signedDecimal
-done-length count refusal h k = omega (arith, done-parts count refusal, pair-parts count (pos refusal), decimal-length 3 count h, decimal-length 1 refusal k)
+done-length count refusal h k =
+    let parts = done-parts count refusal in
+    omega (arith, parts, pair-parts count (pos refusal), decimal-length 3 count h, decimal-length 1 refusal k)

@@ -18,6 +18,9 @@ use line::request;
 // Room for every answer: 8192 lines of at most 12 bytes, and a last line.
 const ROOM: usize = 98320;
 
+// The length of `input` and its line feed.
+const INPUT: usize = 6;
+
 fn put_played(out: &mut [u8], n: Numbers, samples: &mut [i16]) -> usize
     requires { ⌜ (room ≤ length (now out)) × (length (now samples) ≤ 8192) ⌝ }
     ensures { λ r. ⌜ (r ≤ room) × Put (now (out .entry)) 0 (playedText (played n (now (samples .entry)))) r (now (out .exit)) ⌝ }
@@ -51,13 +54,16 @@ fn put_answer(out: &mut [u8], bytes: &[u8]) -> usize
 {
     let asked = request(bytes);
     match asked {
-        Request::Input => put_bytes(out, 0, b"input\n"),
+        Request::Input => {
+            put_bytes(out, 0, b"input\n");
+            INPUT
+        }
         Request::Run(n) => put_run(out, n),
     }
 }
 
-// What `ring` prints for the bytes of its standard input, at the start of out, and how many bytes that is; 0 where out has no room for every
-// answer. Ruled out: the lines numbered from 0; the byte after the text cleared.
+// What `ring` prints for the bytes of its standard input, at the start of out, and how many bytes that is; nothing where out has no room
+// for every answer. Ruled out: the lines numbered from 0; the byte after the text cleared.
 pub fn answer(out: &mut [u8], bytes: &[u8]) -> usize
     ensures { λ r. ⌜ Counts r (now (out .exit)) ⌝ }
     ensures { λ r. ⌜ r ≡ length (writtenTo (now (out .entry)) (now (bytes .entry))) ⌝ }
