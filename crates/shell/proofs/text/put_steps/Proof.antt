@@ -46,8 +46,8 @@ module _ (c : tie.After-put-pair-arg2 Inv-loop μ-loop) where
   back = toZ-ofZ w16 sample (record { sfits = c .put-pair-arg2 .given })
 
   -- the line that is written
-  line : pairLine (i + 1) (toZ w16 (ofZ w16 sample)) ≡ pairLine (suc i) sample
-  line = ap (λ (z : ℤ). pairLine (i + 1) z) back ∙ ap (λ (k : ℕ). pairLine k sample) (add-one i)
+  line : (number : ℕ) → number ≡ suc i → pairLine number (toZ w16 (ofZ w16 sample)) ≡ pairLine (suc i) sample
+  line number e = ap (pairLine number) back ∙ ap (λ (k : ℕ). pairLine k sample) e
 
   low : natAbs (toZ w16 (ofZ w16 sample)) < 100000
   low = subst⁻¹ (λ (z : ℤ). natAbs z < 100000) back (small sample (c .put-pair-arg2 .given))
@@ -83,7 +83,7 @@ loop-again c =
       search needs,
       omega (arith, pair-ends _ _ (omega arith) (low s) (p .put-pair .ensures)),
       put-same (ap (λ (k : ℕ). stepLines k (samples s)) (sym (add-one (i s))))
-          (put-put (loop s .loop .inv .3) (put-same (line s) (p .put-pair .ensures))),
+          (put-put (loop s .loop .inv .3) (put-same (line s _ (omega arith)) (p .put-pair .ensures))),
     )
 
 same-length : tie.Need-same-length Inv-loop μ-loop
