@@ -22,9 +22,9 @@ use Rattle.line.specs.declared.types.Numbers.{Numbers}
 use Rattle.shell.specs.Play.{gridOf, instrumentOf, hitOf, isTooLarge, heard, heardOf, fromRest, played}
 
 -- a product compared by a division
-pub above-is : (columns rows : ℕ) → (rows ≡ 0 → ⊥) → ltb (1024 / rows) columns ≡ ltb 1024 (columns * rows)
-above-is columns rows f =
-    let d = div-lt-iff-lt-mul {k = rows} {x = 1024} {y = columns} (pos-of-ne-zero f) in
+pub above-is : (most columns rows : ℕ) → (rows ≡ 0 → ⊥) → ltb (most / rows) columns ≡ ltb most (columns * rows)
+above-is most columns rows f =
+    let d = div-lt-iff-lt-mul {k = rows} {x = most} {y = columns} (pos-of-ne-zero f) in
     same (λ t. lt-ltb _ _ (d .0 (ltb-true _ _ t))) (λ t. lt-ltb _ _ (d .1 (ltb-true _ _ t)))
 
 pub take-replicate : (k n : ℕ) (z : ℤ) → k ≤ n → take k (replicate n z) ≡ replicate k z

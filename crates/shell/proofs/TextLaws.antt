@@ -33,9 +33,6 @@ put-put {a} {b} {at = at} {m} {r} {s} {t} p q =
 pub put-same : {a b : List ℕ} {at r : ℕ} {s t : List ℕ} → s ≡ t → Put a at s r b → Put a at t r b
 put-same {a} {b} {at} {r} e p = subst (λ (l : List ℕ). Put a at l r b) e p
 
-pub put-until : {a b : List ℕ} {at r e : ℕ} {s : List ℕ} → r ≡ e → Put a at s r b → Put a at s e b
-put-until {a} {b} {at} {s = s} e p = subst (λ (k : ℕ). Put a at s k b) e p
-
 -- a text at the start, and the whole buffer
 pub put-over : {a b : List ℕ} {r : ℕ} {s : List ℕ} → Put a 0 s r b → (r ≡ length s) × (b ≡ over s a)
 put-over {a} {b} {r} {s} p =
@@ -130,8 +127,16 @@ pair-parts number v =
     let end = signedDecimal v ++ (10 ∷ []) in
     omega (arith, length-append (decimal number) (32 ∷ end), length-append (signedDecimal v) (10 ∷ []))
 
-pub pair-length : (number : ℕ) (v : ℤ) → number < 10000 → natAbs v < 100000 → length (pairLine number v) ≤ 12
-pair-length number v h k = omega (arith, pair-parts number v, decimal-length 3 number h, signed-length v k)
+-- a line of two numbers of this size
+module _ (number : ℕ) (v : ℤ) (h : number < 10000) (k : natAbs v < 100000) where
+  pair-length : length (pairLine number v) ≤ 12
+  pair-length = omega (arith, pair-parts number v, decimal-length 3 number h, signed-length v k)
+
+  pub pair-fits : (at room : ℕ) → at + 12 ≤ room → at + length (pairLine number v) ≤ room
+  pair-fits at room l = omega (arith, pair-length)
+
+  pub pair-ends : {a b : List ℕ} {at r : ℕ} → Put a at (pairLine number v) r b → r ≤ at + 12
+  pair-ends p = omega (arith, p .ends, pair-length)
 
 pub done-parts : (count refusal : ℕ) → length (doneLine count refusal) ≡ 5 + length (pairLine count (pos refusal))
 unfolding doneLine text

@@ -1,10 +1,14 @@
 -- `put_answer` meets its contract: `input`, or a run.
-use mathlib.Core.Path.{refl, sym, ap, _∙_}
+use mathlib.Core.Path.{_≡_, refl, sym, ap, _∙_, subst}
+use Prim.Native.Nat.{ℕ}
 use native.Mathlib.Omega.{arith}
 use borrow.Author.Needs.{needs}
+use lib.ListN.{take, drop}
+use lib.Seq.{take-take}
 use Rattle.line.specs.Lists.{text}
+use Rattle.shell.specs.Text.{Put}
 use Rattle.shell.specs.Answer.{textFor, answer}
-use Rattle.shell.proofs.TextLaws.{put-same, put-until}
+use Rattle.shell.proofs.TextLaws.{put-same}
 use Rattle.shell.proofs.AnswerLaws.{steps-low}
 use Rattle.shell.proofs.output.put_answer.Statement.{statement}
 use Rattle.shell.proofs.output.put_answer.Tie as tie
@@ -37,8 +41,16 @@ unfolding text answer
 returns c =
     let d = c .before .before in
     let e = d .before .before .before in
+    let s = e .before .before .before .before .before in
+    let after = d .put-bytes .last .0 in
     let put = d .put-bytes .ensures in
-    (omega arith, put-same (ap textFor (sym (e .enum-told .given .1) ∙ e .before .before .request .ensures)) (put-until (put .ends) put))
+    let end : Put (s .args .out .now) 0 (text "input\n") 6 after =
+    record {
+      ends = refl;
+      holds = sym (take-take 6 (d .put-bytes .result) after (omega (arith, put .ends))) ∙ ap (take 6) (put .holds);
+      kept = subst (λ (k : ℕ). drop k after ≡ drop k (s .args .out .now)) (put .ends) (put .kept);
+    } in
+    (omega arith, put-same (ap textFor (sym (e .enum-told .given .1) ∙ e .before .before .request .ensures)) end)
 
 same-length-2 : tie.Need-same-length-2
 same-length-2 c = search needs

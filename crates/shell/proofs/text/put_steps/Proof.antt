@@ -1,5 +1,5 @@
 -- `put_steps` meets its contract: a line for each sample passed.
-use mathlib.Core.Path.{_≡_, refl, sym, ap, _∙_}
+use mathlib.Core.Path.{_≡_, refl, sym, ap, _∙_, subst⁻¹}
 use mathlib.Core.List.{List}
 use native.Mathlib.Omega.{arith}
 use borrow.Author.Needs.{needs}
@@ -12,7 +12,7 @@ use mir.Syntax.{w16}
 use mir.Val.{toZ, ofZ}
 use mir.ValLaws.{toZ-ofZ}
 use Rattle.shell.specs.Text.{pairLine, stepLines, Put}
-use Rattle.shell.proofs.TextLaws.{put-put, put-same, pair-length}
+use Rattle.shell.proofs.TextLaws.{put-put, put-same, pair-fits, pair-ends}
 use Rattle.shell.proofs.text.put_steps.Statement.{statement}
 use Rattle.shell.proofs.text.put_steps.Tie as tie
 
@@ -46,11 +46,11 @@ module _ (c : tie.After-put-pair-arg2 Inv-loop μ-loop) where
   back = toZ-ofZ w16 sample (record { sfits = c .put-pair-arg2 .given })
 
   -- the line that is written
-  line : pairLine (i + 1) (toZ w16 (ofZ w16 sample)) ≡ pairLine (suc i) sample
-  line = ap (λ (z : ℤ). pairLine (i + 1) z) back ∙ ap (λ (k : ℕ). pairLine k sample) (add-one i)
+  line : (number : ℕ) → number ≡ suc i → pairLine number (toZ w16 (ofZ w16 sample)) ≡ pairLine (suc i) sample
+  line number e = ap (pairLine number) back ∙ ap (λ (k : ℕ). pairLine k sample) e
 
-  line-length : length (pairLine (suc i) sample) ≤ 12
-  line-length = pair-length (suc i) sample (omega arith) (small sample (c .put-pair-arg2 .given))
+  low : natAbs (toZ w16 (ofZ w16 sample)) < 100000
+  low = subst⁻¹ (λ (z : ℤ). natAbs z < 100000) back (small sample (c .put-pair-arg2 .given))
 
 loop-holds : tie.Need-loop-holds Inv-loop μ-loop
 unfolding stepLines
@@ -66,7 +66,7 @@ shared-slice-copy-out-put-pair : tie.Need-shared-slice-copy-out-put-pair Inv-loo
 shared-slice-copy-out-put-pair c = search needs
 
 put-pair-requires : tie.Need-put-pair-requires Inv-loop μ-loop
-put-pair-requires c κs = omega (arith, ap length (line c), line-length c)
+put-pair-requires c κs = pair-fits _ _ (omega arith) (low c) _ _ (omega arith)
 
 add-i : tie.Need-add-i Inv-loop μ-loop
 add-i c = search needs
@@ -81,9 +81,9 @@ loop-again c =
     let s = p .before in (
       search needs,
       search needs,
-      omega (arith, p .put-pair .ensures .ends, ap length (line s), line-length s),
+      omega (arith, pair-ends _ _ (omega arith) (low s) (p .put-pair .ensures)),
       put-same (ap (λ (k : ℕ). stepLines k (samples s)) (sym (add-one (i s))))
-          (put-put (loop s .loop .inv .3) (put-same (line s) (p .put-pair .ensures))),
+          (put-put (loop s .loop .inv .3) (put-same (line s _ (omega arith)) (p .put-pair .ensures))),
     )
 
 same-length : tie.Need-same-length Inv-loop μ-loop
