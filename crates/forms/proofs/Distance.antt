@@ -13,7 +13,7 @@ use Rattle.forms.proofs.Form.{scale-both}
 use Rattle.forms.proofs.Energy.{Scheme, E, never-raised, triangle-step, norm, norm-zero}
 
 -- after n steps; K bounds what a step rounds off: 4·U(r,r) ≤ K·d²
-pub record Near (T : Scheme) (K : ℤ) (n : ℕ) (p : ℤ) (X Y : Level) : Type 0 where
+pub record ErrorsNear (T : Scheme) (K : ℤ) (n : ℕ) (p : ℤ) (X Y : Level) : Type 0 where
   pub X-still : Still (T .moving) X
   pub Y-still : Still (T .moving) Y
   pub by-energy : pos 4 *ℤ E T X Y ⩽ K *ℤ (p *ℤ p) *ℤ (pos n *ℤ pos n)
@@ -27,7 +27,7 @@ module _ (T : Scheme) (K : ℤ) where
   d = T .d
 
   -- before the first step
-  pub near-start : (p : ℤ) → Near T K 0 p zeros zeros
+  pub near-start : (p : ℤ) → ErrorsNear T K 0 p zeros zeros
   near-start p =
       let v : U zeros zeros ≡ pos 0 *ℤ U zeros zeros = T .U-form .scale (pos 0) zeros zeros in
       let s : T .S zeros zeros ≡ pos 0 *ℤ T .S zeros zeros = T .S-form .scale (pos 0) zeros zeros in
@@ -41,7 +41,7 @@ module _ (T : Scheme) (K : ℤ) where
             (K *ℤ (p *ℤ p)));
       }
 
-  module _ {n : ℕ} {p : ℤ} {X Y r : Level} (now : Near T K n p X Y) (r-still : Still (T .moving) r)
+  module _ {n : ℕ} {p : ℤ} {X Y r : Level} (now : ErrorsNear T K n p X Y) (r-still : Still (T .moving) r)
       (r-small : pos 4 *ℤ U r r ⩽ K *ℤ (d *ℤ d)) where
     abbrev X′ : Level
     X′ = T .next X Y ⊞ (p ⊡ r)
@@ -89,7 +89,7 @@ module _ (T : Scheme) (K : ℤ) where
             (ap (λ k. K′ *ℤ (pos k *ℤ pos k)) (widen (suc m)))
 
     -- one step more
-    pub near-step : Near T K (suc n) (p *ℤ d) X′ (d ⊡ X)
+    pub near-step : ErrorsNear T K (suc n) (p *ℤ d) X′ (d ⊡ X)
     near-step = record {
       X-still = still-add (T .inside X Y) (still-scale p r-still);
       Y-still = still-scale d (now .X-still);

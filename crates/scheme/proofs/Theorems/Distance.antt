@@ -308,9 +308,9 @@ module _ (P : OfErrors) (kept : StepsKeep P) where
 
 -- ---- the claim
 
--- `Near` of the forms is such a property
+-- `ErrorsNear` of the forms is such a property
 abbrev pub NearErrors : OfErrors
-NearErrors i ok n p X Y = Forms.Near (scheme i ok) (K i) n p X Y
+NearErrors i ok n p X Y = Forms.ErrorsNear (scheme i ok) (K i) n p X Y
 
 pub near-kept : StepsKeep NearErrors
 near-kept = record {
