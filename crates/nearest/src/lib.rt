@@ -23,7 +23,7 @@ impl Whole {
         }
     }
 
-    // The number, 0 where there is none. Ruled out: D read as 0; 1 where there is none.
+    // The number, 0 where there is none. Ruled out: a number read as 0; 1 where there is none.
     pub fn value(self) -> u64
         ensures { λ r. ⌜ r ≡ valueOf self ⌝ }
     {
