@@ -9,8 +9,8 @@ use Rattle.sheet.specs.Call.{answerTo, sheetCall}
 use Rattle.sheet.specs.Examples.{acceptedSheets, orders, kinds, sizes, zeros, refusedNumbers, ends, limits, ExamplesHold}
 
 pub examples-hold : ExamplesHold
-unfolding mul div round ofInt kindOf sizeIn stableIn halvesUp nearestTimes nonNegative positive numbersAllowed coefficients answerTo sheetCall
-    acceptedSheets orders kinds sizes zeros refusedNumbers ends limits
+unfolding mul div round ofInt kindOf sizeIn stableIn halvesUp nearestTimes nonNegative positive numbersAllowed coefficients
+    answerTo sheetCall acceptedSheets orders kinds sizes zeros refusedNumbers ends limits
 examples-hold = record {
   accepted-hold = refl;
   orders-hold = refl;

@@ -67,13 +67,15 @@ accepts q m s = sheetAccepted (record { q = q; m = m; s = s })
 
 -- ---- the table
 
--- "kind 1, 101 columns, 48000 Hz, pitch 100 Hz, loss 6 per second, bending 0, length 1: q = 11378, m = 0, s = 8"; and a tension with seconds
+-- "kind 1, 101 columns, 48000 Hz, pitch 100 Hz, loss 6 per second, bending 0, length 1: q = 11378, m = 0, s = 8";
+-- and a tension with seconds
 unfoldable pub acceptedSheets : List Example
 acceptedSheets =
     (paperSheet (Hertz (whole 100)) (PerSecond (whole 6)) on size 1 101 1 gives accepts 11378 0 8) ∷
     (paperSheet (Tension (whole 40000) (whole 1)) (Seconds (whole 2)) on size 2 101 1 gives accepts 11378 0 5) ∷ []
 
--- "float operations stand in this order": where two operations that change places, or the last digit of 6.907755278982137, change a coefficient
+-- "float operations stand in this order": two operations that change places, or another last digit of 6.907755278982137, would change
+-- a coefficient
 unfoldable pub orders : List Example
 orders =
     (paperSheet (Hertz (nearestFloat 208209808397067 (2 ^ 42))) lossless on size 1 11 1 gives accepts 26 0 0) ∷

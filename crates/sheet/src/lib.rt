@@ -20,7 +20,8 @@ pub enum Speed {
     Tension { tension: f64, density: f64 },
 }
 
-// A loss: a rate per second, or the seconds to a thousandth. The definitions `lossAllowed` and `lossPerStep` tell what the paper makes of each.
+// A loss: a rate per second, or the seconds to a thousandth. The definitions `lossAllowed` and `lossPerStep` tell what the paper makes
+// of each.
 pub enum Loss {
     PerSecond(f64),
     Seconds(f64),
@@ -35,7 +36,8 @@ pub struct Sheet {
     pub loss: Loss,
 }
 
-// A sheet's answer: what refused it, and the settings, all zeros where something did. The definition `number` tells the paper's number of each refusal.
+// A sheet's answer: what refused it, and the settings, all zeros where something did. The definition `number` tells the paper's number
+// of each refusal.
 pub struct SheetAnswer {
     pub settings: Settings,
     pub refusal: Refusal,
