@@ -61,8 +61,11 @@ in-format s (suc m) e h =
 
 place : (e : ℤ) → down e ≤ 2 ^ 1074 → (j : ℕ) × (up e * 2 ^ 1074 ≡ 2 ^ j * down e)
 place (pos a) h = (a + 1074, sym (pow-add 2 a 1074) ∙ sym (mul-one (2 ^ (a + 1074))))
-place (negsuc a) h = (1074 - suc a, one-mul (2 ^ 1074)
-    ∙ ap (λ (y : ℕ). 2 ^ y) (sym (back 1074 (suc a) (go (leb (suc a) 1074) refl))) ∙ pow-add 2 (1074 - suc a) (suc a))
+place (negsuc a) h = (
+  1074 - suc a,
+  one-mul (2 ^ 1074)
+      ∙ ap (λ (y : ℕ). 2 ^ y) (sym (back 1074 (suc a) (go (leb (suc a) 1074) refl))) ∙ pow-add 2 (1074 - suc a) (suc a),
+)
   where
     go : (b : Bool) → leb (suc a) 1074 ≡ b → suc a ≤ 1074
     go true e = leb-true (suc a) 1074 e
