@@ -21,18 +21,9 @@ const MOST: usize = 1024;
 fn instrument_of(n: Numbers) -> Instrument
     ensures { λ r. ⌜ r ≡ instrumentOf n ⌝ }
 {
-    Instrument {
-        grid: Grid {
-            kind: n.kind,
-            columns: n.columns,
-            rows: n.rows,
-        },
-        settings: Settings {
-            q: n.q,
-            m: n.m,
-            s: n.s,
-        },
-    }
+    let grid = Grid::new(n.kind, n.columns, n.rows);
+    let settings = Settings::new(n.q, n.m, n.s);
+    Instrument { grid, settings }
 }
 
 fn hit_of(n: Numbers) -> Hit
