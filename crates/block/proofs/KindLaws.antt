@@ -21,7 +21,6 @@ use Rattle.scheme.proofs.Laws.Bools.{and-both, or-neither}
 use Rattle.scheme.proofs.Laws.Kinds.{within-is, sized}
 use Rattle.scheme.proofs.Laws.Step.{moving-inside}
 use Rattle.scheme.specs.Passing.{InstrumentPasses}
-use Rattle.block.specs.Run.{Moves}
 
 -- ---- edges
 

@@ -1,5 +1,5 @@
 -- A stretch of a line in three parts: its first point, its inner points, its last point, as far as they are in it.
-use mathlib.Core.Path.{_≡_, refl, sym, _∙_, subst}
+use mathlib.Core.Path.{_≡_, _∙_, subst}
 use mathlib.Core.Bool.{Bool, true, false}
 use mathlib.Core.List.{List}
 use mathlib.Core.Logic.{_⊎_, inl, inr}
@@ -10,16 +10,15 @@ use lib.IntN.{ℤ}
 use lib.ListN.{length}
 use Rattle.scheme.specs.declared.Grid.{Grid}
 use Rattle.scheme.specs.declared.Instrument.{Instrument}
-use Rattle.scheme.specs.Instruments.{points}
 use Rattle.scheme.specs.Passing.{InstrumentPasses}
 use Rattle.block.specs.declared.plan.Plan.{Plan}
 use Rattle.block.specs.declared.stretch.Stretch.{Stretch}
 use Rattle.block.specs.Plan.{Ready}
-use Rattle.block.specs.Run.{Advanced, Ran, Placed, Moves, OnLine, FreeEnd, LaplaciansOf, clamp, partOf}
+use Rattle.block.specs.Run.{Advanced, Moves, OnLine, FreeEnd, LaplaciansOf, clamp}
 use Rattle.block.proofs.FillLaws.{ran-append, ran-stops, ran-ends}
-use Rattle.block.proofs.KindLaws.{line-long, wide, line-in, bar-inner}
+use Rattle.block.proofs.KindLaws.{line-long, wide, bar-inner}
 use Rattle.block.proofs.BesideLaws.{is-bar, within-line, first-free, last-free}
-use Rattle.block.proofs.StretchLaws.{clamped, clamp-before, clamp-inside, clamp-after, clamp-low, clamp-high, clamp-rises}
+use Rattle.block.proofs.StretchLaws.{clamped, clamp-before, clamp-after, clamp-low, clamp-high, clamp-rises}
 
 module _ (s : Stretch) {p : Plan} {older newer : List ℤ} (r : Ready p (s .force) older newer) (line : p .instrument .grid .rows ≡ 1)
     (all : Moves (p .instrument .grid) (s .from) (s .to)) (some : s .from < s .to) where

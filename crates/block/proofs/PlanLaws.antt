@@ -1,5 +1,5 @@
 -- The factors of a plan are small; its grid has three columns or more, and 64 rows or less.
-use mathlib.Core.Path.{_≡_, refl, sym, ap, _∙_, subst}
+use mathlib.Core.Path.{_≡_, sym, ap, _∙_, subst}
 use mathlib.Core.Bool.{true, false, not, true≢false, Bool·not-not}
 use Prim.Native.Nat.{ℕ, zero, suc, _^_, _≤_, zero-le}
 use native.Mathlib.Omega.{arith}

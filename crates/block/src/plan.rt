@@ -1,8 +1,6 @@
 // An instrument as the steps of a block need it.
 ghost use mathlib.Core.Path.{_≡_};
 ghost use mathlib.Core.Bool.{not};
-ghost use Prim.Native.Nat.{_≤_, _^_};
-ghost use lib.IntN.{natAbs};
 ghost use Rattle.scheme.specs.Instruments.{beyond};
 ghost use Rattle.scheme.specs.Step.{roundAway, divisor};
 ghost use Rattle.scheme.specs.Passing.{InstrumentPasses};

@@ -14,13 +14,12 @@ use Rattle.scheme.specs.declared.Instrument.{Instrument}
 use Rattle.scheme.specs.declared.Hit.{Hit}
 use Rattle.scheme.specs.declared.Hit.the-variants.{At}
 use Rattle.scheme.specs.declared.Refusal.{Refusal}
-use Rattle.scheme.specs.declared.Refusal.the-variants.{Nothing}
 use Rattle.scheme.specs.Instruments.{points, inTable}
 use Rattle.scheme.specs.Step.{someBeyond}
 use Rattle.scheme.specs.Refusals.{number, wrongLength, fixedNotZero, Check, _⇒_, lowest, gridChecks, instrumentChecks, lengthChecks}
 use Rattle.scheme.specs.Refusals.{hitChecks, pickChecks, widthChecks, stateChecks, inputChecks, lastPlucked, blockRefusal, pluckChecks}
 use Rattle.scheme.specs.Calls.{accepted}
-use Rattle.scheme.proofs.Laws.Bools.{and-yes, or-neither, or-twice}
+use Rattle.scheme.proofs.Laws.Bools.{and-yes}
 use Rattle.scheme.proofs.Laws.Refusals.{refusing, NoneApplies, none-applies, accepted-is, right-length}
 use Rattle.levels.specs.Levels.{unfixed}
 use Rattle.checks.specs.Refused.{notLong, firstOf, stateRefusal}

@@ -41,15 +41,6 @@ trans′ (negsuc a) (negsuc b) (negsuc c) h k = le→leb c a (N.le-trans (leb→
 pub ≤ℤ-trans : {a b c : ℤ} → a ⩽ b → b ⩽ c → a ⩽ c
 ≤ℤ-trans {a} {b} {c} h k = record { le = trans′ a b c (h .le) (k .le) }
 
-antisymm′ : (a b : ℤ) → T (leZ a b) → T (leZ b a) → a ≡ b
-antisymm′ (pos a) (pos b) h k = ap pos (N.le-antisymm (leb→le a b h) (leb→le b a k))
-antisymm′ (pos a) (negsuc b) h k = absurd h
-antisymm′ (negsuc a) (pos b) h k = absurd k
-antisymm′ (negsuc a) (negsuc b) h k = ap negsuc (N.le-antisymm (leb→le a b k) (leb→le b a h))
-
-pub ≤ℤ-antisymm : {a b : ℤ} → a ⩽ b → b ⩽ a → a ≡ b
-≤ℤ-antisymm {a} {b} h k = antisymm′ a b (h .le) (k .le)
-
 pub ≤ℤ-of-eq : {a b : ℤ} → a ≡ b → a ⩽ b
 ≤ℤ-of-eq {a} h = subst (λ x. a ⩽ x) h (≤ℤ-refl a)
 

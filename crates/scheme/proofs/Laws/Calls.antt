@@ -8,7 +8,7 @@ use native.Mathlib.Omega.{arith}
 use lib.Dec.{ltb}
 use lib.Ieee.{binary64, ofInt}
 use lib.IntN.{ℤ, pos, natAbs}
-use lib.ListN.{length, length-replicate}
+use lib.ListN.{length}
 use Rattle.scheme.specs.declared.Grid.{Grid}
 use Rattle.scheme.specs.declared.Instrument.{Instrument}
 use Rattle.scheme.specs.declared.Hit.{Hit}
@@ -18,15 +18,15 @@ use Rattle.scheme.specs.Lists.{point}
 use Rattle.scheme.specs.Instruments.{points, fixed}
 use Rattle.scheme.specs.Step.{nextLevel, someBeyond, sampleOf, floatOf}
 use Rattle.scheme.specs.Table.{table}
-use Rattle.scheme.specs.Pluck.{pluckAt, pluckLevel}
+use Rattle.scheme.specs.Pluck.{pluckLevel}
 use Rattle.scheme.specs.Refusals.{wrongLength, fixedNotZero, blockRefusal, pluckRefusal, readingRefusal}
 use Rattle.scheme.specs.Calls.{accepted, AfterSteps, ended, oneMore, play, levelsAfter, hitAfter, StandsBehind, StepsStandBehind}
-use Rattle.scheme.specs.Calls.{AfterBlock, withWorkZero, blockRefused, block, AfterPluck, overwritten, pluckRefused, pluck, reading}
+use Rattle.scheme.specs.Calls.{AfterBlock, withWorkZero, blockRefused, block, overwritten, pluckRefused, pluck, reading}
 use Rattle.scheme.specs.Claims.{LevelPasses}
 use Rattle.scheme.proofs.Laws.Bools.{cases}
-use Rattle.scheme.proofs.Laws.Lists.{length-tabulate, none-below}
+use Rattle.scheme.proofs.Laws.Lists.{none-below}
 use Rattle.scheme.proofs.Laws.Step.{fixed-still, length-next, next-fixed}
-use Rattle.scheme.proofs.Laws.Refusals.{accepted-is, right-length, block-passes, pluck-passes}
+use Rattle.scheme.proofs.Laws.Refusals.{block-passes}
 
 -- a next level within the ceiling passes
 pub next-passes : (i : Instrument) (h : Hit) (older newer : List ℤ) → someBeyond (nextLevel i h older newer) ≡ false
@@ -163,33 +163,6 @@ module _ (i : Instrument) (older newer work samples : List ℤ) (pick : ℕ) (h 
       subst (λ (r : AfterBlock). LevelPasses (i .grid) (r .older) × LevelPasses (i .grid) (r .newer)) (sym (block-done e))
       (subst (LevelPasses (i .grid)) (sym (s .older-is)) (p .0), subst (LevelPasses (i .grid)) (sym (s .newer-is)) (p .1))
 
-  -- all lengths are kept, refused or not
-  pub record SameLengths (r : AfterBlock) : Type 0 where
-    pub older-long : length (r .older) ≡ length older
-    pub newer-long : length (r .newer) ≡ length newer
-    pub work-long : length (r .work) ≡ length work
-    pub samples-long : length (r .samples) ≡ length samples
-
-  pub block-lengths : SameLengths (block i older newer work samples pick h)
-  block-lengths = go (accepted (blockRefusal i older newer (wrongLength (i .grid) (length work)) pick h)) refl
-    where
-      go : (t : Bool) → accepted (blockRefusal i older newer (wrongLength (i .grid) (length work)) pick h) ≡ t
-          → SameLengths (block i older newer work samples pick h)
-      go true e =
-          let n = accepted-is _ e in
-          let w = block-passes i older newer (wrongLength (i .grid) (length work)) pick h n in
-          let p = accepted-leaves n in
-          record {
-            older-long = p .0 .long ∙ sym (w .older-passes .long);
-            newer-long = p .1 .long ∙ sym (w .newer-passes .long);
-            work-long = ap (λ (r : AfterBlock). length (r .work)) (block-done n) ∙ length-replicate (points (i .grid)) (pos 0)
-                ∙ sym (right-length (i .grid) (length work) (w .rest-right));
-            samples-long = ap (λ (r : AfterBlock). length (r .samples)) (block-done n)
-                ∙ stands-behind i pick h older newer samples .places-long;
-          }
-      go false e = subst SameLengths (sym (block-refused e))
-          (record { older-long = refl; newer-long = refl; work-long = refl; samples-long = refl })
-
 -- ---- a pluck
 
 module _ (g : Grid) (older newer : List ℤ) (c w : ℕ) (a : ℤ) where
@@ -202,22 +175,6 @@ module _ (g : Grid) (older newer : List ℤ) (c w : ℕ) (a : ℤ) where
       ≡ pluckRefused (pluckRefusal g (length older) (length newer) c w a) older newer
   unfolding pluck
   pluck-refused e = simp e
-
-  pub pluck-lengths : (length (pluck g older newer c w a .older) ≡ length older)
-      × (length (pluck g older newer c w a .newer) ≡ length newer)
-  unfolding pluckLevel
-  pluck-lengths = go (accepted (pluckRefusal g (length older) (length newer) c w a)) refl
-    where
-      Kept : AfterPluck → Type 0
-      Kept r = (length (r .older) ≡ length older) × (length (r .newer) ≡ length newer)
-
-      go : (t : Bool) → accepted (pluckRefusal g (length older) (length newer) c w a) ≡ t → Kept (pluck g older newer c w a)
-      go true e =
-          let n = accepted-is _ e in
-          let v = pluck-passes g (length older) (length newer) c w a n in
-          let l = length-tabulate (points g) (pluckAt table g c w a) in
-          subst Kept (sym (pluck-done n)) (l ∙ sym (v .older-long), l ∙ sym (v .newer-long))
-      go false e = subst Kept (sym (pluck-refused e)) (refl, refl)
 
 -- ---- the float reading
 

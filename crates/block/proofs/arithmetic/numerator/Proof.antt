@@ -1,15 +1,14 @@
 -- `numerator` meets its contract: its arithmetic, written once, fits at every step.
 use mathlib.Core.Path.{_≡_, sym, _∙_, subst}
-use Prim.Native.Nat.{_*_, _^_, _≤_}
+use Prim.Native.Nat.{_*_, _≤_}
 use native.Mathlib.Omega.{arith}
 use lib.IntN.{ℤ, pos, natAbs, _+ℤ_, _-ℤ_, _*ℤ_}
 use Rattle.bounded.proofs.Num as Num
 use Rattle.bounded.proofs.Num.{Num}
 use borrow.Author.Needs.{needs}
-use Rattle.bounded.proofs.Expr.{E, at, num, product, stored, _⊞_, _⊟_, _⊠_, fits, is, said, red, val}
+use Rattle.bounded.proofs.Expr.{E, at, num, product, stored, _⊞_, _⊟_, _⊠_, fits, is, red, val}
 use Rattle.scheme.specs.Instruments.{D, ceiling}
-use Rattle.scheme.specs.Step.{roundAway, numeratorOf, divisor}
-use Rattle.scheme.proofs.Laws.Ranges.{partial-sums}
+use Rattle.scheme.specs.Step.{numeratorOf}
 use Rattle.block.specs.Plan.{Planned, Updatable}
 use Rattle.block.proofs.PlanLaws.{q-low, m-low, kept-low}
 use Rattle.block.proofs.arithmetic.numerator.Statement.{statement}

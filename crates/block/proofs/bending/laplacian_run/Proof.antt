@@ -1,9 +1,7 @@
 -- `laplacian_run` meets its contract: the points passed have L in their places.
-use mathlib.Core.Path.{_≡_}
 use Prim.Native.Nat.{ℕ, _+_, _-_, _≤_, _<_}
 use native.Mathlib.Omega.{arith}
 use borrow.Author.Needs.{needs}
-use lib.IntN.{ℤ}
 use lib.ListN.{length}
 use Rattle.bounded.proofs.Expr.{E, num, _⊟_, _⊠_, fits, is}
 use Rattle.scheme.specs.Lists.{point}

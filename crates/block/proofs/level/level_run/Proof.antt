@@ -1,11 +1,8 @@
 -- `level_run` meets its contract: the rows passed have their next values.
 use mathlib.Core.Path.{_≡_, _∙_}
-use mathlib.Core.Bool.{true}
 use Prim.Native.Nat.{_+_, _-_, _≤_, _<_, zero-le}
 use native.Mathlib.Omega.{arith}
-use borrow.Author.Needs.{needs}
 use borrow.Author.Tests.{not-true, not-false}
-use lib.ListN.{length}
 use Rattle.scheme.specs.declared.Grid.{Grid}
 use Rattle.scheme.specs.Instruments.{points}
 use Rattle.kinds.specs.declared.runs.Run.{Run}

@@ -1,8 +1,8 @@
 -- `row_run` meets its contract: stretch by stretch, one force on the points of each.
-use mathlib.Core.Path.{_≡_, refl, sym, ap, _∙_, subst}
-use mathlib.Core.Bool.{Bool, true, false}
+use mathlib.Core.Path.{_≡_, sym, _∙_, subst}
+use mathlib.Core.Bool.{Bool}
 use mathlib.Core.List.{List}
-use Prim.Native.Nat.{ℕ, _+_, _-_, _≤_, _<_}
+use Prim.Native.Nat.{ℕ, _-_, _≤_, _<_}
 use native.Mathlib.Omega.{arith}
 use borrow.Author.Needs.{needs}
 use borrow.Author.Tests.{not-true, not-false}
@@ -14,7 +14,6 @@ use Rattle.bounded.proofs.Num.{back}
 use Rattle.scheme.specs.declared.Grid.{Grid}
 use Rattle.scheme.specs.Instruments.{ceiling}
 use Rattle.scheme.specs.Step.{forceOf, nextAt}
-use Rattle.block.specs.declared.stretch.Stretch.{Stretch}
 use Rattle.block.specs.Plan.{Ready}
 use Rattle.block.specs.Run.{valueAt, Ran, Placed, Moves, Ends}
 use Rattle.block.proofs.FillLaws.{Running, running-start, running-on, running-stops, running-done, ran-fine, ran-same}

@@ -1,6 +1,6 @@
 -- `line_points` meets its contract: the first point, the inner points, the last point.
 use mathlib.Core.Path.{_≡_, refl, sym, _∙_, subst}
-use mathlib.Core.Bool.{Bool, true, false}
+use mathlib.Core.Bool.{Bool}
 use mathlib.Core.List.{List}
 use mathlib.Core.Logic.{_⊎_}
 use Prim.Native.Nat.{ℕ, _-_, _≤_, _<_, zero-le}
@@ -77,9 +77,6 @@ at-inner c = c .before .before .before .before .before
 
 -- the first point
 module _ (c : tie.After-out) where
-  abbrev first-done : Bool
-  first-done = c .before .free-end .result
-
   first-long : length (c .before .free-end .last .1 .1 .1 .1 .1 .0) ≡ length (at-first c .args .out .now)
   first-long = c .before .free-end .ensures .long
 

@@ -1,8 +1,7 @@
 -- `line_run` meets its contract: each point has its two neighbours on the line, and L of L by three values of L.
-use mathlib.Core.Path.{_≡_, refl, sym, ap, _∙_, subst}
-use mathlib.Core.Bool.{true}
+use mathlib.Core.Path.{_≡_, sym, _∙_, subst}
 use mathlib.Core.Logic.{_⊎_}
-use Prim.Native.Nat.{ℕ, _+_, _-_, _*_, _≤_, _<_}
+use Prim.Native.Nat.{ℕ, _+_, _-_, _≤_, _<_}
 use native.Mathlib.Omega.{arith}
 use borrow.Author.Needs.{needs}
 use borrow.Author.Tests.{not-true, not-false}
@@ -12,13 +11,11 @@ use mir.Syntax.{w64}
 use mir.Val.{toZ, ofZ}
 use Rattle.bounded.proofs.Num.{back}
 use Rattle.bounded.proofs.Expr.{E, fits, said, red}
-use Rattle.scheme.specs.Instruments.{ceiling}
 use Rattle.block.specs.Plan.{Ready, Neighbouring}
 use Rattle.block.specs.Run.{valueAt, OnLine, LaplaciansOf, Bendable, bendingOf}
 use Rattle.block.proofs.KindLaws.{line-long}
 use Rattle.block.proofs.BesideLaws.{beside#, line-beside, bendable}
 use Rattle.block.proofs.FillLaws.{placed-after, Running, running-start, running-on, running-stops, running-done, ran-fine}
-use Rattle.block.proofs.Held.{held-below}
 use Rattle.block.proofs.points.line_run.Statement.{statement}
 use Rattle.block.proofs.points.line_run.Tie as tie
 

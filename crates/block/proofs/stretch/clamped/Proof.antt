@@ -4,7 +4,6 @@ use mathlib.Core.Bool.{Bool, cond}
 use mathlib.Core.Logic.{⊎-elim}
 use borrow.Author.Tests.{lt-ltb, le-ltb}
 use lib.Dec.{ltb}
-use Rattle.block.specs.Run.{clamp}
 use Rattle.block.proofs.StretchLaws.{clamp-first, clamp-second}
 use Rattle.block.proofs.stretch.clamped.Statement.{statement}
 use Rattle.block.proofs.stretch.clamped.Tie as tie

@@ -1,5 +1,5 @@
 -- `block_refusal` meets its contract: the input first, then the state of two levels that 6 let pass.
-use mathlib.Core.Path.{_≡_, sym, ap, ap₂, _∙_}
+use mathlib.Core.Path.{_≡_, ap, ap₂, _∙_}
 use mathlib.Core.Bool.{Bool, true, _||_}
 use mathlib.Core.List.{List}
 use borrow.Author.Tests.{not-false}
@@ -9,8 +9,7 @@ use Rattle.scheme.specs.Step.{someBeyond}
 use Rattle.scheme.specs.Refusals.{wrongLength, fixedNotZero, Check, lowest, stateChecks, inputChecks, blockRefusal}
 use Rattle.scheme.proofs.Laws.Bools.{or-neither}
 use Rattle.scheme.proofs.Laws.Refusals.{NoneApplies}
-use Rattle.checks.specs.Refused.{notLong}
-use Rattle.checks.proofs.RefusalLaws.{passed, refused-by, goes-on, instrument-in, long-is, input-same, state-is}
+use Rattle.checks.proofs.RefusalLaws.{passed, refused-by, goes-on, long-is, input-same, state-is}
 use borrow.Author.Needs.{needs}
 use Rattle.checks.proofs.refusals.block_refusal.Statement.{statement}
 use Rattle.checks.proofs.refusals.block_refusal.Tie as tie

@@ -2,7 +2,6 @@
 use mathlib.Core.Path.{sym, ap, _∙_}
 use mathlib.Core.Bool.{Bool, cond}
 use native.Mathlib.Omega.{arith}
-use borrow.Author.Needs.{needs}
 use Rattle.scheme.specs.Instruments.{points}
 use Rattle.scheme.proofs.Laws.Kinds.{sized}
 use Rattle.kinds.proofs.sizes.points_of.Statement.{statement}
