@@ -101,7 +101,8 @@ def main():
         raise SystemExit(__doc__)
     header, c_api, scheme = (pathlib.Path(path).read_text(encoding="utf-8") for path in sys.argv[1:4])
     wrong = differences(header, c_api, scheme, symbols(sys.argv[4]))
-    print(*wrong or [f"the header declares the {len(exported(c_api))} functions and {len(refusals(scheme))} refusals of the library"], sep="\n")
+    held = f"the header declares the {len(exported(c_api))} functions and {len(refusals(scheme))} refusals of the library"
+    print(*wrong or [held], sep="\n")
     return 1 if wrong else 0
 
 
