@@ -1,31 +1,17 @@
 /* Buvcsolta: strings, bars and membranes by finite-difference schemes in whole numbers.
  *
- * Every function answers a refusal number, 0 where the call was carried out. The lowest number that applies answers.
+ * Programs in C and C++ use the calls buvcsolta_instrument_..., at the end of this file. They hand their arguments to the four
+ * exported functions, which are for bindings of other languages. Every call answers a refusal number, 0 where it was carried out;
+ * the lowest number that applies answers, and buvcsolta_refusal_text tells it in words.
  *
- *    0  carried out
- *    1  the kind is not 1..6; for a pluck not 1..4
- *    2  columns or rows outside the table of kinds
- *    3  a number of the sheet is not finite, is negative, or is zero where it is the rate, length, density or decay time;
- *       or a pitch in hertz for kinds 5 and 6
- *    4  a coefficient q, m or s is not in 0..65536
- *    5  not stable, or m above 0 outside kind 4
- *    6  a lent level does not have columns x rows points
- *    7  the hit's point or the pluck's centre is not a moving point
- *    8  the force or height is beyond the ceiling, 32767 x 2^28
- *    9  the pick-up is not a point of the grid
- *   10  the pluck's half width is not 1..columns - 1
- *   11  a point of older or newer is beyond the ceiling
- *   12  a fixed point of older or newer is not 0
- *   13  the next step would put some point beyond the ceiling
- *
- * Kinds: 1 string, both ends fixed; 2 string, point 0 fixed, last free; 3 string, both ends free; 4 stiff string or bar, both ends
- * supported (1 to 4: 3..1024 columns, 1 row); 5 rectangular membrane (3..64 x 3..64); 6 round membrane (3..64, square).
- * Points count from 0, row by row. Settings are q, m and s over 65536: the squared Courant number, the stiffness, the loss per step.
+ * Points count from 0, row by row. An instrument's state is two levels, the older and the newer, of columns x rows points.
+ * A point is a whole number of units, 2^28 to a sample unit, and lies within the ceiling, 32767 x 2^28, on either side of zero.
+ * Settings are q, m and s over 65536: the squared Courant number, the stiffness, the loss per step.
  * Stable is: kinds 1 to 3, q <= 65536; kind 4, q + 4m <= 65536; kinds 5 and 6, 2q <= 65536.
  *
  * Memory. The library allocates nothing and keeps nothing between calls: every buffer belongs to the caller before, during and after
- * a call. Each pointer is not null, is aligned for its type and points to as many elements as the length after it says, also where
- * that is 0. The buffers and results of one call must not overlap. Calls on different buffers may run at the same time.
+ * a call. Each pointer is not null, is aligned for its type and points to as many elements as its length says, also where that is 0.
+ * The buffers and results of one call must not overlap. Calls on different buffers may run at the same time.
  * Any numbers may be handed over: numbers that cannot be negative are unsigned, so -1 arrives as 2^64 - 1 and meets its refusal.
  */
 #ifndef BUVCSOLTA_H
@@ -34,9 +20,53 @@
 #include <stddef.h>
 #include <stdint.h>
 
+#if SIZE_MAX != UINT64_MAX
+#error "libbuvcsolta is built for machines whose sizes have 64 bits"
+#endif
+
 #ifdef __cplusplus
 extern "C" {
 #endif
+
+/* The version of this header: a new major number where a program must be changed. */
+#define BUVCSOLTA_VERSION_MAJOR 1
+#define BUVCSOLTA_VERSION_MINOR 0
+#define BUVCSOLTA_VERSION_PATCH 0
+#define BUVCSOLTA_VERSION (BUVCSOLTA_VERSION_MAJOR * 10000 + BUVCSOLTA_VERSION_MINOR * 100 + BUVCSOLTA_VERSION_PATCH)
+
+#define BUVCSOLTA_UNITS_PER_SAMPLE (INT64_C(1) << 28)
+#define BUVCSOLTA_CEILING (INT64_C(32767) * BUVCSOLTA_UNITS_PER_SAMPLE)
+
+/* Kinds, and the columns x rows that each may have. */
+enum buvcsolta_kind {
+    BUVCSOLTA_STRING_FIXED = 1,         /* both ends fixed                        3..1024 x 1 */
+    BUVCSOLTA_STRING_FIXED_FREE = 2,    /* point 0 fixed, the last free           3..1024 x 1 */
+    BUVCSOLTA_STRING_FREE = 3,          /* both ends free                         3..1024 x 1 */
+    BUVCSOLTA_BAR = 4,                  /* stiff string or bar, ends supported    3..1024 x 1 */
+    BUVCSOLTA_MEMBRANE_RECTANGULAR = 5, /* fixed edge                             3..64 x 3..64 */
+    BUVCSOLTA_MEMBRANE_ROUND = 6        /* fixed edge                             3..64, square */
+};
+
+/* Refusals. 1 to 10 are of what was handed over, 11 to 13 of the state. */
+enum buvcsolta_refusal {
+    BUVCSOLTA_NOTHING = 0,         /* carried out */
+    BUVCSOLTA_UNKNOWN_KIND = 1,    /* the kind is not 1..6; for a pluck not 1..4 */
+    BUVCSOLTA_WRONG_SIZE = 2,      /* columns or rows are not those of the kind */
+    BUVCSOLTA_SHEET_NUMBER = 3,    /* a number of the sheet is not finite, is negative, or is zero where it is the rate, length,
+                                      density or decay time; or a pitch in hertz for kinds 5 and 6 */
+    BUVCSOLTA_COEFFICIENT = 4,     /* q, m or s is not in 0..65536 */
+    BUVCSOLTA_UNSTABLE = 5,        /* not stable, or m above 0 outside kind 4 */
+    BUVCSOLTA_WRONG_LENGTH = 6,    /* a lent level does not have columns x rows points */
+    BUVCSOLTA_NOT_MOVING = 7,      /* the hit's point or the pluck's centre is not a moving point */
+    BUVCSOLTA_TOO_STRONG = 8,      /* the force or height is beyond the ceiling */
+    BUVCSOLTA_PICK_UP = 9,         /* the pick-up is not a point of the grid */
+    BUVCSOLTA_HALF_WIDTH = 10,     /* the pluck's half width is not 1..columns - 1 */
+    BUVCSOLTA_POINT_BEYOND = 11,   /* a point of older or newer is beyond the ceiling */
+    BUVCSOLTA_FIXED_NOT_ZERO = 12, /* a fixed point of older or newer is not 0 */
+    BUVCSOLTA_NEXT_BEYOND = 13     /* the next step would put some point beyond the ceiling */
+};
+
+/* The exported functions. A level or sample buffer is a pointer and the number of its elements. */
 
 /* A block: as many steps as samples has places.
  *
@@ -76,6 +106,92 @@ uint64_t buvcsolta_reading(uint64_t kind, size_t columns, size_t rows, const int
 uint64_t buvcsolta_sheet(uint64_t kind, size_t columns, size_t rows, double rate, double length, double bending,
                          uint64_t by_tension, double speed, double density, uint64_t by_seconds, double loss,
                          uint64_t *q, uint64_t *m, uint64_t *s);
+
+/* The same calls over structs. */
+
+/* A kind with its grid and settings. */
+struct buvcsolta_instrument {
+    uint64_t kind; /* enum buvcsolta_kind */
+    size_t columns, rows;
+    uint64_t q, m, s;
+};
+
+/* The three buffers of a voice, all zeros for a voice at rest. length is the number of elements that each of them really has, not
+ * columns x rows worked out again: a grid that does not fit its buffers is then refused 6, and nothing is written. */
+struct buvcsolta_levels {
+    int64_t *older, *newer, *work;
+    size_t length;
+};
+
+/* Force units at a moving point. */
+struct buvcsolta_hit {
+    size_t point;
+    int64_t force;
+};
+
+/* What buvcsolta_sheet takes. */
+struct buvcsolta_player_sheet {
+    double rate, length, bending;
+    uint64_t by_tension;
+    double speed, density;
+    uint64_t by_seconds;
+    double loss;
+};
+
+/* Works out q, m and s for the instrument's kind and grid. They are all 0 after a refusal, and a block accepts those too: look at
+ * the answer. */
+static inline uint64_t buvcsolta_instrument_sheet(struct buvcsolta_instrument *i, const struct buvcsolta_player_sheet *sheet)
+{
+    return buvcsolta_sheet(i->kind, i->columns, i->rows, sheet->rate, sheet->length, sheet->bending, sheet->by_tension, sheet->speed,
+                           sheet->density, sheet->by_seconds, sheet->loss, &i->q, &i->m, &i->s);
+}
+
+/* A block of samples_length steps; hit is null for none. */
+static inline uint64_t buvcsolta_instrument_block(const struct buvcsolta_instrument *i, const struct buvcsolta_levels *levels,
+                                                  int16_t *samples, size_t samples_length, size_t pick_up,
+                                                  const struct buvcsolta_hit *hit, size_t *steps)
+{
+    return buvcsolta_block(i->kind, i->columns, i->rows, i->q, i->m, i->s, levels->older, levels->length, levels->newer, levels->length,
+                           levels->work, levels->length, samples, samples_length, pick_up, hit ? 1 : 0, hit ? hit->point : 0,
+                           hit ? hit->force : 0, steps);
+}
+
+/* A pluck. The settings and work play no part. */
+static inline uint64_t buvcsolta_instrument_pluck(const struct buvcsolta_instrument *i, const struct buvcsolta_levels *levels,
+                                                  size_t centre, size_t half_width, int64_t height)
+{
+    return buvcsolta_pluck(i->kind, i->columns, i->rows, levels->older, levels->length, levels->newer, levels->length, centre,
+                           half_width, height);
+}
+
+/* The float reading of newer. */
+static inline uint64_t buvcsolta_instrument_reading(const struct buvcsolta_instrument *i, const struct buvcsolta_levels *levels,
+                                                    size_t pick_up, double *value)
+{
+    return buvcsolta_reading(i->kind, i->columns, i->rows, levels->newer, levels->length, pick_up, value);
+}
+
+/* A refusal in words. */
+static inline const char *buvcsolta_refusal_text(uint64_t refusal)
+{
+    switch (refusal) {
+    case BUVCSOLTA_NOTHING: return "carried out";
+    case BUVCSOLTA_UNKNOWN_KIND: return "the call does not take this kind";
+    case BUVCSOLTA_WRONG_SIZE: return "columns or rows are not those of the kind";
+    case BUVCSOLTA_SHEET_NUMBER: return "a number of the sheet is not allowed";
+    case BUVCSOLTA_COEFFICIENT: return "q, m or s is not in 0..65536";
+    case BUVCSOLTA_UNSTABLE: return "not stable, or m above 0 outside kind 4";
+    case BUVCSOLTA_WRONG_LENGTH: return "a level does not have columns x rows points";
+    case BUVCSOLTA_NOT_MOVING: return "the hit's point or the pluck's centre does not move";
+    case BUVCSOLTA_TOO_STRONG: return "the force or height is beyond the ceiling";
+    case BUVCSOLTA_PICK_UP: return "the pick-up is not a point of the grid";
+    case BUVCSOLTA_HALF_WIDTH: return "the half width is not 1..columns - 1";
+    case BUVCSOLTA_POINT_BEYOND: return "a point is beyond the ceiling";
+    case BUVCSOLTA_FIXED_NOT_ZERO: return "a fixed point is not 0";
+    case BUVCSOLTA_NEXT_BEYOND: return "the next step would pass the ceiling";
+    default: return "not a refusal";
+    }
+}
 
 #ifdef __cplusplus
 }

@@ -59,7 +59,11 @@ def main():
     if len(sys.argv) != 3:
         raise SystemExit(__doc__)
     if sys.argv[1] != "--wrong":
-        fault = play_file(open_library(sys.argv[1]), sys.argv[2])
+        try:
+            library = open_library(sys.argv[1])
+        except (OSError, AttributeError) as fault:
+            raise SystemExit(f"play.py: cannot open the library: {fault}")
+        fault = play_file(library, sys.argv[2])
         print(fault or "every record holds")
         return 1 if fault else 0
     edits = [edit for edit in must_fail.EDITS if edit[1] not in must_fail.BESIDE]

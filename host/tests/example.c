@@ -1,10 +1,14 @@
-/* The header's calls from C: the paper's sheet, a pluck, a block with a hit, a reading, and a refused call. Prints what differs. */
+/* The header's calls: the paper's sheet, a pluck, a block with a hit, a reading, refused calls, and a block by the exported function
+ * itself, for writers of bindings. Prints what differs. Compiled as C99 and as C++11. */
 #include "buvcsolta.h"
 #include <stdio.h>
 #include <string.h>
 
 enum { COLUMNS = 101, PLACES = 64 };
 
+static const struct buvcsolta_instrument string = {BUVCSOLTA_STRING_FIXED, COLUMNS, 1, 11378, 0, 8};
+static int64_t older[COLUMNS], newer[COLUMNS], work[COLUMNS];
+static const struct buvcsolta_levels levels = {older, newer, work, COLUMNS};
 static int failures;
 
 static void expect(const char *what, int64_t seen, int64_t wanted)
@@ -15,45 +19,75 @@ static void expect(const char *what, int64_t seen, int64_t wanted)
     }
 }
 
+static void expect_refusal(const char *what, uint64_t seen, uint64_t wanted)
+{
+    if (seen != wanted) {
+        printf("%s: %s, not %s\n", what, buvcsolta_refusal_text(seen), buvcsolta_refusal_text(wanted));
+        failures++;
+    }
+}
+
 static void sheet_of_the_paper(void)
 {
-    uint64_t q = 9, m = 9, s = 9;
-    expect("sheet", buvcsolta_sheet(1, COLUMNS, 1, 48000.0, 1.0, 0.0, 0, 100.0, 0.0, 0, 6.0, &q, &m, &s), 0);
-    expect("q", q, 11378);
-    expect("m", m, 0);
-    expect("s", s, 8);
-    expect("a drum in hertz", buvcsolta_sheet(5, 8, 8, 48000.0, 1.0, 0.0, 0, 100.0, 0.0, 0, 6.0, &q, &m, &s), 3);
-    expect("q of a refused sheet", q, 0);
-    expect("s of a refused sheet", s, 0);
+    struct buvcsolta_instrument i = {BUVCSOLTA_STRING_FIXED, COLUMNS, 1, 9, 9, 9};
+    struct buvcsolta_instrument drum = {BUVCSOLTA_MEMBRANE_RECTANGULAR, 8, 8, 9, 9, 9};
+    struct buvcsolta_player_sheet sheet = {48000.0, 1.0, 0.0, 0, 100.0, 0.0, 0, 6.0};
+    expect_refusal("sheet", buvcsolta_instrument_sheet(&i, &sheet), BUVCSOLTA_NOTHING);
+    expect("q", (int64_t)i.q, 11378);
+    expect("m", (int64_t)i.m, 0);
+    expect("s", (int64_t)i.s, 8);
+    expect_refusal("a drum in hertz", buvcsolta_instrument_sheet(&drum, &sheet), BUVCSOLTA_SHEET_NUMBER);
+    expect("settings of a refused sheet", (int64_t)(drum.q | drum.m | drum.s), 0);
 }
 
 static void listing_of_the_paper(void)
 {
     static const int16_t wanted[4] = {1, 0, -1, 0};
-    int64_t older[3] = {0}, newer[3] = {0}, work[3] = {7, 7, 7};
+    int64_t a[3] = {0, 0, 0}, b[3] = {0, 0, 0}, c[3] = {7, 7, 7};
     int16_t samples[4];
     size_t steps = 99;
-    expect("block", buvcsolta_block(1, 3, 1, 65536, 0, 0, older, 3, newer, 3, work, 3, samples, 4, 1, 1, 1, 268435456, &steps), 0);
-    expect("steps", steps, 4);
+    uint64_t refusal = buvcsolta_block(1, 3, 1, 65536, 0, 0, a, 3, b, 3, c, 3, samples, 4, 1, 1, 1, 268435456, &steps);
+    expect_refusal("block", refusal, BUVCSOLTA_NOTHING);
+    expect("steps", (int64_t)steps, 4);
     expect("samples", memcmp(samples, wanted, sizeof wanted), 0);
-    expect("work", work[0] | work[1] | work[2], 0);
+    expect("work", c[0] | c[1] | c[2], 0);
+}
+
+/* A block of the string, picked up in its middle, into the samples below. */
+static int16_t samples[PLACES];
+static size_t steps;
+
+static uint64_t block(const struct buvcsolta_levels *lent, const struct buvcsolta_hit *hit)
+{
+    steps = 99;
+    return buvcsolta_instrument_block(&string, lent, samples, PLACES, 50, hit, &steps);
 }
 
 static void plucked_string(void)
 {
-    static int64_t older[COLUMNS], newer[COLUMNS], work[COLUMNS];
-    int16_t samples[PLACES];
-    size_t steps = 99;
     double value = 9.0;
-    expect("pluck", buvcsolta_pluck(1, COLUMNS, 1, older, COLUMNS, newer, COLUMNS, 50, 10, INT64_C(1) << 40), 0);
-    expect("centre", newer[50], INT64_C(1) << 40);
+    expect_refusal("pluck", buvcsolta_instrument_pluck(&string, &levels, 50, 10, 4096 * BUVCSOLTA_UNITS_PER_SAMPLE), BUVCSOLTA_NOTHING);
+    expect("centre", newer[50], 4096 * BUVCSOLTA_UNITS_PER_SAMPLE);
     expect("beyond the width", newer[39], 0);
-    expect("reading", buvcsolta_reading(1, COLUMNS, 1, newer, COLUMNS, 50, &value), 0);
+    expect_refusal("reading", buvcsolta_instrument_reading(&string, &levels, 50, &value), BUVCSOLTA_NOTHING);
     expect("an eighth", value == 0.125, 1);
-    expect("block", buvcsolta_block(1, COLUMNS, 1, 11378, 0, 8, older, COLUMNS, newer, COLUMNS, work, COLUMNS, samples, PLACES, 50, 0, 0, 0, &steps), 0);
-    expect("steps", steps, PLACES);
-    expect("refused", buvcsolta_block(1, COLUMNS, 1, 11378, 0, 8, older, COLUMNS, newer, COLUMNS, work, 100, samples, PLACES, 50, 0, 0, 0, &steps), 6);
-    expect("steps of a refused block", steps, 0);
+    expect_refusal("block", block(&levels, NULL), BUVCSOLTA_NOTHING);
+    expect("steps", (int64_t)steps, PLACES);
+}
+
+static void refused_calls(void)
+{
+    struct buvcsolta_levels shorter = {older, newer, work, COLUMNS - 1};
+    struct buvcsolta_hit at_the_end = {0, 1}, hard = {50, BUVCSOLTA_CEILING}, harder = {50, BUVCSOLTA_CEILING + 1};
+    expect_refusal("short buffers", block(&shorter, NULL), BUVCSOLTA_WRONG_LENGTH);
+    expect("steps of a refused block", (int64_t)steps, 0);
+    expect_refusal("a fixed point", block(&levels, &at_the_end), BUVCSOLTA_NOT_MOVING);
+    expect_refusal("too hard", block(&levels, &harder), BUVCSOLTA_TOO_STRONG);
+    memset(older, 0, sizeof older);
+    memset(newer, 0, sizeof newer);
+    expect_refusal("the ceiling", block(&levels, &hard), BUVCSOLTA_NEXT_BEYOND);
+    expect("steps before the ceiling", (int64_t)steps, 1);
+    expect("the sample before it", samples[0], 32763);
 }
 
 int main(void)
@@ -61,6 +95,10 @@ int main(void)
     sheet_of_the_paper();
     listing_of_the_paper();
     plucked_string();
-    printf(failures ? "example: %d differences\n" : "example: as the header says\n", failures);
+    refused_calls();
+    if (failures)
+        printf("example: %d differences\n", failures);
+    else
+        printf("example: as the header says\n");
     return failures != 0;
 }

@@ -1,0 +1,54 @@
+/* A second of a plucked string, written to a WAV file: pluck_wav FILE.wav */
+#include "buvcsolta.h"
+#include <stdio.h>
+#include <stdlib.h>
+
+enum { RATE = 48000, POINTS = 101, BLOCK = 64, PICK_UP = 30, LOUD = 16000 };
+
+static int64_t older[POINTS], newer[POINTS], work[POINTS];
+
+static void check(uint64_t refusal)
+{
+    if (refusal == BUVCSOLTA_NOTHING)
+        return;
+    fprintf(stderr, "refused: %s\n", buvcsolta_refusal_text(refusal));
+    exit(1);
+}
+
+/* A number in so many bytes, the lowest first. */
+static void put(FILE *file, uint32_t number, int bytes)
+{
+    for (int k = 0; k < bytes; k++)
+        fputc((int)(number >> 8 * k & 255), file);
+}
+
+/* One channel of 16-bit samples. */
+static void put_header(FILE *file, uint32_t samples)
+{
+    fputs("RIFF", file), put(file, 36 + 2 * samples, 4), fputs("WAVEfmt ", file);
+    put(file, 16, 4), put(file, 1, 2), put(file, 1, 2), put(file, RATE, 4), put(file, 2 * RATE, 4), put(file, 2, 2), put(file, 16, 2);
+    fputs("data", file), put(file, 2 * samples, 4);
+}
+
+int main(int argc, char **argv)
+{
+    struct buvcsolta_instrument string = {BUVCSOLTA_STRING_FIXED, POINTS, 1, 0, 0, 0};
+    struct buvcsolta_player_sheet sheet = {.rate = RATE, .length = 1.0, .speed = 220.0, .loss = 4.0};
+    struct buvcsolta_levels levels = {older, newer, work, POINTS};
+    int16_t samples[BLOCK];
+    size_t steps;
+    FILE *file = argc == 2 ? fopen(argv[1], "wb") : NULL;
+    if (!file) {
+        fputs("usage: pluck_wav FILE.wav\n", stderr);
+        return 1;
+    }
+    check(buvcsolta_instrument_sheet(&string, &sheet));
+    check(buvcsolta_instrument_pluck(&string, &levels, PICK_UP, 25, LOUD * BUVCSOLTA_UNITS_PER_SAMPLE));
+    put_header(file, RATE);
+    for (int done = 0; done < RATE; done += BLOCK) {
+        check(buvcsolta_instrument_block(&string, &levels, samples, BLOCK, PICK_UP, NULL, &steps));
+        for (int k = 0; k < BLOCK; k++)
+            put(file, (uint16_t)samples[k], 2);
+    }
+    return fclose(file) != 0;
+}

@@ -1,0 +1,110 @@
+"""Whether host/include/buvcsolta.h declares what the library exports: names, arguments and their types, refusal numbers, constants.
+
+    python3 check_header.py HEADER.h c_api/src/lib.rt scheme/src/lib.rt LIBRARY.so
+"""
+
+import pathlib
+import re
+import subprocess
+import sys
+
+TYPES = {"u64": "uint64_t", "i64": "int64_t", "i16": "int16_t", "usize": "size_t", "f64": "double"}
+
+
+def c_arguments(name, rattle):
+    """The C arguments of one Rattle argument: a slice is a pointer and a length."""
+    form = re.fullmatch(r"(&mut |&)?(\[)?(\w+)\]?", rattle)
+    if not form or form[3] not in TYPES:
+        raise SystemExit(f"no C type for {name}: {rattle}")
+    if not form[1]:
+        return [f"{TYPES[form[3]]} {name}"]
+    pointer = f"{'const ' if form[1] == '&' else ''}{TYPES[form[3]]} *{name}"
+    return [pointer, f"size_t {name}_length"] if form[2] else [pointer]
+
+
+def exported(source):
+    """{name: prototype} of the extern functions of a Rattle source."""
+    found = {}
+    for name, arguments, answer in re.findall(r'extern "C" fn (\w+)\((.*?)\) -> (\w+)', source, re.S):
+        pairs = [part.strip().split(": ", 1) for part in arguments.split(",") if part.strip()]
+        listed = [argument for pair in pairs for argument in c_arguments(*pair)]
+        found[name] = f"{TYPES[answer]} {name}({', '.join(listed)})"
+    return found
+
+
+def declared(header):
+    """{name: prototype} of the functions that a header declares but does not define."""
+    plain = re.sub(r"/\*.*?\*/", " ", header, flags=re.S)
+    plain = " ".join(line for line in plain.splitlines() if not line.startswith("#"))
+    plain = re.sub(r'^.*?extern "C" \{', "", " ".join(plain.split()))
+    return {name: f"{answer.strip()} {name}({arguments})"
+            for answer, name, arguments in re.findall(r"([\w ]+?)\b(\w+)\(([^()]*)\);", plain) if "return" not in answer}
+
+
+def refusals(source):
+    """{enumerator: number} of the enum of refusals in Rattle."""
+    pairs = re.findall(r"Refusal::(\w+) => (\d+)", source)
+    return {"BUVCSOLTA" + re.sub(r"([A-Z])", r"_\1", name).upper(): int(number) for name, number in pairs}
+
+
+def enumerators(header, name):
+    body = re.search(rf"enum {name} \{{(.*?)\}};", re.sub(r"/\*.*?\*/", "", header, flags=re.S), re.S)
+    return {key: int(value) for key, value in re.findall(r"(\w+) = (\d+)", body[1])} if body else {}
+
+
+def texts(header):
+    """The enumerators that buvcsolta_refusal_text tells in words."""
+    return re.findall(r'case (\w+): return "', header)
+
+
+def constant(header, name):
+    """The value of a constant that is whole numbers, *, << and other constants."""
+    found = re.search(rf"#define BUVCSOLTA_{name} \((.*)\)", header)
+    parts = re.sub(r"INT64_C\((\d+)\)", r"\1", found[1] if found else "0").split()
+    value = None
+    for sign, part in zip(["", *parts[1::2]], parts[::2]):
+        number = int(part) if part.isdigit() else constant(header, part.removeprefix("BUVCSOLTA_"))
+        value = number if value is None else value * number if sign == "*" else value << number
+    return value
+
+
+def symbols(library):
+    said = subprocess.run(["nm", "-D", "--defined-only", library], capture_output=True, text=True, check=True).stdout
+    return {line.split()[2] for line in said.splitlines() if " T " in line}
+
+
+def differences(header, c_api, scheme, names):
+    """What does not agree, a line each."""
+    ours, theirs = exported(c_api), declared(header)
+    wrong = []
+    for name in sorted({*ours, *theirs, *names}):
+        if name not in names:
+            wrong.append(f"{name} is not in the library")
+        if ours.get(name) != theirs.get(name):
+            wrong.append(f"{name}:\n  source {ours.get(name)}\n  header {theirs.get(name)}")
+    numbers, listed = refusals(scheme), enumerators(header, "buvcsolta_refusal")
+    if numbers != listed:
+        wrong.append(f"refusals: {sorted(set(numbers.items()) ^ set(listed.items()))}")
+    if sorted(texts(header)) != sorted(numbers):
+        wrong.append("refusals in words are not those of the source")
+    if list(enumerators(header, "buvcsolta_kind").values()) != [1, 2, 3, 4, 5, 6]:
+        wrong.append("kinds are not 1 to 6")
+    ceiling = re.search(r"const CEILING: i64 = (\d+) \* (\d+);", scheme)
+    units, most = (constant(header, name) for name in ("UNITS_PER_SAMPLE", "CEILING"))
+    if not ceiling or (units, most) != (int(ceiling[2]), int(ceiling[1]) * int(ceiling[2])):
+        wrong.append(f"the ceiling {most} and the units per sample {units} are not those of the source")
+    return wrong if ours and numbers else ["the sources have no exported function or no refusal"]
+
+
+def main():
+    if len(sys.argv) != 5:
+        raise SystemExit(__doc__)
+    header, c_api, scheme = (pathlib.Path(path).read_text(encoding="utf-8") for path in sys.argv[1:4])
+    wrong = differences(header, c_api, scheme, symbols(sys.argv[4]))
+    held = f"the header declares the {len(exported(c_api))} functions and {len(refusals(scheme))} refusals of the library"
+    print(*wrong or [held], sep="\n")
+    return 1 if wrong else 0
+
+
+if __name__ == "__main__":
+    sys.exit(main())

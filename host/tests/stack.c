@@ -1,0 +1,113 @@
+/* The stack that each call needs: calls of every kind and size on a painted stack, and the lowest byte that lost its paint. Prints the
+ * bytes below the caller's frame, arguments and return address included, and fails where they are more than the README says. */
+#include "buvcsolta.h"
+#include <stdio.h>
+#include <stdlib.h>
+#include <string.h>
+#include <ucontext.h>
+
+enum { STACK = 65536, PAINT = 0xA5, POINTS = 4096, PLACES = 5 };
+
+static unsigned char stack[STACK];
+static unsigned char *frame;
+static int64_t older[POINTS], newer[POINTS], work[POINTS];
+static int16_t samples[PLACES];
+static struct buvcsolta_instrument instrument;
+static uint64_t refusal;
+static ucontext_t here, there;
+
+static struct buvcsolta_levels levels(void)
+{
+    struct buvcsolta_levels lent = {older, newer, work, instrument.columns * instrument.rows};
+    return lent;
+}
+
+static void call_block(void)
+{
+    struct buvcsolta_levels lent = levels();
+    struct buvcsolta_hit hit = {instrument.rows / 2 * instrument.columns + instrument.columns / 2, 1000000};
+    size_t steps;
+    frame = __builtin_frame_address(0);
+    refusal = buvcsolta_instrument_block(&instrument, &lent, samples, PLACES, hit.point, &hit, &steps);
+}
+
+static void call_pluck(void)
+{
+    struct buvcsolta_levels lent = levels();
+    frame = __builtin_frame_address(0);
+    refusal = buvcsolta_instrument_pluck(&instrument, &lent, 1, 1, 1000000);
+}
+
+static void call_reading(void)
+{
+    struct buvcsolta_levels lent = levels();
+    double value;
+    frame = __builtin_frame_address(0);
+    refusal = buvcsolta_instrument_reading(&instrument, &lent, 1, &value);
+}
+
+static void call_sheet(void)
+{
+    struct buvcsolta_player_sheet sheet = {48000.0, 1.0, 0.0, 1, 1.0, 1.0, 0, 6.0};
+    struct buvcsolta_instrument i = instrument;
+    frame = __builtin_frame_address(0);
+    refusal = buvcsolta_instrument_sheet(&i, &sheet);
+}
+
+/* The bytes below its frame that a call on a stack of its own needs. */
+static size_t needed(void (*call)(void))
+{
+    size_t clean = 0;
+    memset(stack, PAINT, sizeof stack);
+    memset(older, 0, sizeof older);
+    memset(newer, 0, sizeof newer);
+    getcontext(&there);
+    there.uc_stack.ss_sp = stack;
+    there.uc_stack.ss_size = sizeof stack;
+    there.uc_link = &here;
+    makecontext(&there, call, 0);
+    swapcontext(&here, &there);
+    while (clean < sizeof stack && stack[clean] == PAINT)
+        clean++;
+    return (size_t)(frame - (stack + clean));
+}
+
+/* The most of a call, over every kind at its least and largest size. */
+static size_t most(void (*call)(void))
+{
+    static const size_t sides[2][2] = {{3, 1024}, {5, 64}};
+    size_t found = 0;
+    for (uint64_t kind = 1; kind <= 6; kind++)
+        for (int large = 0; large < 2; large++) {
+            size_t side = sides[kind >= 5][large], bytes;
+            struct buvcsolta_instrument i = {kind, side, kind >= 5 ? side : 1, 10000, kind == 4 ? 9000 : 0, 3};
+            instrument = i;
+            bytes = needed(call);
+            if (refusal != BUVCSOLTA_NOTHING && !(call == call_pluck && kind >= 5)) {
+                printf("kind %d, %d columns: %s\n", (int)kind, (int)side, buvcsolta_refusal_text(refusal));
+                exit(1);
+            }
+            found = bytes > found ? bytes : found;
+        }
+    return found;
+}
+
+int main(int argc, char **argv)
+{
+    static void (*const calls[4])(void) = {call_block, call_pluck, call_reading, call_sheet};
+    static const char *const names[4] = {"block", "pluck", "reading", "sheet"};
+    int passed = 0;
+    if (argc != 5) {
+        fputs("usage: stack BLOCK PLUCK READING SHEET, the bytes that each may need\n", stderr);
+        return 2;
+    }
+    for (int k = 0; k < 4; k++)
+        most(calls[k]); /* a dynamic linker looks memset up on the caller's stack in the first call */
+    for (int k = 0; k < 4; k++) {
+        size_t bytes = most(calls[k]);
+        printf("%s%s %zu", k ? ", " : "bytes of stack: ", names[k], bytes);
+        passed |= bytes > strtoul(argv[k + 1], 0, 10);
+    }
+    puts(passed ? ": more than allowed" : "");
+    return passed;
+}

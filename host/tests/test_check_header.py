@@ -1,0 +1,51 @@
+"""Wrong headers that check_header.py must find.
+
+    python3 test_check_header.py HEADER.h c_api/src/lib.rt scheme/src/lib.rt
+"""
+
+import pathlib
+import sys
+
+from check_header import differences, exported
+
+# (what is wrong, text of the header, text in its place)
+EDITS = (
+    ("a function left out", "uint64_t buvcsolta_pluck(uint64_t kind, size_t columns", "uint64_t other(uint64_t kind, size_t columns"),
+    ("a wrong name", "uint64_t buvcsolta_reading(uint64_t", "uint64_t buvcsolta_read(uint64_t"),
+    ("an argument left out", "size_t pick_up, uint64_t hit, ", "size_t pick_up, "),
+    ("an argument too many", "double *value);", "double *value, size_t more);"),
+    ("arguments exchanged", "uint64_t q, uint64_t m, uint64_t s,\n", "uint64_t m, uint64_t q, uint64_t s,\n"),
+    ("samples of 32 bits", "int16_t *samples, size_t samples_length,\n                         size_t",
+     "int32_t *samples, size_t samples_length,\n                         size_t"),
+    ("a signed kind", "uint64_t buvcsolta_sheet(uint64_t kind", "uint64_t buvcsolta_sheet(int64_t kind"),
+    ("a number for a pointer", "uint64_t *q, uint64_t *m, uint64_t *s);", "uint64_t *q, uint64_t *m, uint64_t s);"),
+    ("a float of 32 bits", "double loss,\n", "float loss,\n"),
+    ("newer may be written", "const int64_t *newer", "int64_t *newer"),
+    ("an answer of 32 bits", "uint64_t buvcsolta_block(", "uint32_t buvcsolta_block("),
+    ("a wrong refusal", "BUVCSOLTA_PICK_UP = 9", "BUVCSOLTA_PICK_UP = 10"),
+    ("a refusal without words", "case BUVCSOLTA_HALF_WIDTH: return", "case 10: return"),
+    ("a wrong kind", "BUVCSOLTA_BAR = 4", "BUVCSOLTA_BAR = 5"),
+    ("a wrong ceiling", "INT64_C(32767)", "INT64_C(32768)"),
+    ("wrong units", "(INT64_C(1) << 28)", "(INT64_C(1) << 27)"),
+)
+
+
+def main():
+    if len(sys.argv) != 4:
+        raise SystemExit(__doc__)
+    header, c_api, scheme = (pathlib.Path(path).read_text(encoding="utf-8") for path in sys.argv[1:])
+    names = set(exported(c_api))
+    faults = [f"the header itself: {wrong}" for wrong in differences(header, c_api, scheme, names)]
+    for what, text, other in EDITS:
+        if header.count(text) != 1:
+            faults.append(f"not once in the header: {text!r}")
+        elif not differences(header.replace(text, other), c_api, scheme, names):
+            faults.append(f"not found: {what}")
+    if not differences(header, c_api, scheme, names - {"buvcsolta_sheet"}):
+        faults.append("not found: a library without buvcsolta_sheet")
+    print(*faults or [f"{len(EDITS) + 1} wrong headers and libraries found"], sep="\n")
+    return 1 if faults else 0
+
+
+if __name__ == "__main__":
+    sys.exit(main())
