@@ -1,4 +1,4 @@
--- The moving columns of every row, kept in two lists.
+-- The moving columns of every row, kept in two lists. Vocabulary of private functions.
 use mathlib.Core.Path.{_≡_}
 use mathlib.Core.List.{List}
 use Prim.Native.Nat.{ℕ, _<_}

@@ -1,4 +1,4 @@
--- A search from 0 upward.
+-- A search from 0 upward. Vocabulary of private functions.
 use mathlib.Core.Path.{_≡_}
 use mathlib.Core.Bool.{Bool, true, cond}
 use Prim.Native.Nat.{ℕ, zero, suc, _≤_, _<_}

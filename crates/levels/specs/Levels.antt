@@ -1,4 +1,4 @@
--- Points of a level that are not 0.
+-- Points of a level that are not 0. Vocabulary between the engine's crates: no call that a maker embeds cites it.
 use mathlib.Core.Bool.{Bool, _&&_, _||_}
 use mathlib.Core.List.{List}
 use Prim.Native.Nat.{ℕ, _+_, _-_}

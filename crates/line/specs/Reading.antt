@@ -1,4 +1,4 @@
--- What the functions that read a line promise each other.
+-- What the functions that read a line promise each other. Vocabulary of private functions.
 use mathlib.Core.Path.{_≡_}
 use mathlib.Core.Bool.{true, false, cond}
 use mathlib.Core.List.{List}

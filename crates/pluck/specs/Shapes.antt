@@ -1,4 +1,4 @@
--- The shape that a pluck gives to a line, and what it leaves.
+-- The shape that a pluck gives to a line, and what it leaves. Vocabulary of private functions.
 use mathlib.Core.Path.{_≡_}
 use mathlib.Core.Bool.{_&&_, cond}
 use mathlib.Core.List.{List}
