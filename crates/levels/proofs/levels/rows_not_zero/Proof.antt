@@ -1,10 +1,14 @@
 -- `rows_not_zero` meets its contract: the rows passed have 0 outside their runs.
 use mathlib.Core.Path.{_≡_, sym, ap, ap₂, _∙_, subst}
-use mathlib.Core.Bool.{not}
+use mathlib.Core.Bool.{true, not}
+use mathlib.Core.List.{List}
 use Prim.Native.Nat.{ℕ, _+_, _-_, _*_, _≤_}
 use native.Mathlib.Omega.{arith}
 use borrow.Author.Needs.{needs}
+use lib.IntN.{ℤ}
 use lib.ListN.{length}
+use Rattle.scheme.specs.declared.Grid.{Grid}
+use Rattle.scheme.specs.Instruments.{inTable, points}
 use Rattle.scheme.proofs.Laws.Lists.{some-at}
 use Rattle.scheme.proofs.Laws.Kinds.{sized}
 use Rattle.kinds.specs.declared.runs.Run.{Run}
@@ -25,28 +29,34 @@ Inv-loop g xs columns rows row₀ start₀ row start =
 abbrev μ-loop : tie.MeasureT-loop
 μ-loop g xs columns rows row₀ start₀ row start = g .rows - row
 
--- the row lies in the level
-room : (c : tie.After-movable-run Inv-loop μ-loop) → c .before .before .loop .start + c .before .before .before .args .g .columns
-    ≤ length (c .before .before .before .args .xs .now)
-room c =
-    let g = c .before .before .before .args .g in
-    omega (
-      arith,
-      c .before .before .loop .inv .0,
-      c .before .before .before .pre .1,
-      row-inside (c .before .before .loop .row) (g .rows) (g .columns) (c .before .loop-test .taken),
-    )
+-- a turn of the loop: its grid, its level, its row
+module _ (c : tie.After-movable-run Inv-loop μ-loop) where
+  abbrev g : Grid
+  g = c .before .before .before .args .g
+
+  abbrev xs : List ℤ
+  xs = c .before .before .before .args .xs .now
+
+  abbrev b : ℕ
+  b = c .before .before .loop .row
+
+  sound : (inTable g ≡ true) × (length xs ≡ points g)
+  sound = c .before .before .before .pre
+
+  start-is : c .before .before .loop .start ≡ b * g .columns
+  start-is = c .before .before .loop .inv .0
+
+  -- the row lies in the level
+  room : c .before .before .loop .start + g .columns ≤ length xs
+  room = omega (arith, start-is, sound .1, row-inside b (g .rows) (g .columns) (c .before .loop-test .taken))
 
 -- what row_not_zero answered of the row
-found : (c : tie.After-row-not-zero Inv-loop μ-loop) → c .row-not-zero .result ≡
-    (let g = c .before .before .before .before .args .g in
-    let b = c .before .before .before .loop .row in
-    rowNotZero (c .before .before .before .before .args .xs .now) (b * g .columns) (g .columns) (runOf g b))
+found : (c : tie.After-row-not-zero Inv-loop μ-loop) → c .row-not-zero .result
+    ≡ rowNotZero (xs (c .before)) (b (c .before) * g (c .before) .columns) (g (c .before) .columns) (runOf (g (c .before)) (b (c .before)))
 found c =
-    c .row-not-zero .ensures ∙
-    ap₂ (λ (n : ℕ) (r : Run). rowNotZero (c .before .before .before .before .args .xs .now) n
-    (c .before .before .before .before .args .g .columns) r)
-    (c .before .before .before .loop .inv .0) (c .before .movable-run .ensures)
+    let t = c .before in
+    c .row-not-zero .ensures
+    ∙ ap₂ (λ (n : ℕ) (r : Run). rowNotZero (xs t) n (g t .columns) r) (start-is t) (t .movable-run .ensures)
 
 loop-holds : tie.Need-loop-holds Inv-loop μ-loop
 loop-holds c = (omega arith, passed-none _ _)
@@ -56,17 +66,16 @@ movable-run-requires c κs = tt
 
 row-not-zero-requires : tie.Need-row-not-zero-requires Inv-loop μ-loop
 row-not-zero-requires c κs =
-    let w = subst (RunIn (c .before .before .before .args .g .columns)) (sym (c .movable-run .ensures)) (run-bounds _ _) in
+    let w = subst (RunIn (g c .columns)) (sym (c .movable-run .ensures)) (run-bounds _ _) in
     (omega (arith, w .rising, w .inside), w .inside, room c)
 
 returns : tie.Need-returns Inv-loop μ-loop
 returns c =
-    let s = c .before .before .before .before .before in
-    sym (rows-test _ _ (s .pre .0) (s .pre .1) ∙ some-at _ _ (c .before .before .before .before .loop .row) (omega arith)
-    (sym (found (c .before)) ∙ c .if1 .taken))
+    let t = c .before .before in
+    sym (rows-test _ _ (sound t .0) (sound t .1) ∙ some-at _ _ (b t) (omega arith) (sym (found (c .before)) ∙ c .if1 .taken))
 
 add-row : tie.Need-add-row Inv-loop μ-loop
-add-row c = omega (arith, sized _ _ _ (c .before .before .before .before .before .pre .0) .rows-high)
+add-row c = omega (arith, sized _ _ _ (sound (c .before .before) .0) .rows-high)
 
 add-start : tie.Need-add-start Inv-loop μ-loop
 add-start c = omega (arith, room (c .before .before))
@@ -76,10 +85,9 @@ loop-less c = search needs
 
 loop-again : tie.Need-loop-again Inv-loop μ-loop
 loop-again c =
-    let l = c .before .before .before .before .loop in
-    let g = c .before .before .before .before .before .args .g in (
-      ap (λ (n : ℕ). n + g .columns) (l .inv .0) ∙ next-row (l .row) (g .columns),
-      passed-more _ _ (omega arith) (l .inv .1) (ap not (sym (found (c .before)) ∙ c .if1 .left)),
+    let t = c .before .before in (
+      ap (λ (n : ℕ). n + g t .columns) (start-is t) ∙ next-row (b t) (g t .columns),
+      passed-more _ _ (omega arith) (t .before .before .loop .inv .1) (ap not (sym (found (c .before)) ∙ c .if1 .left)),
     )
 
 returns-2 : tie.Need-returns-2 Inv-loop μ-loop
