@@ -1,6 +1,6 @@
 -- L along a bar: what the list of its values has at each place.
-use mathlib.Core.Path.{_≡_, refl, sym, ap, _∙_, subst}
-use mathlib.Core.Bool.{Bool, true, false, not, _&&_, cond}
+use mathlib.Core.Path.{_≡_, refl, sym, ap, _∙_}
+use mathlib.Core.Bool.{Bool, true, not, _&&_, cond}
 use mathlib.Core.List.{List}
 use mathlib.Core.Logic.{_⊎_, inl, inr}
 use Prim.Native.Nat.{ℕ, _+_, _-_, _≤_, _<_}
@@ -54,7 +54,8 @@ module _ (g : Grid) (is-bar : kind g ≡ bar) (line : g .rows ≡ 1) where
   bar-moving k p e =
       ap (λ (t : Bool). t && not (fixed g k)) (lt-ltb k (points g) (omega (arith, line-long g line))) ∙
       ap not
-      (ap (λ (K : Kind). fixedIn K (g .columns) (g .rows) (column g k) (row g k)) is-bar ∙ ap (λ (a : ℕ). atEdge (g .columns) a) (N.mod-eq-of-lt p) ∙ e)
+      (ap (λ (K : Kind). fixedIn K (g .columns) (g .rows) (column g k) (row g k)) is-bar
+      ∙ ap (λ (a : ℕ). atEdge (g .columns) a) (N.mod-eq-of-lt p) ∙ e)
 
   -- "L counts as 0 at the supported ends"
   end-zero : (a : ℕ → ℤ) (k : ℕ) → k < g .columns → Edge (g .columns) k → innerLaplacian g a k ≡ pos 0
@@ -69,7 +70,8 @@ module _ (g : Grid) (is-bar : kind g ≡ bar) (line : g .rows ≡ 1) where
       two-laplacian g (point xs) k (k - 1) (k + 1) (line-inner g k line (omega arith) h l)
 
   -- two places are set to 0, then the inner points are filled in
-  module _ {from to : ℕ} (on : OnLine g from to) (some : from < to) (few : to ≤ from + 64) (xs ls₀ ls : List ℤ) (long : length ls₀ ≡ 66) where
+  module _ {from to : ℕ} (on : OnLine g from to) (some : from < to) (few : to ≤ from + 64) (xs ls₀ ls : List ℤ)
+      (long : length ls₀ ≡ 66) where
     abbrev base : ℕ
     base = from - 1
 
@@ -90,7 +92,8 @@ module _ (g : Grid) (is-bar : kind g ≡ bar) (line : g .rows ≡ 1) where
     last-inner : ((clamp 1 last (to + 1) ≡ to + 1) × (to < last)) ⊎ ((clamp 1 last (to + 1) ≡ last) × (to ≡ last))
     last-inner = go (decLt to last) (on .first) (on .last)
       where
-        go : Dec (to < last) → 1 ≤ from → to + 1 ≤ g .columns → ((clamp 1 last (to + 1) ≡ to + 1) × (to < last)) ⊎ ((clamp 1 last (to + 1) ≡ last) × (to ≡ last))
+        go : Dec (to < last) → 1 ≤ from → to + 1 ≤ g .columns
+            → ((clamp 1 last (to + 1) ≡ to + 1) × (to < last)) ⊎ ((clamp 1 last (to + 1) ≡ last) × (to ≡ last))
         go (yes h) f l = inl (clamp-inside 1 last (omega arith) (to + 1) (omega arith) (omega arith), h)
         go (no h) f l = inr (clamp-after 1 last (omega arith) (to + 1) (omega (arith, h)), omega (arith, h))
 
@@ -104,7 +107,8 @@ module _ (g : Grid) (is-bar : kind g ≡ bar) (line : g .rows ≡ 1) where
       zero-last = getD-set-same (set ls₀ 0 (pos 0)) (to - base) (pos 0) (pos 0) (omega (arith, length-set ls₀ 0 (pos 0), on .first))
 
       -- point k at its place
-      at-place : (k : ℕ) → base ≤ k → k ≤ to → Dec (k < clamp 1 last base) → Dec (k < clamp 1 last (to + 1)) → point ls (k - base) ≡ innerLaplacian g (point xs) k
+      at-place : (k : ℕ) → base ≤ k → k ≤ to → Dec (k < clamp 1 last base) → Dec (k < clamp 1 last (to + 1)) → point ls (k - base)
+          ≡ innerLaplacian g (point xs) k
       at-place k a b (yes h) d = before first-inner
         where
           before : (clamp 1 last base ≡ 1) ⊎ ((clamp 1 last base ≡ base) × (1 < base)) → point ls (k - base) ≡ innerLaplacian g (point xs) k
@@ -114,18 +118,21 @@ module _ (g : Grid) (is-bar : kind g ≡ bar) (line : g .rows ≡ 1) where
               fill .kept (k - base) (inr (inl (omega arith))) ∙ ap (point ls₁) (omega arith) ∙ zero-first ∙
               sym (end-zero (point xs) k (omega (arith, on .last)) (inl z))
       at-place k a b (no h) (yes d) =
-          fill .written refl k (omega (arith, h)) d ∙ sym (inner-is xs k (omega (arith, h, above first-inner)) (omega (arith, d, below last-inner)))
+          fill .written refl k (omega (arith, h)) d ∙ sym
+          (inner-is xs k (omega (arith, h, above first-inner)) (omega (arith, d, below last-inner)))
         where
           above : (clamp 1 last base ≡ 1) ⊎ ((clamp 1 last base ≡ base) × (1 < base)) → 1 ≤ clamp 1 last base
           above (inl e) = omega (arith, e)
           above (inr e) = omega (arith, e .0, e .1)
 
-          below : ((clamp 1 last (to + 1) ≡ to + 1) × (to < last)) ⊎ ((clamp 1 last (to + 1) ≡ last) × (to ≡ last)) → clamp 1 last (to + 1) ≤ last
+          below : ((clamp 1 last (to + 1) ≡ to + 1) × (to < last)) ⊎ ((clamp 1 last (to + 1) ≡ last) × (to ≡ last)) → clamp 1 last (to + 1)
+              ≤ last
           below (inl e) = omega (arith, e .0, e .1)
           below (inr e) = omega (arith, e .0)
       at-place k a b (no h) (no d) = after last-inner
         where
-          after : ((clamp 1 last (to + 1) ≡ to + 1) × (to < last)) ⊎ ((clamp 1 last (to + 1) ≡ last) × (to ≡ last)) → point ls (k - base) ≡ innerLaplacian g (point xs) k
+          after : ((clamp 1 last (to + 1) ≡ to + 1) × (to < last)) ⊎ ((clamp 1 last (to + 1) ≡ last) × (to ≡ last)) → point ls (k - base)
+              ≡ innerLaplacian g (point xs) k
           after (inl e) = absurd (omega (arith, e .0, d))
           after (inr e) =
               let z : k ≡ to = omega (arith, e .0, e .1, d) in
@@ -141,7 +148,8 @@ module _ (g : Grid) (is-bar : kind g ≡ bar) (line : g .rows ≡ 1) where
       }
 
 -- moving points of a bar are inner points of a line
-pub bar-line : (i : Instrument) → InstrumentPasses i → kind (i .grid) ≡ bar → {from to : ℕ} → Moves (i .grid) from to → from < to → OnLine (i .grid) from to
+pub bar-line : (i : Instrument) → InstrumentPasses i → kind (i .grid) ≡ bar → {from to : ℕ} → Moves (i .grid) from to → from < to
+    → OnLine (i .grid) from to
 bar-line i ok b {from} {to} all some =
     let line = bar-one-row i ok b in
     let first = bar-inner i ok line from (all .each from (omega arith) some) b in

@@ -76,7 +76,8 @@ module _ (i : Instrument) (ok : InstrumentPasses i) where
       go (inr e) = e
 
   -- neighbours, where L of L does not count
-  soft-beside : (newer : List ℤ) (k : ℕ) (sum : ℤ) (js : List ℕ) → k < points g → m ≡ 0 → neighbours g k ≡ js → sum ≡ sumOver js (point newer)
+  soft-beside : (newer : List ℤ) (k : ℕ) (sum : ℤ) (js : List ℕ) → k < points g → m ≡ 0 → neighbours g k ≡ js → sum
+      ≡ sumOver js (point newer)
       → Neighbouring i newer k sum (pos (length js)) (pos 0)
   soft-beside newer k sum js h soft e s = record {
     inside = h;
@@ -88,7 +89,8 @@ module _ (i : Instrument) (ok : InstrumentPasses i) where
 
   -- ---- a line
 
-  module _ {from to : ℕ} (on : OnLine g from to) (newer ls : List ℤ) (low : AtMost ceiling (point newer)) (has : (m ≡ 0) ⊎ LaplaciansOf g newer from to ls)
+  module _ {from to : ℕ} (on : OnLine g from to) (newer ls : List ℤ) (low : AtMost ceiling (point newer))
+      (has : (m ≡ 0) ⊎ LaplaciansOf g newer from to ls)
       (k : ℕ) (first : from ≤ k) (last : k < to) where
     beside-is : neighbours g k ≡ (k - 1) ∷ (k + 1) ∷ []
     beside-is = line-inner g k (on .line) (omega (arith, on .last)) (omega (arith, on .first)) (omega (arith, on .last))
@@ -123,18 +125,21 @@ module _ (i : Instrument) (ok : InstrumentPasses i) where
         let before : point ls (k - from) ≡ l (k - 1) = place n (k - from) (omega arith) (omega arith) ∙ ap l (omega arith) in
         let here : point ls (k - from + 1) ≡ l k = place n (k - from + 1) (omega arith) (omega arith) ∙ ap l (omega arith) in
         let after : point ls (k - from + 2) ≡ l (k + 1) = place n (k - from + 2) (omega arith) (omega arith) ∙ ap l (omega arith) in
-        ap (λ (t : Bool). cond t (pos 0) (point ls (k - from) +ℤ point ls (k - from + 2) -ℤ pos 2 *ℤ point ls (k - from + 1))) (ne-eqb m 0 n) ∙
+        ap (λ (t : Bool). cond t (pos 0) (point ls (k - from) +ℤ point ls (k - from + 2) -ℤ pos 2 *ℤ point ls (k - from + 1)))
+        (ne-eqb m 0 n) ∙
         (λ j. before j +ℤ after j -ℤ pos 2 *ℤ here j) ∙
         sym (two-laplacian g l k (k - 1) (k + 1) beside-is)
 
     bends-not : m ≡ 0 → bendingOf m ls (k - from) ≡ pos 0
-    bends-not e = ap (λ (t : Bool). cond t (pos 0) (point ls (k - from) +ℤ point ls (k - from + 2) -ℤ pos 2 *ℤ point ls (k - from + 1))) (eq-eqb m 0 e)
+    bends-not e = ap (λ (t : Bool). cond t (pos 0) (point ls (k - from) +ℤ point ls (k - from + 2) -ℤ pos 2 *ℤ point ls (k - from + 1)))
+        (eq-eqb m 0 e)
 
     bend-low : Dec (m ≡ 0) → natAbs (bendingOf m ls (k - from)) ≤ 64 * ceiling
     bend-low (yes e) = subst (λ (z : ℤ). natAbs z ≤ 64 * ceiling) (sym (bends-not e)) zero-le
     bend-low (no n) =
         let value# : (j : ℕ) → k - from ≤ j → j ≤ k - from + 2 → E = λ j a b. at (point ls j) (4 * ceiling) (bendable .low n j a b) in
-        subst (λ (t : Bool). natAbs (cond t (pos 0) (point ls (k - from) +ℤ point ls (k - from + 2) -ℤ pos 2 *ℤ point ls (k - from + 1))) ≤ 64 * ceiling)
+        subst (λ (t : Bool). natAbs (cond t (pos 0) (point ls (k - from) +ℤ point ls (k - from + 2) -ℤ pos 2 *ℤ point ls (k - from + 1)))
+        ≤ 64 * ceiling)
         (sym (ne-eqb m 0 n))
         (N.le-trans (size (value# (k - from) (omega arith) (omega arith) ⊞ value# (k - from + 2) (omega arith) (omega arith) ⊟
         num 2 ⊠ value# (k - from + 1) (omega arith) (omega arith)) tt) (omega arith))
@@ -179,10 +184,12 @@ module _ (i : Instrument) (ok : InstrumentPasses i) where
     }
 
     pub first-free : FreeEnd i 1 (clamp from to 0) (clamp from to 1)
-    first-free = subst (λ (a : ℕ). FreeEnd i 1 a (clamp from to 1)) (sym (clamp-before from to (omega arith) 0 zero-le)) (go (ℕ-discrete from 0))
+    first-free = subst (λ (a : ℕ). FreeEnd i 1 a (clamp from to 1)) (sym (clamp-before from to (omega arith) 0 zero-le))
+        (go (ℕ-discrete from 0))
       where
         go : Dec (from ≡ 0) → FreeEnd i 1 from (clamp from to 1)
-        go (no n) = subst (FreeEnd i 1 from) (sym (clamp-before from to (omega arith) 1 (omega arith))) (no-end 1 from (omega (arith, wide i ok)))
+        go (no n) = subst (FreeEnd i 1 from) (sym (clamp-before from to (omega arith) 1 (omega arith)))
+            (no-end 1 from (omega (arith, wide i ok)))
         go (yes e) =
             let moves : moving g from ≡ true = all .each from (omega arith) some in
             subst (FreeEnd i 1 from) (sym (clamp-inside from to (omega arith) 1 (omega arith) (omega arith)))
@@ -190,16 +197,19 @@ module _ (i : Instrument) (ok : InstrumentPasses i) where
               one = omega arith;
               inside = omega (arith, line-long g line, wide i ok);
               there = λ l. omega (arith, line-long g line, wide i ok);
-              twice = λ l. line-first g from line (omega (arith, wide i ok)) e (omega (arith, wide i ok)) (line-free i ok line from moves (inl e)) ∙ ap (λ (j : ℕ). j ∷ j ∷ []) (omega arith);
+              twice = λ l. line-first g from line (omega (arith, wide i ok)) e (omega (arith, wide i ok))
+                  (line-free i ok line from moves (inl e)) ∙ ap (λ (j : ℕ). j ∷ j ∷ []) (omega arith);
               soft = λ l. end-soft from moves (inl e);
             })
 
     pub last-free : (n : ℕ) → n ≡ g .columns → FreeEnd i (n - 2) (clamp from to (n - 1)) (clamp from to n)
-    last-free n long = subst (FreeEnd i (n - 2) (clamp from to (n - 1))) (sym (clamp-after from to (omega arith) n (omega (arith, within-line)))) (go (ℕ-discrete to n))
+    last-free n long = subst (FreeEnd i (n - 2) (clamp from to (n - 1)))
+        (sym (clamp-after from to (omega arith) n (omega (arith, within-line)))) (go (ℕ-discrete to n))
       where
         go : Dec (to ≡ n) → FreeEnd i (n - 2) (clamp from to (n - 1)) to
         go (no d) =
-            subst (λ (a : ℕ). FreeEnd i (n - 2) a to) (sym (clamp-after from to (omega arith) (n - 1) (omega (arith, within-line)))) (no-end (n - 2) to (omega (arith, wide i ok)))
+            subst (λ (a : ℕ). FreeEnd i (n - 2) a to) (sym (clamp-after from to (omega arith) (n - 1) (omega (arith, within-line))))
+            (no-end (n - 2) to (omega (arith, wide i ok)))
         go (yes e) =
             let end : n - 1 + 1 ≡ g .columns = omega (arith, wide i ok) in
             let moves : moving g (n - 1) ≡ true = all .each (n - 1) (omega arith) (omega arith) in
@@ -208,7 +218,8 @@ module _ (i : Instrument) (ok : InstrumentPasses i) where
               one = omega arith;
               inside = omega (arith, line-long g line, wide i ok);
               there = λ l. omega (arith, line-long g line, wide i ok);
-              twice = λ l. line-last g (n - 1) line (omega arith) end (omega (arith, wide i ok)) (line-free i ok line (n - 1) moves (inr end)) ∙ ap (λ (j : ℕ). j ∷ j ∷ []) (omega arith);
+              twice = λ l. line-last g (n - 1) line (omega arith) end (omega (arith, wide i ok))
+                  (line-free i ok line (n - 1) moves (inr end)) ∙ ap (λ (j : ℕ). j ∷ j ∷ []) (omega arith);
               soft = λ l. end-soft (n - 1) moves (inr end);
             })
 
@@ -221,7 +232,8 @@ module _ (i : Instrument) (ok : InstrumentPasses i) where
   -- ---- a grid
 
   pub grid-beside : (g .rows ≡ 1 → ⊥) → (newer : List ℤ) (k : ℕ) → moving g k ≡ true
-      → Neighbouring i newer k (point newer (k - 1) +ℤ point newer (k + 1) +ℤ point newer (k - g .columns) +ℤ point newer (k + g .columns)) (pos 4) (pos 0)
+      → Neighbouring i newer k (point newer (k - 1) +ℤ point newer (k + 1) +ℤ point newer (k - g .columns) +ℤ point newer (k + g .columns))
+      (pos 4) (pos 0)
   grid-beside grid newer k mk =
       let n = grid-in i ok grid k mk in
       soft-beside newer k _ _ (omega (arith, grid-below g k (n .1) (n .3))) (grid-soft i ok grid)

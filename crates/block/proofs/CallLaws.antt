@@ -1,6 +1,6 @@
 -- A block that 1 to 12 let pass: what its steps are given, and what the call leaves.
 use mathlib.Core.Path.{_≡_, sym, ap, _∙_, subst}
-use mathlib.Core.Bool.{Bool, cond}
+use mathlib.Core.Bool.{cond}
 use mathlib.Core.List.{List}
 use Prim.Native.Nat.{ℕ, _<_}
 use lib.Dec.{ltb}
@@ -21,7 +21,8 @@ use Rattle.block.specs.Plan.{Planned}
 use Rattle.block.specs.Roles.{Room, Steppable, Played}
 use Rattle.block.proofs.RoleLaws.{zeros}
 
-module _ (i : Instrument) (older newer work : List ℤ) (pick : ℕ) (h : Hit) (e : blockRefusal i older newer (wrongLength (i .grid) (length work)) pick h ≡ Nothing)
+module _ (i : Instrument) (older newer work : List ℤ) (pick : ℕ) (h : Hit)
+    (e : blockRefusal i older newer (wrongLength (i .grid) (length work)) pick h ≡ Nothing)
     (p : Plan) (own : p .instrument ≡ i) where
   passes : BlockPasses (p .instrument) older newer (wrongLength (i .grid) (length work)) pick h
   passes =
@@ -64,10 +65,13 @@ module _ (i : Instrument) (older newer work : List ℤ) (pick : ℕ) (h : Hit) (
         let same : play (p .instrument) pick h older newer samples ≡ play i pick h older newer samples =
         ap (λ (i : Instrument). play i pick h older newer samples) own in
         let steps = s .done-is ∙ ap (λ (p : AfterSteps). p .answer .steps) same in
-        let places : length samples₁ ≡ length samples = ap length (s .samples-are) ∙ stands-behind (p .instrument) pick h older newer samples .places-long in
-        let why = d ∙ ap (λ (n : ℕ). cond (ltb done n) NextBeyond Nothing) places ∙ sym (s .refusal-is) ∙ ap (λ (p : AfterSteps). p .answer .refusal) same in
+        let places : length samples₁ ≡ length samples =
+        ap length (s .samples-are) ∙ stands-behind (p .instrument) pick h older newer samples .places-long in
+        let why = d ∙ ap (λ (n : ℕ). cond (ltb done n) NextBeyond Nothing) places ∙ sym (s .refusal-is)
+        ∙ ap (λ (p : AfterSteps). p .answer .refusal) same in
         let first = s .older-is ∙ ap (λ (p : AfterSteps). p .older) same in
         let second = s .newer-is ∙ ap (λ (p : AfterSteps). p .newer) same in
         let room = z ∙ ap (λ (n : ℕ). replicate n (pos 0)) (l ∙ work-long) in
         let out = s .samples-are ∙ ap (λ (p : AfterSteps). p .samples) same in
-        (λ k. blockLeft (record { steps = steps k; refusal = why k }) (first k) (second k) (room k) (out k)) ∙ sym (block-done i older newer work samples pick h e)
+        (λ k. blockLeft (record { steps = steps k; refusal = why k }) (first k) (second k) (room k) (out k))
+        ∙ sym (block-done i older newer work samples pick h e)

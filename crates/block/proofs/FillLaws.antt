@@ -57,7 +57,8 @@ module _ (v : ℕ → ℤ) (write : Bool) (base : ℕ) where
       other j (inr (inr h)) s = omega arith
 
   module _ {out₀ out₁ out₂ : List ℤ} {a b c : ℕ} where
-    pub filled-append : base ≤ a → a ≤ b → b ≤ c → Filled v write base out₀ out₁ a b → Filled v write base out₁ out₂ b c → Filled v write base out₀ out₂ a c
+    pub filled-append : base ≤ a → a ≤ b → b ≤ c → Filled v write base out₀ out₁ a b → Filled v write base out₁ out₂ b c
+        → Filled v write base out₀ out₂ a c
     filled-append above l m p q = record {
       long = q .long ∙ p .long;
       written = λ w k s h. by k (λ t. q .kept (k - base) (inr (inl (omega arith))) ∙ p .written w k s t) (λ t. q .written w k t h);
@@ -79,7 +80,8 @@ module _ (v : ℕ → ℤ) (write : Bool) (base : ℕ) where
   filled-there out a b there = record { long = refl; written = λ w. there; kept = λ j o. refl }
 
 -- from the first place to the last, all written
-pub filled-all : {v : ℕ → ℤ} {out₀ out : List ℤ} {k : ℕ} (xs : List ℤ) → length out₀ ≤ k → length xs ≡ length out₀ → ((j : ℕ) → v j ≡ point xs j)
+pub filled-all : {v : ℕ → ℤ} {out₀ out : List ℤ} {k : ℕ} (xs : List ℤ) → length out₀ ≤ k → length xs ≡ length out₀
+    → ((j : ℕ) → v j ≡ point xs j)
     → Filled v true 0 out₀ out 0 k → out ≡ xs
 filled-all {v} {out₀} {out} {k} xs h l same f =
     ext-getD (pos 0) out xs (f .long ∙ sym l)
@@ -122,12 +124,14 @@ module _ {v : ℕ → ℤ} {write : Bool} {base : ℕ} where
 
   module _ {out₀ out₁ out₂ : List ℤ} {a b c : ℕ} where
     -- one run after the other
-    pub ran-append : {fine : Bool} → base ≤ a → a ≤ b → b ≤ c → Ran v write base out₀ out₁ a b true → Ran v write base out₁ out₂ b c fine → Ran v write base out₀ out₂ a c fine
+    pub ran-append : {fine : Bool} → base ≤ a → a ≤ b → b ≤ c → Ran v write base out₀ out₁ a b true → Ran v write base out₁ out₂ b c fine
+        → Ran v write base out₀ out₂ a c fine
     ran-append above l m p q = record {
       long = q .long ∙ p .long;
       filled = λ t. filled-append v write base above l m (p .filled refl) (q .filled t);
       low = λ t k s h. by k (λ u. p .low refl k s u) (λ u. q .low t k u h);
-      stopped = λ t. let o = q .stopped t in record { at = o .at; first = omega (arith, o .first); last = o .last; beyond-there = o .beyond-there };
+      stopped = λ t. let o = q .stopped t in record
+          { at = o .at; first = omega (arith, o .first); last = o .last; beyond-there = o .beyond-there };
     }
 
   -- a run that stopped on the way
@@ -182,11 +186,13 @@ module _ {v : ℕ → ℤ} {write : Bool} {base : ℕ} where
     running-stops h l q = ran-stops l (ran-append (g .above) (g .order) h (g .ran) q)
 
   -- at its end
-  pub running-done : {out₀ out : List ℤ} {from to at : ℕ} → Running v write base out₀ from to out at → to ≤ at → Ran v write base out₀ out from to true
+  pub running-done : {out₀ out : List ℤ} {from to at : ℕ} → Running v write base out₀ from to out at → to ≤ at
+      → Ran v write base out₀ out from to true
   running-done {out₀} {out} {from} {to} g h = subst (λ (n : ℕ). Ran v write base out₀ out from n true) (omega (arith, g .upto)) (g .ran)
 
   -- the same run, by other words for its end
-  pub ran-ends : {out₀ out : List ℤ} {a b b′ : ℕ} {fine : Bool} → b ≡ b′ → Ran v write base out₀ out a b fine → Ran v write base out₀ out a b′ fine
+  pub ran-ends : {out₀ out : List ℤ} {a b b′ : ℕ} {fine : Bool} → b ≡ b′ → Ran v write base out₀ out a b fine
+      → Ran v write base out₀ out a b′ fine
   ran-ends {out₀} {out} {a} {fine = fine} e q = subst (λ (n : ℕ). Ran v write base out₀ out a n fine) e q
 
   -- what was answered, by the test that was made of it
@@ -207,7 +213,8 @@ module _ {v : ℕ → ℤ} {base : ℕ} where
 
   module _ {out₀ out : List ℤ} {from to at : ℕ} (g : Filling v base out₀ from to out at) where
     -- one value more, at its place j
-    pub filling-on : (j : ℕ) (x : ℤ) → j + base ≡ at → at < to → to ≤ base + length out₀ → x ≡ v at → Filling v base out₀ from to (set out j x) (at + 1)
+    pub filling-on : (j : ℕ) (x : ℤ) → j + base ≡ at → at < to → to ≤ base + length out₀ → x ≡ v at
+        → Filling v base out₀ from to (set out j x) (at + 1)
     filling-on j x p l h e = record {
       filled = filled-append v true base (g .above) (g .order) (omega arith) (g .filled)
           (subst (λ (j : ℕ). Filled v true base out (set out j x) at (at + 1)) (omega (arith, g .above, g .order))

@@ -1,6 +1,6 @@
 -- The next values of moving points, by the force that a hit has on them.
 use mathlib.Core.Path.{_≡_, sym, ap, _∙_}
-use mathlib.Core.Bool.{true, false, cond}
+use mathlib.Core.Bool.{true, false}
 use mathlib.Core.List.{List}
 use Prim.Native.Nat.{ℕ, _-_, _≤_, _<_, zero-le}
 use native.Mathlib.Omega.{arith}
@@ -51,6 +51,7 @@ pub next-value : (i : Instrument) (h : Hit) (older newer : List ℤ) (f : ℤ) (
     → valueAt i f older newer k ≡ nextAt i h older newer k
 unfolding valueAt numerator
 next-value i h older newer f k m e =
-    ap (λ (z : ℤ). roundAway (numeratorOf (i .settings) (point newer k) (laplacian (i .grid) (point newer) k) (biharmonic (i .grid) (point newer) k)
+    ap (λ (z : ℤ). roundAway (numeratorOf (i .settings) (point newer k) (laplacian (i .grid) (point newer) k)
+    (biharmonic (i .grid) (point newer) k)
     (point older k) z) (divisor (i .settings))) (sym e) ∙
     sym (next-moving i h older newer k m)

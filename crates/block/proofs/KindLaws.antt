@@ -14,12 +14,13 @@ use Rattle.integers.proofs.Lin.{_*≤_, _⊴_, _⇒_, ⊩_, lin}
 use Rattle.scheme.specs.declared.Grid.{Grid}
 use Rattle.scheme.specs.declared.Instrument.{Instrument}
 use Rattle.scheme.specs.Lists.{square}
-use Rattle.scheme.specs.Instruments.{D, Kind, unknown, fixedString, halfFreeString, freeString, bar, membrane, roundMembrane, kind, points, column, row, within, lineSize, sizeIn, stableIn, atEdge, offCentre, roundEdge, fixedIn, fixed, moving, freeIn, freeEnd}
+use Rattle.scheme.specs.Instruments.{D, Kind, unknown, fixedString, halfFreeString, freeString, bar, membrane, roundMembrane, kind, points}
+use Rattle.scheme.specs.Instruments.{column, row, within, lineSize, sizeIn, stableIn, atEdge, offCentre, roundEdge, fixedIn, fixed, moving}
+use Rattle.scheme.specs.Instruments.{freeIn, freeEnd}
 use Rattle.scheme.proofs.Laws.Bools.{and-both, or-neither}
 use Rattle.scheme.proofs.Laws.Kinds.{within-is, sized}
 use Rattle.scheme.proofs.Laws.Step.{moving-inside}
 use Rattle.scheme.specs.Passing.{InstrumentPasses}
-use Rattle.block.specs.Run.{Moves}
 
 -- ---- edges
 
@@ -192,5 +193,6 @@ module _ (i : Instrument) (ok : InstrumentPasses i) where
         let some : 0 < g .columns = omega (arith, wide) in
         let edges = grid-edges (g .columns) (g .rows) (kind g) (column g k) (row g k) (ok .size) grid (moves-free g k m) in
         let across = inner (g .columns) (column g k) (N.mod-lt k some) (edges .0) in
-        let down = inner (g .rows) (row g k) (N.div-lt-iff-lt-mul some .1 (subst (λ (n : ℕ). k < n) (N.mul-comm (g .columns) (g .rows)) (moving-inside g k m))) (edges .1) in
+        let down = inner (g .rows) (row g k) (N.div-lt-iff-lt-mul some .1
+        (subst (λ (n : ℕ). k < n) (N.mul-comm (g .columns) (g .rows)) (moving-inside g k m))) (edges .1) in
         (across .0, across .1, down .0, down .1)

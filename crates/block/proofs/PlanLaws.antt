@@ -1,5 +1,5 @@
 -- The factors of a plan are small; its grid has three columns or more, and 64 rows or less.
-use mathlib.Core.Path.{_≡_, refl, sym, ap, _∙_, subst}
+use mathlib.Core.Path.{_≡_, sym, ap, _∙_, subst}
 use mathlib.Core.Bool.{true, false, not, true≢false, Bool·not-not}
 use Prim.Native.Nat.{ℕ, zero, suc, _^_, _≤_, zero-le}
 use native.Mathlib.Omega.{arith}
@@ -58,7 +58,8 @@ module _ {p : Plan} (h : Planned p) where
   kept-low = subst (λ (z : ℤ). natAbs z ≤ D) (sym (h .kept-is)) (size-less D (p .instrument .settings .s) (low .2))
 
   pub divisor-between : Between 1 (2 ^ 31) (p .divisor)
-  divisor-between = subst (Between 1 (2 ^ 31)) (sym (h .divisor-is)) (between (divisor (p .instrument .settings)) (omega arith) (omega (arith, low .2)))
+  divisor-between = subst (Between 1 (2 ^ 31)) (sym (h .divisor-is))
+      (between (divisor (p .instrument .settings)) (omega arith) (omega (arith, low .2)))
 
   size : Sized (p .instrument .grid .columns) (p .instrument .grid .rows)
   size = sized (kind (p .instrument .grid)) (p .instrument .grid .columns) (p .instrument .grid .rows) (h .passes .size)

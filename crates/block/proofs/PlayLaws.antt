@@ -67,7 +67,8 @@ set-next (y ∷ vs) x v xs (suc j) e = ap (y ∷_) (set-next vs x v xs j (omega 
 
 -- ---- the loop over the places: j steps are done
 
-pub record Playing (i : Instrument) (pick : ℕ) (hit : Hit) (whole : AfterSteps) (n : ℕ) (older newer out samples : List ℤ) (j : ℕ) : Type 0 where
+pub record Playing (i : Instrument) (pick : ℕ) (hit : Hit) (whole : AfterSteps) (n : ℕ) (older newer out samples : List ℤ) (j : ℕ) : Type
+    0 where
   pub vs : List ℤ
   pub places : List ℤ
   pub count : length vs ≡ j
@@ -139,7 +140,8 @@ module _ {i : Instrument} {pick n j : ℕ} {hit : Hit} {whole : AfterSteps} {old
         samples-are = a ∙ sym (ap (λ (p : AfterSteps). p .samples) w ∙ q .samples-are);
       }
 
-  module _ (h : j < n) {out′ : List ℤ} {done : Bool} {hit′ : Hit} (same : hit′ ≡ hitAfter hit j) (s : Stepped i hit′ older newer out′ done) where
+  module _ (h : j < n) {out′ : List ℤ} {done : Bool} {hit′ : Hit} (same : hit′ ≡ hitAfter hit j)
+      (s : Stepped i hit′ older newer out′ done) where
     t : Stepped i (hitAfter hit j) older newer out′ done
     t = subst (λ (h : Hit). Stepped i h older newer out′ done) same s
 
@@ -155,13 +157,15 @@ module _ {i : Instrument} {pick n j : ℕ} {hit : Hit} {whole : AfterSteps} {old
       stepped-passes = subst (LevelPasses (i .grid)) (sym next-is) (next-passes i (hitAfter hit j) older newer low)
 
     -- one more step, with its sample
-    pub playing-on : not done ≡ false → (v : ℤ) → v ≡ sampleOf (point out′ pick) → Playing i pick hit whole n newer out′ older (set samples j v) (j + 1)
+    pub playing-on : not done ≡ false → (v : ℤ) → v ≡ sampleOf (point out′ pick)
+        → Playing i pick hit whole n newer out′ older (set samples j v) (j + 1)
     playing-on d v e = go (g .places) (g .samples-are) (g .long) (g .whole-is)
       where
         step : suc j ≡ j + 1
         step = omega arith
 
-        go : (places : List ℤ) → samples ≡ g .vs ++ places → j + length places ≡ n → whole ≡ after (g .vs) (play i pick (hitAfter hit j) older newer places)
+        go : (places : List ℤ) → samples ≡ g .vs ++ places → j + length places ≡ n → whole
+            ≡ after (g .vs) (play i pick (hitAfter hit j) older newer places)
             → Playing i pick hit whole n newer out′ older (set samples j v) (j + 1)
         go [] a l w = absurd (omega (arith, l, h))
         go (x ∷ xs) a l w = record {
@@ -184,7 +188,8 @@ module _ {i : Instrument} {pick n j : ℕ} {hit : Hit} {whole : AfterSteps} {old
     pub playing-ends : not done ≡ true → Played whole n j older newer samples
     playing-ends d = go (g .places) (g .samples-are) (g .long) (g .whole-is)
       where
-        go : (places : List ℤ) → samples ≡ g .vs ++ places → j + length places ≡ n → whole ≡ after (g .vs) (play i pick (hitAfter hit j) older newer places)
+        go : (places : List ℤ) → samples ≡ g .vs ++ places → j + length places ≡ n → whole
+            ≡ after (g .vs) (play i pick (hitAfter hit j) older newer places)
             → Played whole n j older newer samples
         go [] a l w = absurd (omega (arith, l, h))
         go (x ∷ xs) a l w =
@@ -197,7 +202,8 @@ module _ {i : Instrument} {pick n j : ℕ} {hit : Hit} {whole : AfterSteps} {old
   unfolding play
   playing-done h = go (g .places) (g .samples-are) (g .long) (g .whole-is)
     where
-      go : (places : List ℤ) → samples ≡ g .vs ++ places → j + length places ≡ n → whole ≡ after (g .vs) (play i pick (hitAfter hit j) older newer places)
+      go : (places : List ℤ) → samples ≡ g .vs ++ places → j + length places ≡ n → whole
+          ≡ after (g .vs) (play i pick (hitAfter hit j) older newer places)
           → Played whole n j older newer samples
       go (x ∷ xs) a l w = absurd (omega (arith, l, h))
       go [] a l w = ended-by Nothing [] a w (sym (ap (λ (t : Bool). cond t NextBeyond Nothing) (le-ltb j n h)))

@@ -28,7 +28,8 @@ at-most-four bar = omega arith
 at-most-four membrane = omega arith
 at-most-four roundMembrane = omega arith
 
-module _ {p : Plan} {f : ℤ} {older newer : List ℤ} {k : ℕ} {sum count b : ℤ} (r : Ready p f older newer) (n : Neighbouring (p .instrument) newer k sum count b) where
+module _ {p : Plan} {f : ℤ} {older newer : List ℤ} {k : ℕ} {sum count b : ℤ} (r : Ready p f older newer)
+    (n : Neighbouring (p .instrument) newer k sum count b) where
   abbrev i : Instrument
   i = p .instrument
 
@@ -47,7 +48,8 @@ module _ {p : Plan} {f : ℤ} {older newer : List ℤ} {k : ℕ} {sum count b : 
 
   terms : Terms c (point newer k) l b (point older k) f
   terms =
-      let t = numerator-terms i (r .planned .passes) (point newer) (point older) (λ j. f) (r .newer-low) (r .older-low) (λ j. r .f-low) k (n .inside) in
+      let t = numerator-terms i (r .planned .passes) (point newer) (point older) (λ j. f) (r .newer-low) (r .older-low) (λ j. r .f-low) k
+      (n .inside) in
       record {
         own = t .own;
         neighbouring = as-summed (t .neighbouring);
@@ -55,7 +57,8 @@ module _ {p : Plan} {f : ℤ} {older newer : List ℤ} {k : ℕ} {sum count b : 
         force = t .force;
       }
     where
-      as-summed : natAbs (pos (c .q) *ℤ laplacian (i .grid) (point newer) k) + natAbs (pos (c .m) *ℤ biharmonic (i .grid) (point newer) k) ≤ 4 * (D * ceiling)
+      as-summed : natAbs (pos (c .q) *ℤ laplacian (i .grid) (point newer) k) + natAbs (pos (c .m) *ℤ biharmonic (i .grid) (point newer) k)
+          ≤ 4 * (D * ceiling)
           → natAbs (pos (c .q) *ℤ l) + natAbs (pos (c .m) *ℤ b) ≤ 4 * (D * ceiling)
       as-summed h = subst (λ (x : ℤ). natAbs (pos (c .q) *ℤ x) + natAbs (pos (c .m) *ℤ b) ≤ 4 * (D * ceiling)) laplacian-is
           (subst (λ (x : ℤ). natAbs (pos (c .q) *ℤ laplacian (i .grid) (point newer) k) + natAbs x ≤ 4 * (D * ceiling)) (sym (n .stiff)) h)
@@ -63,7 +66,8 @@ module _ {p : Plan} {f : ℤ} {older newer : List ℤ} {k : ℕ} {sum count b : 
   pub updatable : Updatable c (point newer k) sum count b (point older k) f
   updatable = record {
     u-low = r .newer-low k;
-    sum-low = subst (λ (z : ℤ). natAbs z ≤ 4 * ceiling) (sym (n .sum-is)) (N.le-trans (size-over (neighbours (i .grid) k) (point newer) ceiling (r .newer-low)) (N.mul-le-mul-right ceiling few));
+    sum-low = subst (λ (z : ℤ). natAbs z ≤ 4 * ceiling) (sym (n .sum-is))
+        (N.le-trans (size-over (neighbours (i .grid) k) (point newer) ceiling (r .newer-low)) (N.mul-le-mul-right ceiling few));
     count-low = subst (λ (z : ℤ). natAbs z ≤ 4) (sym (n .count-is)) few;
     b-low = n .b-low;
     p-low = r .older-low k;
@@ -73,4 +77,5 @@ module _ {p : Plan} {f : ℤ} {older newer : List ℤ} {k : ℕ} {sum count b : 
 
   pub value-is : roundAway (numeratorOf c (point newer k) l b (point older k) f) (divisor c) ≡ valueAt i f older newer k
   unfolding valueAt numerator
-  value-is = ap₂ (λ (x y : ℤ). roundAway (pos (2 * D) *ℤ point newer k +ℤ pos (c .q) *ℤ x -ℤ y -ℤ (pos D -ℤ pos (c .s)) *ℤ point older k +ℤ pos D *ℤ f) (divisor c)) (sym laplacian-is) (n .stiff)
+  value-is = ap₂ (λ (x y : ℤ). roundAway (pos (2 * D) *ℤ point newer k +ℤ pos (c .q) *ℤ x -ℤ y -ℤ (pos D -ℤ pos (c .s)) *ℤ point older k
+      +ℤ pos D *ℤ f) (divisor c)) (sym laplacian-is) (n .stiff)

@@ -54,10 +54,12 @@ module _ (p : ℕ) (a b c : List ℤ) where
 
 -- what a step is given and leaves, by the slices that have the roles
 module _ {p : ℕ} {a₀ b₀ c₀ older newer out₀ : List ℤ} (r₀ : InRoles p a₀ b₀ c₀ older newer out₀) where
-  pub given-in : {q : Plan} {h : Hit} → Steppable q h (olderOf p a₀ b₀ c₀) (newerOf p a₀ b₀ c₀) (outOf p a₀ b₀ c₀) → Steppable q h older newer out₀
+  pub given-in : {q : Plan} {h : Hit} → Steppable q h (olderOf p a₀ b₀ c₀) (newerOf p a₀ b₀ c₀) (outOf p a₀ b₀ c₀)
+      → Steppable q h older newer out₀
   given-in {q} {h} s = coe 0 1 (j. Steppable q h (r₀ .older-is j) (r₀ .newer-is j) (r₀ .out-is j)) s
 
-  pub stepped-in : {i : Instrument} {h : Hit} {a b c out : List ℤ} {done : Bool} → InRoles p a b c older newer out → Stepped i h older newer out done
+  pub stepped-in : {i : Instrument} {h : Hit} {a b c out : List ℤ} {done : Bool} → InRoles p a b c older newer out
+      → Stepped i h older newer out done
       → SteppedIn p i h a₀ b₀ c₀ a b c done
   stepped-in {i} {h} {done = done} r s = record {
     stepped = coe 1 0 (j. Stepped i h (r₀ .older-is j) (r₀ .newer-is j) (r .out-is j) done) s;

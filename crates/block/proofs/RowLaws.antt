@@ -60,7 +60,8 @@ module _ (g : Grid) (b : ℕ) (size : inTable g ≡ true) (h : b < g .rows) wher
             (and-yes (le-leb (r .from) (k - start) (omega arith)) ∙ lt-ltb (k - start) (r .to) (omega arith));
         before = λ k p q. at-column k false p (omega (arith, w .rising, w .inside)) (and-no _ (lt-leb (r .from) (k - start) (omega arith)));
         after = λ k p q. at-column k false (omega arith) q
-            (ap (λ (t : Bool). leb (r .from) (k - start) && t) (le-ltb (k - start) (r .to) (omega arith)) ∙ and-false (leb (r .from) (k - start)));
+            (ap (λ (t : Bool). leb (r .from) (k - start) && t) (le-ltb (k - start) (r .to) (omega arith))
+            ∙ and-false (leb (r .from) (k - start)));
       }
 
 -- ---- a loop over the rows: the points before start have their next values
@@ -97,7 +98,8 @@ module _ {p : Plan} {h : Hit} {older newer out₀ : List ℤ} (s : Steppable p h
   }
 
   -- points from b on that do not move hold their next values, 0
-  still : {out : List ℤ} {b c : ℕ} → Ran v true 0 out₀ out 0 b true → ((k : ℕ) → b ≤ k → k < c → moving g k ≡ false) → Ran v true 0 out out b c true
+  still : {out : List ℤ} {b c : ℕ} → Ran v true 0 out₀ out 0 b true → ((k : ℕ) → b ≤ k → k < c → moving g k ≡ false)
+      → Ran v true 0 out out b c true
   still {out} {b} {c} r all =
       ran-all
       (filled-there v true 0 out b c
@@ -109,10 +111,12 @@ module _ {p : Plan} {h : Hit} {older newer out₀ : List ℤ} (s : Steppable p h
       → Ran v true 0 out₀ out 0 c true
   and-still r l all = ran-append zero-le zero-le l r (still r all)
 
-  module _ {out : List ℤ} {row start : ℕ} (l : Rows i h older newer out₀ out row start) (m : row < g .rows) (r : Run) (e : r ≡ runOf g row) where
+  module _ {out : List ℤ} {row start : ℕ} (l : Rows i h older newer out₀ out row start) (m : row < g .rows) (r : Run)
+      (e : r ≡ runOf g row) where
     pub run-here : RowRun g start r
     run-here =
-        subst (λ (n : ℕ). RowRun g n r) (sym (l .start-is)) (subst (RowRun g (row * g .columns)) (sym e) (row-run g row (s .planned .passes .size) m))
+        subst (λ (n : ℕ). RowRun g n r) (sym (l .start-is))
+        (subst (RowRun g (row * g .columns)) (sym e) (row-run g row (s .planned .passes .size) m))
 
     -- the row lies in the grid
     pub row-room : start + g .columns ≤ points g
@@ -157,7 +161,8 @@ module _ {p : Plan} {h : Hit} {older newer out₀ : List ℤ} (s : Steppable p h
   stepped-all {out} q =
       let low : someBeyond (nextLevel i h older newer) ≡ false =
       all-low (nextLevel i h older newer)
-      (λ k m. ltb-false ceiling _ (ap beyond (next-point i h older newer k) ∙ q .low refl k zero-le (omega (arith, length-next i h older newer)))) in
+      (λ k m. ltb-false ceiling _ (ap beyond (next-point i h older newer k)
+      ∙ q .low refl k zero-le (omega (arith, length-next i h older newer)))) in
       record {
         done-is = sym (ap not low);
         next-is = λ t. is-tabulate (points g) v (pos 0) out (q .long ∙ s .room .long)
@@ -172,7 +177,8 @@ module _ {p : Plan} {h : Hit} {older newer out₀ : List ℤ} (s : Steppable p h
       let o = q .stopped refl in
       let next = nextLevel i h older newer in
       record {
-        done-is = sym (ap not (some-at (length next) (λ k. beyond (point next k)) (o .at) (omega (arith, o .last, length-next i h older newer))
+        done-is = sym (ap not (some-at (length next) (λ k. beyond (point next k)) (o .at)
+            (omega (arith, o .last, length-next i h older newer))
             (ap beyond (next-point i h older newer (o .at)) ∙ o .beyond-there)));
         next-is = λ t. absurd (true≢false (sym t));
         long = q .long ∙ s .room .long;

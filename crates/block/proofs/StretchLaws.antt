@@ -1,7 +1,6 @@
 -- Stretches: what lies of them in a range, where they end, and the one force on their points.
 use mathlib.Core.Path.{_≡_, refl, sym, ap, _∙_, subst}
 use mathlib.Core.Bool.{Bool, cond}
-use mathlib.Core.List.{List}
 use mathlib.Core.Logic.{_⊎_, inl, inr}
 use Prim.Native.Nat.{ℕ, _+_, _≤_, _<_}
 use native.Mathlib.Decide.{decLt}
@@ -20,11 +19,13 @@ use Rattle.block.specs.Run.{clamp, partOf, Placed, Ends}
 
 pub clamp-first : (from to k a : ℕ) → a ≡ cond (ltb from k) k from → a < to → a ≡ clamp from to k
 unfolding clamp
-clamp-first from to k a e h = e ∙ sym (ap (λ (t : Bool). cond t (cond (ltb from k) k from) to) (ap (λ (a : ℕ). ltb a to) (sym e) ∙ lt-ltb a to h))
+clamp-first from to k a e h = e ∙ sym (ap (λ (t : Bool). cond t (cond (ltb from k) k from) to)
+    (ap (λ (a : ℕ). ltb a to) (sym e) ∙ lt-ltb a to h))
 
 pub clamp-second : (from to k a : ℕ) → a ≡ cond (ltb from k) k from → to ≤ a → to ≡ clamp from to k
 unfolding clamp
-clamp-second from to k a e h = sym (ap (λ (t : Bool). cond t (cond (ltb from k) k from) to) (ap (λ (a : ℕ). ltb a to) (sym e) ∙ le-ltb a to h))
+clamp-second from to k a e h = sym (ap (λ (t : Bool). cond t (cond (ltb from k) k from) to)
+    (ap (λ (a : ℕ). ltb a to) (sym e) ∙ le-ltb a to h))
 
 module _ (from to : ℕ) where
   -- the four places that k may have

@@ -27,7 +27,8 @@ pub(crate) fn sample(v: i64) -> i16
     (v >> 28) as i16
 }
 
-// The numerator at a point, from its newer value u, the sum of its neighbours and their count, L of L there, its older value p and the force f.
+// The numerator at a point, from its newer value u,
+// the sum of its neighbours and their count, L of L there, its older value p and the force f.
 pub(crate) fn numerator(plan: Plan, u: i64, sum: i64, count: i64, b: i64, p: i64, f: i64) -> i64
     requires { ⌜ Planned plan ⌝ }
     requires { ⌜ Updatable (plan .instrument .settings) u sum count b p f ⌝ }

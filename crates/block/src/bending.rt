@@ -53,9 +53,11 @@ pub(crate) fn laplacians_for(
     to: usize,
     laplacians: &mut [i64; 66],
 )
-    requires { ⌜ Planned plan × Moves (plan .instrument .grid) from to × (from < to) × ((plan .instrument .settings .m ≡ 0) ⊎ (to ≤ from + 64)) ⌝ }
+    requires { ⌜ Planned plan × Moves (plan .instrument .grid) from to × (from < to)
+        × ((plan .instrument .settings .m ≡ 0) ⊎ (to ≤ from + 64)) ⌝ }
     requires { ⌜ (length (now newer) ≡ points (plan .instrument .grid)) × AtMost ceiling (point (now newer)) ⌝ }
-    ensures { λ _. ⌜ (plan .instrument .settings .m ≡ 0) ⊎ LaplaciansOf (plan .instrument .grid) (now (newer .entry)) from to (now (laplacians .exit)) ⌝ }
+    ensures { λ _. ⌜ (plan .instrument .settings .m ≡ 0) ⊎ LaplaciansOf (plan .instrument .grid) (now (newer .entry)) from to
+        (now (laplacians .exit)) ⌝ }
 {
     if plan.m == 0 {
         return;

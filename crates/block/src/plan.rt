@@ -1,8 +1,6 @@
 // An instrument as the steps of a block need it.
 ghost use mathlib.Core.Path.{_≡_};
 ghost use mathlib.Core.Bool.{not};
-ghost use Prim.Native.Nat.{_≤_, _^_};
-ghost use lib.IntN.{natAbs};
 ghost use Rattle.scheme.specs.Instruments.{beyond};
 ghost use Rattle.scheme.specs.Step.{roundAway, divisor};
 ghost use Rattle.scheme.specs.Passing.{InstrumentPasses};
@@ -13,7 +11,8 @@ use scheme::Settings;
 // D of the papers, signed.
 pub(crate) const D: i64 = Settings::D as i64;
 
-// An instrument, and its settings as the factors of a step: q, m, D − s kept of the older value, D + s. A numerator within limit is rounded to a value within the ceiling.
+// An instrument, and its settings as the factors of a step: q, m, D − s kept of the older value, D + s.
+// A numerator within limit is rounded to a value within the ceiling.
 pub(crate) struct Plan {
     pub(crate) instrument: Instrument,
     pub(crate) q: i64,

@@ -51,7 +51,8 @@ fn line_run(
 ) -> bool
     requires { ⌜ Ready plan (s .force) (now older) (now newer) × Placed s (length (now out)) ⌝ }
     requires { ⌜ OnLine (plan .instrument .grid) (s .from) (s .to) × Moves (plan .instrument .grid) (s .from) (s .to) ⌝ }
-    requires { ⌜ (plan .instrument .settings .m ≡ 0) ⊎ LaplaciansOf (plan .instrument .grid) (now newer) (s .from) (s .to) (now laplacians) ⌝ }
+    requires { ⌜ (plan .instrument .settings .m ≡ 0) ⊎ LaplaciansOf (plan .instrument .grid) (now newer) (s .from) (s .to)
+        (now laplacians) ⌝ }
     ensures { λ r. ⌜ Advanced plan s (now (older .entry)) (now (newer .entry)) (now (out .entry)) (now (out .exit)) (s .from) (s .to) r ⌝ }
 {
     let mut at = s.from;
@@ -97,7 +98,8 @@ fn line_points(
 ) -> bool
     requires { ⌜ Ready plan (s .force) (now older) (now newer) × Placed s (length (now out)) ⌝ }
     requires { ⌜ (plan .instrument .grid .rows ≡ 1) × Moves (plan .instrument .grid) (s .from) (s .to) × (s .from < s .to) ⌝ }
-    requires { ⌜ (plan .instrument .settings .m ≡ 0) ⊎ LaplaciansOf (plan .instrument .grid) (now newer) (s .from) (s .to) (now laplacians) ⌝ }
+    requires { ⌜ (plan .instrument .settings .m ≡ 0) ⊎ LaplaciansOf (plan .instrument .grid) (now newer) (s .from) (s .to)
+        (now laplacians) ⌝ }
     ensures { λ r. ⌜ Advanced plan s (now (older .entry)) (now (newer .entry)) (now (out .entry)) (now (out .exit)) (s .from) (s .to) r ⌝ }
 {
     let n = newer.len();
@@ -139,7 +141,8 @@ pub(crate) fn points_run(
 ) -> bool
     requires { ⌜ Ready plan (s .force) (now older) (now newer) × Placed s (length (now out)) ⌝ }
     requires { ⌜ Moves (plan .instrument .grid) (s .from) (s .to) × (s .from < s .to) ⌝ }
-    requires { ⌜ (plan .instrument .settings .m ≡ 0) ⊎ LaplaciansOf (plan .instrument .grid) (now newer) (s .from) (s .to) (now laplacians) ⌝ }
+    requires { ⌜ (plan .instrument .settings .m ≡ 0) ⊎ LaplaciansOf (plan .instrument .grid) (now newer) (s .from) (s .to)
+        (now laplacians) ⌝ }
     ensures { λ r. ⌜ Advanced plan s (now (older .entry)) (now (newer .entry)) (now (out .entry)) (now (out .exit)) (s .from) (s .to) r ⌝ }
 {
     if plan.instrument.grid.rows == 1 {

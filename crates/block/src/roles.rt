@@ -48,7 +48,8 @@ pub(crate) fn sample_in_roles(
     pick: usize,
     phase: usize,
 ) -> i16
-    requires { ⌜ (pick < length (outOf phase (now older) (now newer) (now work))) × AtMost ceiling (point (outOf phase (now older) (now newer) (now work))) ⌝ }
+    requires { ⌜ (pick < length (outOf phase (now older) (now newer) (now work)))
+        × AtMost ceiling (point (outOf phase (now older) (now newer) (now work))) ⌝ }
     ensures { λ r. ⌜ r ≡ sampleOf (point (outOf phase (now (older .entry)) (now (newer .entry)) (now (work .entry))) pick) ⌝ }
 {
     match phase {

@@ -55,7 +55,8 @@ pub(crate) fn force_at(hit: Hit, at: usize) -> i64
     if at == point { force } else { 0 }
 }
 
-// The end of the stretch at a, of points as far as e: the hit's point is a stretch of its own, and where L of L counts none has more than 64 points.
+// The end of the stretch at a, of points as far as e:
+// the hit's point is a stretch of its own, and where L of L counts none has more than 64 points.
 pub(crate) fn stretch_end(plan: Plan, hit: Hit, a: usize, e: usize) -> usize
     requires { ⌜ Planned plan × (a < e) × (e ≤ points (plan .instrument .grid)) ⌝ }
     ensures { λ r. ⌜ Ends (plan .instrument) hit a e r ⌝ }

@@ -1,7 +1,10 @@
--- The arithmetic of a piece of signed code at 64 bits, written once as an expression: what the machine asks of each step, and what it computes, follow by one law each.
--- `at z B h` is a number z that the code has in a local (a parameter, an element that was read, what a callee returned), with h : natAbs z ≤ B;
+-- The arithmetic of a piece of signed code at 64 bits, written once as an expression:
+-- what the machine asks of each step, and what it computes, follow by one law each.
+-- `at z B h` is a number z that the code has in a local (a parameter,
+-- an element that was read, what a callee returned), with h : natAbs z ≤ B;
 -- `num n` is a literal, and `via` any number with a `Num` of its own.
--- `raw e` is what the last step of e computes, in the machine's terms, and `red e` is that, stored and read back. `val e` is the number that is meant, and `cap e` bounds it.
+-- `raw e` is what the last step of e computes, in the machine's terms, and `red e` is that,
+-- stored and read back. `val e` is the number that is meant, and `cap e` bounds it.
 -- `fits e tt` answers a need, and `is e tt` says what came out. The `tt` is checked by computing `ok e`: no step's bound passes the width.
 use mathlib.Core.Path.{_≡_, sym, ap, _∙_, subst}
 use mathlib.Core.Bool.{Bool, _&&_}

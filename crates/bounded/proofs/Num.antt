@@ -1,6 +1,9 @@
--- A number on its way through signed code at 64 bits: `Num r z B` says that r, as the machine has it, is the number z, whose magnitude is at most B.
--- `x ⊕ y`, `x ⊖ y`, `x ⊗ y`, `x ⊘ y` and `x ⊳ m` follow the code's operations. `kept x tt` is the number after it has been stored to a local and read back,
--- `fits x tt` says that it may be stored. The `tt` is checked by computing, since B is a numeral wherever the bounds of what goes in are numerals.
+-- A number on its way through signed code at 64 bits:
+-- `Num r z B` says that r, as the machine has it, is the number z, whose magnitude is at most B.
+-- `x ⊕ y`, `x ⊖ y`, `x ⊗ y`, `x ⊘ y` and `x ⊳ m` follow the code's operations.
+-- `kept x tt` is the number after it has been stored to a local and read back,
+-- `fits x tt` says that it may be stored. The `tt` is checked by computing,
+-- since B is a numeral wherever the bounds of what goes in are numerals.
 use mathlib.Core.Path.{_≡_, refl, sym, ap, _∙_, subst}
 use Prim.Native.Nat.{ℕ, _+_, _*_, _^_, _≤_, _<_}
 use native.Mathlib.Nat.{le-refl, le-trans, div-le-self, mul-le-mul, lt-of-lt-of-le}
@@ -70,7 +73,11 @@ module _ {r s x y : ℤ} {A B : ℕ} where
   a ⊗ b = record { is = λ i. a .is i *ℤ b .is i; size = subst (λ (n : ℕ). n ≤ A * B) (sym (size-mul x y)) (mul-le-mul (a .size) (b .size)) }
 
   pub _⊘_ : Num r x A → Num s y B → Num (quotZ r s) (quotZ x y) A
-  a ⊘ b = record { is = λ i. quotZ (a .is i) (b .is i); size = subst (λ (n : ℕ). n ≤ A) (sym (size-quot x y)) (le-trans (div-le-self (natAbs x) (natAbs y)) (a .size)) }
+  a ⊘ b = record {
+    is = λ i. quotZ (a .is i) (b .is i);
+    size =
+        subst (λ (n : ℕ). n ≤ A) (sym (size-quot x y)) (le-trans (div-le-self (natAbs x) (natAbs y)) (a .size));
+  }
 
 -- a shift to the right by n bits, where m is 2 ^ n
 infixl 7 _⊳_

@@ -30,9 +30,10 @@ pub extern "C" fn buvcsolta_block(
     force: i64,
     steps: &mut usize,
 ) -> u64
-    ensures { λ r. ⌜ Exports.blockLeft r (now (steps .exit)) (now (older .exit)) (now (newer .exit)) (now (work .exit)) (now (samples .exit))
+    ensures { λ r. ⌜ Exports.blockLeft r (now (steps .exit)) (now (older .exit)) (now (newer .exit)) (now (work .exit))
+        (now (samples .exit))
         ≡ Exports.block kind columns rows q m s (now (older .entry)) (now (newer .entry)) (now (work .entry)) (now (samples .entry))
-            «pick_up» hit point force ⌝ }
+        «pick_up» hit point force ⌝ }
 {
     let i = instrument_of(kind, columns, rows, q, m, s);
     let h = hit_of(hit, point, force);
@@ -104,7 +105,14 @@ pub extern "C" fn buvcsolta_sheet(
 {
     let g = Grid::new(kind, columns, rows);
     let sheet = sheet_of(
-        rate, length, bending, by_tension, speed, density, by_seconds, loss,
+        rate,
+        length,
+        bending,
+        by_tension,
+        speed,
+        density,
+        by_seconds,
+        loss,
     );
     let answer = settings_for(g, sheet);
     let settings = answer.settings;

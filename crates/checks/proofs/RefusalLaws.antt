@@ -14,13 +14,12 @@ use Rattle.scheme.specs.declared.Instrument.{Instrument}
 use Rattle.scheme.specs.declared.Hit.{Hit}
 use Rattle.scheme.specs.declared.Hit.the-variants.{At}
 use Rattle.scheme.specs.declared.Refusal.{Refusal}
-use Rattle.scheme.specs.declared.Refusal.the-variants.{Nothing}
 use Rattle.scheme.specs.Instruments.{points, inTable}
 use Rattle.scheme.specs.Step.{someBeyond}
 use Rattle.scheme.specs.Refusals.{number, wrongLength, fixedNotZero, Check, _⇒_, lowest, gridChecks, instrumentChecks, lengthChecks}
 use Rattle.scheme.specs.Refusals.{hitChecks, pickChecks, widthChecks, stateChecks, inputChecks, lastPlucked, blockRefusal, pluckChecks}
 use Rattle.scheme.specs.Calls.{accepted}
-use Rattle.scheme.proofs.Laws.Bools.{and-yes, or-neither, or-twice}
+use Rattle.scheme.proofs.Laws.Bools.{and-yes}
 use Rattle.scheme.proofs.Laws.Refusals.{refusing, NoneApplies, none-applies, accepted-is, right-length}
 use Rattle.levels.specs.Levels.{unfixed}
 use Rattle.checks.specs.Refused.{notLong, firstOf, stateRefusal}
@@ -51,7 +50,8 @@ module _ (cs ds : List Check) {q : Refusal} {b : Bool} (t : T (refusing cs)) (fi
   goes-on {r} e f = ap (λ (x : Bool). cond x r q) (sym (not-false b e) ∙ said) ∙ append-is cs ds t first f
 
 -- the second list where the first has passed
-pub second-same : (cs ds es : List Check) → T (refusing cs) → (NoneApplies cs → lowest ds ≡ lowest es) → lowest (cs ++ ds) ≡ lowest (cs ++ es)
+pub second-same : (cs ds es : List Check) → T (refusing cs) → (NoneApplies cs → lowest ds ≡ lowest es) → lowest (cs ++ ds)
+    ≡ lowest (cs ++ es)
 second-same cs ds es t same = lowest-append cs ds t ∙ go (accepted (lowest cs)) refl ∙ sym (lowest-append cs es t)
   where
     go : (b : Bool) → accepted (lowest cs) ≡ b → firstOf (lowest cs) (lowest ds) ≡ firstOf (lowest cs) (lowest es)
@@ -80,7 +80,8 @@ input-same i wrong wrong′ pick h same =
     second-same (instrumentChecks i) (after wrong) (after wrong′) tt (λ n. ap (λ (w : Bool). lowest (after w)) (same (instrument-in i n)))
 
 -- the same of a block's refusal, and of a pluck's
-pub block-same : (i : Instrument) (older newer : List ℤ) (wrong wrong′ : Bool) (pick : ℕ) (h : Hit) → (inTable (i .grid) ≡ true → wrong ≡ wrong′)
+pub block-same : (i : Instrument) (older newer : List ℤ) (wrong wrong′ : Bool) (pick : ℕ) (h : Hit)
+    → (inTable (i .grid) ≡ true → wrong ≡ wrong′)
     → blockRefusal i older newer wrong pick h ≡ blockRefusal i older newer wrong′ pick h
 unfolding blockRefusal
 block-same i older newer wrong wrong′ pick h same =
@@ -94,14 +95,17 @@ pub pluck-same : (g : Grid) (wrong wrong′ : Bool) (c w : ℕ) (a : ℤ) → (i
     → lowest (pluckChecks g wrong c w a) ≡ lowest (pluckChecks g wrong′ c w a)
 pluck-same g wrong wrong′ c w a same =
     let after : Bool → List Check = λ x. lengthChecks x ++ (hitChecks g (At c a) ++ widthChecks g w) in
-    second-same (gridChecks lastPlucked g) (after wrong) (after wrong′) tt (λ n. ap (λ (x : Bool). lowest (after x)) (same (grid-in lastPlucked g n)))
+    second-same (gridChecks lastPlucked g) (after wrong) (after wrong′) tt
+    (λ n. ap (λ (x : Bool). lowest (after x)) (same (grid-in lastPlucked g n)))
 
 unfixed-is : (g : Grid) (xs : List ℤ) → inTable g ≡ true → length xs ≡ points g → unfixed g xs ≡ fixedNotZero g xs
 unfolding unfixed
 unfixed-is g xs size e = and-yes size ∙ and-yes (eq-eqb (length xs) (points g) e)
 
-pub state-is : (g : Grid) (older newer : List ℤ) → inTable g ≡ true → wrongLength g (length older) ≡ false → wrongLength g (length newer) ≡ false
-    → stateRefusal g older newer ≡ lowest (stateChecks (someBeyond older || someBeyond newer) (fixedNotZero g older || fixedNotZero g newer))
+pub state-is : (g : Grid) (older newer : List ℤ) → inTable g ≡ true → wrongLength g (length older) ≡ false → wrongLength g (length newer)
+    ≡ false
+    → stateRefusal g older newer ≡ lowest (stateChecks (someBeyond older || someBeyond newer)
+    (fixedNotZero g older || fixedNotZero g newer))
 unfolding stateRefusal
 state-is g older newer size o n =
     ap₂ (λ (x y : Bool). lowest (stateChecks (someBeyond older || someBeyond newer) (x || y)))

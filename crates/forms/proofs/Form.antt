@@ -32,7 +32,8 @@ times m {B} F = record {
 pub minus : {B C : Level → Level → ℤ} → Form B → Form C → Form (λ a b. B a b -ℤ C a b)
 minus {B} {C} F G = record {
   symm = λ a b. ap₂ _-ℤ_ (F .symm a b) (G .symm a b);
-  add = λ a b c. ap₂ _-ℤ_ (F .add a b c) (G .add a b c) ∙ ring 4 (λ x y u v. (x ⊕ y) ⊖ (u ⊕ v) ≈ (x ⊖ u) ⊕ (y ⊖ v)) refl (B a c) (B b c) (C a c) (C b c);
+  add = λ a b c. ap₂ _-ℤ_ (F .add a b c) (G .add a b c)
+      ∙ ring 4 (λ x y u v. (x ⊕ y) ⊖ (u ⊕ v) ≈ (x ⊖ u) ⊕ (y ⊖ v)) refl (B a c) (B b c) (C a c) (C b c);
   scale = λ k a b. ap₂ _-ℤ_ (F .scale k a b) (G .scale k a b) ∙ ring 3 (λ k x u. k ⊗ x ⊖ k ⊗ u ≈ k ⊗ (x ⊖ u)) refl k (B a b) (C a b);
 }
 
@@ -66,14 +67,17 @@ module _ {B : Level → Level → ℤ} (F : Form B) where
       F .add a b (a ⊞ b) ∙ ap₂ _+ℤ_ (add-right a a b) (add-right b a b ∙ ap (λ z. z +ℤ B b b) (F .symm b a)) ∙
       ring 3 (λ x y z. (x ⊕ y) ⊕ (y ⊕ z) ≈ x ⊕ # 2 ⊗ y ⊕ z) refl (B a a) (B a b) (B b b)
 
-  pub square-combination : (k l : ℤ) (a b : Level) → B ((k ⊡ a) ⊞ (l ⊡ b)) ((k ⊡ a) ⊞ (l ⊡ b)) ≡ k *ℤ (k *ℤ B a a) +ℤ pos 2 *ℤ (k *ℤ (l *ℤ B a b)) +ℤ l *ℤ (l *ℤ B b b)
-  square-combination k l a b = square-sum (k ⊡ a) (l ⊡ b) ∙ (λ i. scale-both k k a a i +ℤ pos 2 *ℤ scale-both k l a b i +ℤ scale-both l l b b i)
+  pub square-combination : (k l : ℤ) (a b : Level) → B ((k ⊡ a) ⊞ (l ⊡ b)) ((k ⊡ a) ⊞ (l ⊡ b)) ≡ k *ℤ (k *ℤ B a a) +ℤ pos 2
+      *ℤ (k *ℤ (l *ℤ B a b)) +ℤ l *ℤ (l *ℤ B b b)
+  square-combination k l a b = square-sum (k ⊡ a) (l ⊡ b)
+      ∙ (λ i. scale-both k k a a i +ℤ pos 2 *ℤ scale-both k l a b i +ℤ scale-both l l b b i)
 
   -- of a − b
   pub square-difference : (a b : Level) → let c : Level = a ⊞ (negsuc 0 ⊡ b) in B c c ≡ B a a -ℤ pos 2 *ℤ B a b +ℤ B b b
   square-difference a b =
       square-sum a (negsuc 0 ⊡ b) ∙ (λ i. B a a +ℤ pos 2 *ℤ scale-right (negsuc 0) a b i +ℤ scale-both (negsuc 0) (negsuc 0) b b i) ∙
-      ring 3 (λ x y z. x ⊕ # 2 ⊗ (con (negsuc 0) ⊗ y) ⊕ con (negsuc 0) ⊗ (con (negsuc 0) ⊗ z) ≈ x ⊖ # 2 ⊗ y ⊕ z) refl (B a a) (B a b) (B b b)
+      ring 3 (λ x y z. x ⊕ # 2 ⊗ (con (negsuc 0) ⊗ y) ⊕ con (negsuc 0) ⊗ (con (negsuc 0) ⊗ z) ≈ x ⊖ # 2 ⊗ y ⊕ z) refl (B a a) (B a b)
+      (B b b)
 
   -- 4·B(a,b) = B(a+b,a+b) − B(a−b,a−b)
   pub polarisation : (a b : Level) → let c : Level = a ⊞ (negsuc 0 ⊡ b) in pos 4 *ℤ B a b ≡ B (a ⊞ b) (a ⊞ b) -ℤ B c c

@@ -1,7 +1,9 @@
 -- Inequalities and equations over ℤ from hypotheses, by a certificate: multiples of the hypotheses that add up to the goal.
 -- `lin 3 (λ x y z. 1 *≤ x ⊴ y ⇒ 1 *≤ y ⊴ z ⇒ ⊩ x ⊴ z) refl a b c h k : a ⩽ c`, with `h : a ⩽ b` and `k : b ⩽ c`.
--- A fact is taken a natural number of times (`k *≤ a ⊴ b`), or an expression's times, with a proof that this is not negative before the fact's own (`c *⊴ a ⊴ b`),
--- or, an equation, any expression's times (`c *≈ a ≈ b`). For `⊩ l ⊴ r` the difference `r - l`, less the sum of the facts' differences, must come to a natural number.
+-- A fact is taken a natural number of times (`k *≤ a ⊴ b`), or an expression's times,
+-- with a proof that this is not negative before the fact's own (`c *⊴ a ⊴ b`),
+-- or, an equation, any expression's times (`c *≈ a ≈ b`).
+-- For `⊩ l ⊴ r` the difference `r - l`, less the sum of the facts' differences, must come to a natural number.
 -- For `⊩≈ l ≈ r` only the equations count, and `l - r` less the sum of the `c * (a - b)` must come to nothing.
 -- Where `refl` is refused, the refusal shows what is left over.
 use mathlib.Core.Path.{_≡_, refl, sym, _∙_, ap, ap₂}
@@ -12,8 +14,10 @@ use native.Mathlib.Omega.{arith}
 use lib.IntN.{ℤ, pos, _+ℤ_, _-ℤ_, _*ℤ_, +ℤ-invr, *ℤ-zero}
 use lib.Signed.{≤ℤ-refl}
 use Rattle.integers.proofs.Laws.{eq-of-sub}
-use Rattle.integers.proofs.Ring.{E, _⊕_, _⊖_, _⊗_, #_, Eqn, _≈_, den, norm, nil, dropConst, zero-sound, const-sound, Of, applied, ForAll, for-all, ring}
-use Rattle.integers.proofs.Order.{_⩽_, 0≤pos, pos-suc, pos≰0, le-or-above, ≤ℤ-of-eq, ≤ℤ-≡, nonneg-add, nonneg-mul, sub-nonneg, ≤ℤ-of-sub}
+use Rattle.integers.proofs.Ring.{E, _⊕_, _⊖_, _⊗_, #_, Eqn, _≈_, den, norm, nil, dropConst, zero-sound, const-sound, Of, applied}
+use Rattle.integers.proofs.Ring.{ForAll, for-all, ring}
+use Rattle.integers.proofs.Order.{_⩽_, 0≤pos, pos-suc, pos≰0, le-or-above, ≤ℤ-of-eq, ≤ℤ-≡, nonneg-add, nonneg-mul, sub-nonneg}
+use Rattle.integers.proofs.Order.{≤ℤ-of-sub}
 
 infix 4 _⊴_
 infix 3 _*≤_ _*⊴_ _*≈_
@@ -62,7 +66,8 @@ vanish : (c a b : ℤ) → a ≡ b → c *ℤ (a -ℤ b) ≡ pos 0
 vanish c a b h = ap (λ x. c *ℤ (x -ℤ b)) h ∙ ap (λ x. c *ℤ x) (+ℤ-invr b) ∙ *ℤ-zero c
 
 module _ (ρ : List ℤ) where
-  gather : (f : Fact) (t u : E) → pos 0 ⩽ den t ρ → den u ρ ≡ pos 0 → (G : Type 0) → (pos 0 ⩽ den (adds t f) ρ → den (adds≈ u f) ρ ≡ pos 0 → G) → Given f ρ G
+  gather : (f : Fact) (t u : E) → pos 0 ⩽ den t ρ → den u ρ ≡ pos 0 → (G : Type 0)
+      → (pos 0 ⩽ den (adds t f) ρ → den (adds≈ u f) ρ ≡ pos 0 → G) → Given f ρ G
   gather (k *≤ (a ⊴ b)) t u p q G go = λ h. go (nonneg-add p (nonneg-mul (0≤pos k) (sub-nonneg h))) q
   gather (c *⊴ (a ⊴ b)) t u p q G go = λ n h. go (nonneg-add p (nonneg-mul n (sub-nonneg h))) q
   gather (c *≈ (a ≈ b)) t u p q G go = λ h.
@@ -90,5 +95,6 @@ at-most-zero x y hy h = go (le-or-above x (pos 0))
     go : (x ⩽ pos 0) ⊎ ((n : ℕ) × (x ≡ pos 0 +ℤ pos (suc n))) → x ⩽ pos 0
     go (inl l) = l
     go (inr e) = absurd (pos≰0 {n = 1} (omega arith)
-        (lin 4 (λ x y m n. 1 *≤ (y ⊕ # 1) ⊗ x ⊴ y ⇒ (y ⊕ # 1) *≈ x ≈ # 0 ⊕ m ⇒ (y ⊕ # 1) *≈ m ≈ # 1 ⊕ n ⇒ (y ⊕ # 1) *⊴ # 0 ⊴ n ⇒ ⊩ # 1 ⊴ # 0) refl
+        (lin 4 (λ x y m n. 1 *≤ (y ⊕ # 1) ⊗ x ⊴ y ⇒ (y ⊕ # 1) *≈ x ≈ # 0 ⊕ m ⇒ (y ⊕ # 1) *≈ m ≈ # 1 ⊕ n ⇒ (y ⊕ # 1) *⊴ # 0 ⊴ n ⇒ ⊩ # 1
+        ⊴ # 0) refl
         x y (pos (suc (e .0))) (pos (e .0)) h (e .1) (pos-suc (e .0)) (nonneg-add hy (0≤pos 1)) (0≤pos (e .0))))

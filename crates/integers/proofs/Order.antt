@@ -41,15 +41,6 @@ trans′ (negsuc a) (negsuc b) (negsuc c) h k = le→leb c a (N.le-trans (leb→
 pub ≤ℤ-trans : {a b c : ℤ} → a ⩽ b → b ⩽ c → a ⩽ c
 ≤ℤ-trans {a} {b} {c} h k = record { le = trans′ a b c (h .le) (k .le) }
 
-antisymm′ : (a b : ℤ) → T (leZ a b) → T (leZ b a) → a ≡ b
-antisymm′ (pos a) (pos b) h k = ap pos (N.le-antisymm (leb→le a b h) (leb→le b a k))
-antisymm′ (pos a) (negsuc b) h k = absurd h
-antisymm′ (negsuc a) (pos b) h k = absurd k
-antisymm′ (negsuc a) (negsuc b) h k = ap negsuc (N.le-antisymm (leb→le a b k) (leb→le b a h))
-
-pub ≤ℤ-antisymm : {a b : ℤ} → a ⩽ b → b ⩽ a → a ≡ b
-≤ℤ-antisymm {a} {b} h k = antisymm′ a b (h .le) (k .le)
-
 pub ≤ℤ-of-eq : {a b : ℤ} → a ≡ b → a ⩽ b
 ≤ℤ-of-eq {a} h = subst (λ x. a ⩽ x) h (≤ℤ-refl a)
 
@@ -76,7 +67,11 @@ pub ≤ℤ-intro : {a b : ℤ} (n : ℕ) → b ≡ a +ℤ pos n → a ⩽ b
 dest′ : (a b : ℤ) → T (leZ a b) → (n : ℕ) × (b ≡ a +ℤ pos n)
 dest′ (pos a) (pos b) h = let d = N.le-dest (leb→le a b h) in (d .0, ap pos (sym (d .1)))
 dest′ (pos a) (negsuc b) h = absurd h
-dest′ (negsuc a) (pos b) h = (suc a + b, sym (sym (+ℤ-assoc (negsuc a) (pos (suc a)) (pos b)) ∙ ap (λ x. x +ℤ pos b) (+ℤ-invl (pos (suc a))) ∙ +ℤ-idl (pos b)))
+dest′ (negsuc a) (pos b) h = (
+  suc a + b,
+  sym (sym (+ℤ-assoc (negsuc a) (pos (suc a)) (pos b)) ∙ ap (λ x. x +ℤ pos b) (+ℤ-invl (pos (suc a)))
+      ∙ +ℤ-idl (pos b)),
+)
 dest′ (negsuc a) (negsuc b) h = let d = N.le-dest (leb→le b a h) in
     (d .0, sym (ap (λ x. negsuc x +ℤ pos (d .0)) (sym (d .1)) ∙ down b (d .0)))
   where
@@ -95,7 +90,8 @@ pub ≤ℤ-of-sub : {a b : ℤ} → pos 0 ⩽ b -ℤ a → a ⩽ b
 ≤ℤ-of-sub {a} {b} h = let d = nonneg-dest h in ≤ℤ-intro (d .0) (ring 2 (λ a b. b ≈ a ⊕ (b ⊖ a)) refl a b ∙ ap (λ x. a +ℤ x) (d .1))
 
 pub sub-nonneg : {a b : ℤ} → a ⩽ b → pos 0 ⩽ b -ℤ a
-sub-nonneg {a} {b} h = let d = ≤ℤ-dest h in ≤ℤ-intro (d .0) (ap (λ x. x -ℤ a) (d .1) ∙ ring 2 (λ a n. a ⊕ n ⊖ a ≈ # 0 ⊕ n) refl a (pos (d .0)))
+sub-nonneg {a} {b} h = let d = ≤ℤ-dest h in ≤ℤ-intro (d .0)
+    (ap (λ x. x -ℤ a) (d .1) ∙ ring 2 (λ a n. a ⊕ n ⊖ a ≈ # 0 ⊕ n) refl a (pos (d .0)))
 
 -- the pattern for an inequality: the difference of its sides is something that is not negative
 pub le-by : {a b c : ℤ} → pos 0 ⩽ c → b -ℤ a ≡ c → a ⩽ b
@@ -104,7 +100,8 @@ le-by h e = ≤ℤ-of-sub (≤ℤ-≡ h (sym e))
 -- ---- sums and products
 pub +ℤ-mono : {a b c d : ℤ} → a ⩽ b → c ⩽ d → a +ℤ c ⩽ b +ℤ d
 +ℤ-mono {a} {b} {c} {d} h k = let p = ≤ℤ-dest h in let q = ≤ℤ-dest k in
-    ≤ℤ-intro (p .0 + q .0) (ap₂ _+ℤ_ (p .1) (q .1) ∙ ring 4 (λ a m c n. (a ⊕ m) ⊕ (c ⊕ n) ≈ (a ⊕ c) ⊕ (m ⊕ n)) refl a (pos (p .0)) c (pos (q .0)))
+    ≤ℤ-intro (p .0 + q .0) (ap₂ _+ℤ_ (p .1) (q .1)
+    ∙ ring 4 (λ a m c n. (a ⊕ m) ⊕ (c ⊕ n) ≈ (a ⊕ c) ⊕ (m ⊕ n)) refl a (pos (p .0)) c (pos (q .0)))
 
 pub nonneg-add : {a b : ℤ} → pos 0 ⩽ a → pos 0 ⩽ b → pos 0 ⩽ a +ℤ b
 nonneg-add h k = +ℤ-mono h k
@@ -199,7 +196,9 @@ cancel′ k x y h = go (le-or-above x y)
     -- k(y + n + 1) ≤ k y says that k(n + 1) ≤ 0
     go : (x ⩽ y) ⊎ ((n : ℕ) × (x ≡ y +ℤ pos (suc n))) → x ⩽ y
     go (inl r) = r
-    go (inr d) = absurd (pos≰0 {n = suc k * suc (d .0)} (N.mul-pos (N.zero-lt-suc k) (N.zero-lt-suc (d .0))) (≤ℤ-of-sub (≤ℤ-≡ (sub-nonneg (≡-≤ℤ (ap (λ z. pos (suc k) *ℤ z) (sym (d .1))) h)) (ring 3 (λ k y n. k ⊗ y ⊖ k ⊗ (y ⊕ n) ≈ # 0 ⊖ k ⊗ n) refl (pos (suc k)) y (pos (suc (d .0)))))))
+    go (inr d) = absurd (pos≰0 {n = suc k * suc (d .0)} (N.mul-pos (N.zero-lt-suc k) (N.zero-lt-suc (d .0)))
+        (≤ℤ-of-sub (≤ℤ-≡ (sub-nonneg (≡-≤ℤ (ap (λ z. pos (suc k) *ℤ z) (sym (d .1))) h))
+        (ring 3 (λ k y n. k ⊗ y ⊖ k ⊗ (y ⊕ n) ≈ # 0 ⊖ k ⊗ n) refl (pos (suc k)) y (pos (suc (d .0)))))))
 
 pub *ℤ-cancel : {a x y : ℤ} → pos 0 ⋖ a → a *ℤ x ⩽ a *ℤ y → x ⩽ y
 *ℤ-cancel {a} {x} {y} ha h = let d = ≤ℤ-dest (<ℤ-le ha) in
@@ -215,7 +214,8 @@ pos< h = le-<ℤ (pos≤ (omega arith))
 pub mul-positive : {a b : ℤ} → pos 0 ⋖ a → pos 0 ⋖ b → pos 0 ⋖ a *ℤ b
 mul-positive {a} {b} h k = le-<ℤ (*ℤ-mono (<ℤ-weaken h) (0≤pos 1) (<ℤ-le h) (<ℤ-le k))
 
--- ---- back to ℕ: an identity or an inequality of naturals from one of ℤ, since `pos a +ℤ pos b` computes to `pos (a + b)` and `pos a *ℤ pos b` to `pos (a * b)`
+-- ---- back to ℕ: an identity or an inequality of naturals from one of ℤ,
+-- since `pos a +ℤ pos b` computes to `pos (a + b)` and `pos a *ℤ pos b` to `pos (a * b)`
 pub pos-inj : {a b : ℕ} → pos a ≡ pos b → a ≡ b
 pos-inj h = ap natAbs h
 

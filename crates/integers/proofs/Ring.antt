@@ -1,6 +1,9 @@
--- A solver for identities of commutative rings over ℤ, by reflection. `E` are polynomial expressions, `den` their meaning, `norm` their normal form, a list of monomials
--- sorted by a key, and `norm-sound` says that the two have one value. An identity holds where the normal form of the difference of its sides is empty, a test that computes.
--- A monomial carries the list of its exponents, which the proof reads, and one number (256 to the place of a variable, added up), by which it is sorted: one native comparison.
+-- A solver for identities of commutative rings over ℤ, by reflection.
+-- `E` are polynomial expressions, `den` their meaning, `norm` their normal form, a list of monomials
+-- sorted by a key, and `norm-sound` says that the two have one value.
+-- An identity holds where the normal form of the difference of its sides is empty, a test that computes.
+-- A monomial carries the list of its exponents, which the proof reads,
+-- and one number (256 to the place of a variable, added up), by which it is sorted: one native comparison.
 -- `ring 3 (λ x y z. x ⊗ (y ⊕ z) ≈ x ⊗ z ⊕ x ⊗ y) refl a b c : a *ℤ (b +ℤ c) ≡ a *ℤ c +ℤ a *ℤ b`
 use mathlib.Core.Path.{_≡_, refl, sym, _∙_, ap, ap₂, subst}
 use mathlib.Core.List.{List, [], _∷_}
@@ -170,7 +173,8 @@ eqL-sound [] (b ∷ vs) t = absurd t
 eqL-sound (a ∷ us) [] t = absurd t
 eqL-sound (a ∷ us) (b ∷ vs) t = go (eqb a b) (eqb→eq a b) (eqL us vs) (eqL-sound us vs) t
   where
-    go : (e : Bool) → (T e → a ≡ b) → (r : Bool) → (T r → us ≡ vs) → T (elim e as (λ x. Bool) [ true ↦ r | false ↦ false ]) → a ∷ us ≡ b ∷ vs
+    go : (e : Bool) → (T e → a ≡ b) → (r : Bool) → (T r → us ≡ vs) → T (elim e as (λ x. Bool) [ true ↦ r | false ↦ false ]) → a ∷ us ≡ b
+        ∷ vs
     go true f r g t = ap₂ _∷_ (f tt) (g t)
     go false f r g t = absurd t
 
@@ -221,7 +225,8 @@ module _ (ρ : List ℤ) where
   unfolding pev
   mul-sound nil q = sym (zero-*ℤ (pev q ρ))
   mul-sound (term k m c p) q =
-      merge-sound (times k m c q) (mul p q) ∙ ap₂ _+ℤ_ (times-sound k m c q) (mul-sound p q) ∙ sym (add-mulℤ (c *ℤ mev m ρ) (pev p ρ) (pev q ρ))
+      merge-sound (times k m c q) (mul p q) ∙ ap₂ _+ℤ_ (times-sound k m c q) (mul-sound p q)
+      ∙ sym (add-mulℤ (c *ℤ mev m ρ) (pev p ρ) (pev q ρ))
 
   negate-sound : (p : Poly) → pev (times 0 [] (negsuc 0) p) ρ ≡ negℤ (pev p ρ)
   unfolding mev
@@ -232,7 +237,8 @@ module _ (ρ : List ℤ) where
   norm-sound (var i) = sym (+ℤ-idr (pos 1 *ℤ mev (unitL i) ρ) ∙ 1-*ℤ (mev (unitL i) ρ) ∙ mev-unit i ρ)
   norm-sound (con c) = sym (keep-sound c 0 [] nil ρ ∙ +ℤ-idr (c *ℤ pos 1) ∙ *ℤ-1 c)
   norm-sound (a ⊕ b) = ap₂ _+ℤ_ (norm-sound a) (norm-sound b) ∙ sym (merge-sound (norm a) (norm b))
-  norm-sound (a ⊖ b) = ap₂ _+ℤ_ (norm-sound a) (ap negℤ (norm-sound b) ∙ sym (negate-sound (norm b))) ∙ sym (merge-sound (norm a) (times 0 [] (negsuc 0) (norm b)))
+  norm-sound (a ⊖ b) = ap₂ _+ℤ_ (norm-sound a) (ap negℤ (norm-sound b) ∙ sym (negate-sound (norm b)))
+      ∙ sym (merge-sound (norm a) (times 0 [] (negsuc 0) (norm b)))
   norm-sound (a ⊗ b) = ap₂ _*ℤ_ (norm-sound a) (norm-sound b) ∙ sym (mul-sound (norm a) (norm b))
   norm-sound (⊝ a) = ap negℤ (norm-sound a) ∙ sym (negate-sound (norm a))
 

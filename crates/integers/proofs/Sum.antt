@@ -53,7 +53,8 @@ sum-nonneg (suc n) h = nonneg-add (sum-nonneg n (λ i p. h i (omega arith))) (h 
 pub sum-split : (n m : ℕ) (f : ℕ → ℤ) → sum (n + m) f ≡ sum n f +ℤ sum m (λ i. f (n + i))
 unfolding sum
 sum-split n zero f = ap (λ k. sum k f) (N.add-zero n) ∙ sym (+ℤ-idr (sum n f))
-sum-split n (suc m) f = ap (λ k. sum k f) (N.add-suc n m) ∙ ap (λ x. x +ℤ f (n + m)) (sum-split n m f) ∙ +ℤ-assoc (sum n f) (sum m (λ i. f (n + i))) (f (n + m))
+sum-split n (suc m) f = ap (λ k. sum k f) (N.add-suc n m) ∙ ap (λ x. x +ℤ f (n + m)) (sum-split n m f)
+    ∙ +ℤ-assoc (sum n f) (sum m (λ i. f (n + i))) (f (n + m))
 
 -- ---- over a list
 
@@ -92,7 +93,8 @@ pub over-const : (js : List ℕ) (k : ℤ) → sumOver js (λ j. k) ≡ pos (len
 unfolding sumOver
 over-const [] k = sym (zero-*ℤ k)
 over-const (j ∷ js) k =
-    ap (λ z. k +ℤ z) (over-const js k) ∙ ring 2 (λ k n. k ⊕ n ⊗ k ≈ (# 1 ⊕ n) ⊗ k) refl k (pos (length js)) ∙ ap (λ z. z *ℤ k) (sym (pos-suc (length js)))
+    ap (λ z. k +ℤ z) (over-const js k) ∙ ring 2 (λ k n. k ⊕ n ⊗ k ≈ (# 1 ⊕ n) ⊗ k) refl k (pos (length js))
+    ∙ ap (λ z. z *ℤ k) (sym (pos-suc (length js)))
 
 -- the differences from u add up to the sum less the count times u
 pub over-less : (js : List ℕ) (a : ℕ → ℤ) (u : ℤ) → sumOver js (λ j. a j -ℤ u) ≡ sumOver js a -ℤ pos (length js) *ℤ u
@@ -100,16 +102,21 @@ over-less js a u = over-add js a (λ j. negℤ u) ∙ ap (λ z. sumOver js a +�
     ring 3 (λ s n u. s ⊕ n ⊗ ⊝ u ≈ s ⊖ n ⊗ u) refl (sumOver js a) (pos (length js)) u
 
 -- Cauchy's inequality: (x₁ + … + x_g)² ≤ g (x₁² + … + x_g²)
-spread : (js : List ℕ) (f : ℕ → ℤ) (x : ℤ) → pos 0 ⩽ pos (length js) *ℤ (x *ℤ x) -ℤ pos 2 *ℤ (x *ℤ sumOver js f) +ℤ sumOver js (λ j. f j *ℤ f j)
+spread : (js : List ℕ) (f : ℕ → ℤ) (x : ℤ) → pos 0 ⩽ pos (length js) *ℤ (x *ℤ x) -ℤ pos 2 *ℤ (x *ℤ sumOver js f)
+    +ℤ sumOver js (λ j. f j *ℤ f j)
 unfolding sumOver
 spread [] f x = ≤ℤ-of-eq (ring 1 (λ x. # 0 ≈ # 0 ⊗ (x ⊗ x) ⊖ # 2 ⊗ (x ⊗ # 0) ⊕ # 0) refl x)
 spread (j ∷ js) f x =
-    lin 6 (λ x y n m s q. 1 *≤ # 0 ⊴ (x ⊖ y) ⊗ (x ⊖ y) ⇒ 1 *≤ # 0 ⊴ n ⊗ (x ⊗ x) ⊖ # 2 ⊗ (x ⊗ s) ⊕ q ⇒ (x ⊗ x) *≈ m ≈ # 1 ⊕ n ⇒ ⊩ # 0 ⊴ m ⊗ (x ⊗ x) ⊖ # 2 ⊗ (x ⊗ (y ⊕ s)) ⊕ (y ⊗ y ⊕ q)) refl
-    x (f j) (pos (length js)) (pos (suc (length js))) (sumOver js f) (sumOver js (λ j. f j *ℤ f j)) (square-nonneg (x -ℤ f j)) (spread js f x) (pos-suc (length js))
+    lin 6 (λ x y n m s q. 1 *≤ # 0 ⊴ (x ⊖ y) ⊗ (x ⊖ y) ⇒ 1 *≤ # 0 ⊴ n ⊗ (x ⊗ x) ⊖ # 2 ⊗ (x ⊗ s) ⊕ q ⇒ (x ⊗ x) *≈ m ≈ # 1 ⊕ n ⇒ ⊩ # 0
+    ⊴ m ⊗ (x ⊗ x) ⊖ # 2 ⊗ (x ⊗ (y ⊕ s)) ⊕ (y ⊗ y ⊕ q)) refl
+    x (f j) (pos (length js)) (pos (suc (length js))) (sumOver js f) (sumOver js (λ j. f j *ℤ f j)) (square-nonneg (x -ℤ f j))
+    (spread js f x) (pos-suc (length js))
 
 pub cauchy : (js : List ℕ) (f : ℕ → ℤ) → sumOver js f *ℤ sumOver js f ⩽ pos (length js) *ℤ sumOver js (λ j. f j *ℤ f j)
 unfolding sumOver
 cauchy [] f = ≤ℤ-refl (pos 0)
 cauchy (j ∷ js) f =
-    lin 5 (λ x n m s q. 1 *≤ s ⊗ s ⊴ n ⊗ q ⇒ 1 *≤ # 0 ⊴ n ⊗ (x ⊗ x) ⊖ # 2 ⊗ (x ⊗ s) ⊕ q ⇒ (x ⊗ x ⊕ q) *≈ m ≈ # 1 ⊕ n ⇒ ⊩ (x ⊕ s) ⊗ (x ⊕ s) ⊴ m ⊗ (x ⊗ x ⊕ q)) refl
-    (f j) (pos (length js)) (pos (suc (length js))) (sumOver js f) (sumOver js (λ j. f j *ℤ f j)) (cauchy js f) (spread js f (f j)) (pos-suc (length js))
+    lin 5 (λ x n m s q. 1 *≤ s ⊗ s ⊴ n ⊗ q ⇒ 1 *≤ # 0 ⊴ n ⊗ (x ⊗ x) ⊖ # 2 ⊗ (x ⊗ s) ⊕ q ⇒ (x ⊗ x ⊕ q) *≈ m ≈ # 1 ⊕ n ⇒ ⊩ (x ⊕ s) ⊗ (x ⊕ s)
+    ⊴ m ⊗ (x ⊗ x ⊕ q)) refl
+    (f j) (pos (length js)) (pos (suc (length js))) (sumOver js f) (sumOver js (λ j. f j *ℤ f j)) (cauchy js f) (spread js f (f j))
+    (pos-suc (length js))

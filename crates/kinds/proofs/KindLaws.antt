@@ -1,11 +1,12 @@
 -- A kind by its number.
 use mathlib.Core.Path.{_≡_, refl, sym, ap, _∙_, subst}
-use mathlib.Core.Bool.{Bool, true, false, _&&_, and-false, true≢false}
+use mathlib.Core.Bool.{Bool, true, false, _&&_, and-false}
 use Prim.Native.Nat.{ℕ, zero, suc, _+_, _*_, _≤_, _<_}
 use native.Mathlib.Omega.{arith}
 use borrow.Author.Tests.{eqb-true, lt-leb}
 use lib.Dec.{T, leb, eqb, leb→le}
-use Rattle.scheme.specs.Instruments.{D, Kind, unknown, fixedString, halfFreeString, freeString, bar, membrane, roundMembrane, kindOf, within, sizeIn, stableIn}
+use Rattle.scheme.specs.Instruments.{D, Kind, unknown, fixedString, halfFreeString, freeString, bar, membrane, roundMembrane, kindOf}
+use Rattle.scheme.specs.Instruments.{within, sizeIn, stableIn}
 use Rattle.scheme.specs.Refusals.{lastKind}
 use Rattle.scheme.proofs.Laws.Bools.{and-both, and-no, not-so}
 use Rattle.scheme.proofs.Laws.Kinds.{within-is, is-within, within-one}
@@ -60,7 +61,8 @@ pub by-range : (lo hi : ℕ) → T (leb 1 lo) → T (leb hi 6) → (P : Kind →
     → (k : ℕ) → lo ≤ k → k ≤ hi → P (kindOf k)
 by-range lo hi tl th P a b c d e f =
     by-number (λ k K. lo ≤ k → k ≤ hi → P K)
-    (λ l h. absurd (omega (arith, leb→le 1 lo tl))) (at 1 a) (at 2 b) (at 3 c) (at 4 d) (at 5 e) (at 6 f) (λ k p l h. absurd (omega (arith, leb→le hi 6 th)))
+    (λ l h. absurd (omega (arith, leb→le 1 lo tl))) (at 1 a) (at 2 b) (at 3 c) (at 4 d) (at 5 e) (at 6 f)
+    (λ k p l h. absurd (omega (arith, leb→le hi 6 th)))
   where
     at : (n : ℕ) {X : Type 0} → (T (within lo hi n) → X) → lo ≤ n → n ≤ hi → X
     at n x l h = x (subst T (sym (is-within lo hi n l h)) tt)
@@ -71,15 +73,18 @@ pub line-size : (c r k : ℕ) → 1 ≤ k → k ≤ 4 → sizeIn (kindOf k) c r 
 unfolding sizeIn
 line-size c r =
     let e = ap (λ (b : Bool). within 3 1024 c && b) (sym (within-one 1 r)) in
-    by-range 1 4 tt tt (λ K. sizeIn K c r ≡ (within 3 1024 c && within 1 1 r)) (λ t. e) (λ t. e) (λ t. e) (λ t. e) (λ t. absurd t) (λ t. absurd t)
+    by-range 1 4 tt tt (λ K. sizeIn K c r ≡ (within 3 1024 c && within 1 1 r)) (λ t. e) (λ t. e) (λ t. e) (λ t. e) (λ t. absurd t)
+    (λ t. absurd t)
 
 pub string-stable : (q m k : ℕ) → 1 ≤ k → k ≤ 3 → stableIn (kindOf k) q m ≡ (leb q D && eqb m 0)
 unfolding stableIn
-string-stable q m = by-range 1 3 tt tt (λ K. stableIn K q m ≡ (leb q D && eqb m 0)) (λ t. refl) (λ t. refl) (λ t. refl) (λ t. absurd t) (λ t. absurd t) (λ t. absurd t)
+string-stable q m = by-range 1 3 tt tt (λ K. stableIn K q m ≡ (leb q D && eqb m 0)) (λ t. refl) (λ t. refl) (λ t. refl) (λ t. absurd t)
+    (λ t. absurd t) (λ t. absurd t)
 
 pub membrane-stable : (q m k : ℕ) → 5 ≤ k → k ≤ 6 → stableIn (kindOf k) q m ≡ (leb (2 * q) D && eqb m 0)
 unfolding stableIn
-membrane-stable q m = by-range 5 6 tt tt (λ K. stableIn K q m ≡ (leb (2 * q) D && eqb m 0)) (λ t. absurd t) (λ t. absurd t) (λ t. absurd t) (λ t. absurd t) (λ t. refl) (λ t. refl)
+membrane-stable q m = by-range 5 6 tt tt (λ K. stableIn K q m ≡ (leb (2 * q) D && eqb m 0)) (λ t. absurd t) (λ t. absurd t) (λ t. absurd t)
+    (λ t. absurd t) (λ t. refl) (λ t. refl)
 
 -- a coefficient past D is stable with no kind
 pub q-past : (K : Kind) (q m : ℕ) → D < q → stableIn K q m ≡ false

@@ -10,7 +10,8 @@ use lib.Arith.{digits-lt, digits-div, digits-mod}
 use lib.Dec.{ltb, leb, eqb, leb·zero, eqb·suc-zero}
 use Rattle.integers.proofs.Order.{≤-totalℕ}
 use Rattle.scheme.specs.declared.Grid.{Grid}
-use Rattle.scheme.specs.Instruments.{Kind, unknown, fixedString, halfFreeString, freeString, bar, membrane, roundMembrane, kindOf, kind, points, sizeIn, atEdge, roundEdge, fixedIn, fixed, moving, inTable}
+use Rattle.scheme.specs.Instruments.{Kind, unknown, fixedString, halfFreeString, freeString, bar, membrane, roundMembrane, kindOf, kind}
+use Rattle.scheme.specs.Instruments.{points, sizeIn, atEdge, roundEdge, fixedIn, fixed, moving, inTable}
 use Rattle.scheme.proofs.Laws.Bools.{and-both, and-yes, and-no, or-no, not-so, same}
 use Rattle.scheme.proofs.Laws.Kinds.{Sized, sized}
 use Rattle.kinds.specs.declared.runs.Run.{Run}
@@ -46,7 +47,8 @@ module _ (c : ℕ) where
   ends zero h = refl
   ends (suc a) h =
       ap not (or-no (eqb·suc-zero a)) ∙
-      same (λ e. lt-ltb (suc a) (c - 1) (omega (arith, eqb-false (suc a + 1) c (not-true _ e)))) (λ e. ap not (ne-eqb (suc a + 1) c (λ q. omega (arith, ltb-true (suc a) (c - 1) e)))) ∙
+      same (λ e. lt-ltb (suc a) (c - 1) (omega (arith, eqb-false (suc a + 1) c (not-true _ e))))
+      (λ e. ap not (ne-eqb (suc a + 1) c (λ q. omega (arith, ltb-true (suc a) (c - 1) e)))) ∙
       sym (and-yes (le-leb 1 (suc a) (omega arith)))
 
   -- the first alone
@@ -105,7 +107,8 @@ module _ (G b : ℕ) (some : 1 ≤ G) where
 
   round-bounds : RunIn G (roundRun G b)
   unfolding roundRun from
-  round-bounds = run-cond G (ltb from G) (run from (G - from)) (run 0 0) (λ e. record { rising = go (ltb-true from G e) (≤-totalℕ (G - from) from); inside = omega arith }) (run-none G)
+  round-bounds = run-cond G (ltb from G) (run from (G - from)) (run 0 0)
+      (λ e. record { rising = go (ltb-true from G e) (≤-totalℕ (G - from) from); inside = omega arith }) (run-none G)
     where
       go : from < G → (G - from ≤ from) ⊎ (from ≤ G - from) → from ≤ G - from
       go h (inl l) = absurd (true≢false (sym (edge-right from h l) ∙ leading-stops G edge h))
@@ -123,7 +126,8 @@ not-fixed bar c r b a s h = ends c a h
 not-fixed membrane c r b a s h = ring-in c r b a h
 not-fixed roundMembrane c r b a s h = round-in c b (omega arith) a h
 
-run-by : (g : Grid) (b : ℕ) {t : Bool} → (inTable g && ltb b (g .rows)) ≡ t → runOf g b ≡ cond t (runIn (kind g) (g .columns) (g .rows) b) (run 0 0)
+run-by : (g : Grid) (b : ℕ) {t : Bool} → (inTable g && ltb b (g .rows)) ≡ t → runOf g b
+    ≡ cond t (runIn (kind g) (g .columns) (g .rows) b) (run 0 0)
 unfolding runOf
 run-by g b e = ap (λ (t : Bool). cond t (runIn (kind g) (g .columns) (g .rows) b) (run 0 0)) e
 
@@ -177,7 +181,9 @@ moving-at g i size = go (ltb i (points g)) refl
         (mod-lt i some)
     go false e =
         and-no _ e ∙
-        sym (ap (λ (r : Run). inRun r (i % g .columns)) (run-past g (i / g .columns) (le-div-iff-mul-le some .1 (subst (λ (n : ℕ). n ≤ i) (mul-comm (g .columns) (g .rows)) (ltb-false i (points g) e)))) ∙
+        sym (ap (λ (r : Run). inRun r (i % g .columns))
+        (run-past g (i / g .columns) (le-div-iff-mul-le some .1
+        (subst (λ (n : ℕ). n ≤ i) (mul-comm (g .columns) (g .rows)) (ltb-false i (points g) e)))) ∙
         none-in (i % g .columns))
 
 -- ---- a run lies in its row

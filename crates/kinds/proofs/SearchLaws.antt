@@ -27,17 +27,20 @@ leading-is zero p k s e = omega (arith, s .reached)
 leading-is (suc n) p zero s e = ap (λ (b : Bool). cond b (suc (leading n (λ i. p (suc i)))) 0) (e (omega arith))
 leading-is (suc n) p (suc k) s e =
     ap (λ (b : Bool). cond b (suc (leading n (λ i. p (suc i)))) 0) (s .each 0 (omega arith)) ∙
-    ap suc (leading-is n (λ i. p (suc i)) k (record { reached = omega (arith, s .reached); each = λ i h. s .each (suc i) (omega arith) }) (λ h. e (omega arith)))
+    ap suc (leading-is n (λ i. p (suc i)) k (record { reached = omega (arith, s .reached); each = λ i h. s .each (suc i) (omega arith) })
+    (λ h. e (omega arith)))
 
 -- by whether the first passes
-leading-cases : (n : ℕ) (p : ℕ → Bool) (P : ℕ → Type 0) → (p 0 ≡ true → P (suc (leading n (λ i. p (suc i))))) → (p 0 ≡ false → P 0) → P (leading (suc n) p)
+leading-cases : (n : ℕ) (p : ℕ → Bool) (P : ℕ → Type 0) → (p 0 ≡ true → P (suc (leading n (λ i. p (suc i))))) → (p 0 ≡ false → P 0)
+    → P (leading (suc n) p)
 unfolding leading
 leading-cases n p P f g = cases (λ b. P (cond b (suc (leading n (λ i. p (suc i)))) 0)) (p 0) f g
 
 pub leading-passed : (n : ℕ) (p : ℕ → Bool) → Passed n p (leading n p)
 unfolding leading
 leading-passed zero p = passed-none zero p
-leading-passed (suc n) p = leading-cases n p (Passed (suc n) p) (λ e. one (leading n (λ i. p (suc i))) e (leading-passed n (λ i. p (suc i)))) (λ e. passed-none (suc n) p)
+leading-passed (suc n) p = leading-cases n p (Passed (suc n) p)
+    (λ e. one (leading n (λ i. p (suc i))) e (leading-passed n (λ i. p (suc i)))) (λ e. passed-none (suc n) p)
   where
     one : (k : ℕ) → p 0 ≡ true → Passed n (λ i. p (suc i)) k → Passed (suc n) p (suc k)
     one k e s = record { reached = omega (arith, s .reached); each = at }
@@ -48,7 +51,8 @@ leading-passed (suc n) p = leading-cases n p (Passed (suc n) p) (λ e. one (lead
 
 pub leading-stops : (n : ℕ) (p : ℕ → Bool) → leading n p < n → p (leading n p) ≡ false
 leading-stops zero p = λ h. absurd (omega arith)
-leading-stops (suc n) p = leading-cases n p (λ k. k < suc n → p k ≡ false) (λ e h. leading-stops n (λ i. p (suc i)) (omega arith)) (λ e h. e)
+leading-stops (suc n) p = leading-cases n p (λ k. k < suc n → p k ≡ false) (λ e h. leading-stops n (λ i. p (suc i)) (omega arith))
+    (λ e h. e)
 
 -- ---- some of the first n
 
@@ -74,7 +78,8 @@ pub some-rows : (r c : ℕ) (p : ℕ → Bool) → someBelow (r * c) p ≡ someB
 unfolding someBelow
 some-rows zero c p = ap (λ (k : ℕ). someBelow k p) (zero-mul c)
 some-rows (suc r) c p =
-    ap (λ (k : ℕ). someBelow k p) (suc-mul r c) ∙ some-add (r * c) c p ∙ ap (λ (b : Bool). b || someBelow c (λ a. p (r * c + a))) (some-rows r c p)
+    ap (λ (k : ℕ). someBelow k p) (suc-mul r c) ∙ some-add (r * c) c p
+    ∙ ap (λ (b : Bool). b || someBelow c (λ a. p (r * c + a))) (some-rows r c p)
 
 -- only outside from..to
 module _ (c from to : ℕ) (p : ℕ → Bool) (l : from ≤ to) (h : to ≤ c) where
@@ -90,8 +95,11 @@ module _ (c from to : ℕ) (p : ℕ → Bool) (l : from ≤ to) (h : to ≤ c) w
       let k : to ≡ from + (to - from) = omega arith in
       let before : someBelow from out ≡ someBelow from p = some-ext from (λ i q. inside i (and-no _ (lt-leb from i q))) in
       let within : someBelow (to - from) (λ i. out (from + i)) ≡ false =
-      none-below (to - from) (λ i. out (from + i)) (λ i q. inside (from + i) (and-yes (le-leb from (from + i) (omega arith)) ∙ lt-ltb (from + i) to (omega arith))) in
+      none-below (to - from) (λ i. out (from + i)) (λ i q. inside (from + i)
+      (and-yes (le-leb from (from + i) (omega arith)) ∙ lt-ltb (from + i) to (omega arith))) in
       let after : someBelow (c - to) (λ i. out (to + i)) ≡ someBelow (c - to) (λ i. p (to + i)) =
-      some-ext (c - to) (λ i q. inside (to + i) (ap (λ (b : Bool). leb from (to + i) && b) (le-ltb (to + i) to (omega arith)) ∙ and-false (leb from (to + i)))) in
+      some-ext (c - to) (λ i q. inside (to + i) (ap (λ (b : Bool). leb from (to + i) && b) (le-ltb (to + i) to (omega arith))
+      ∙ and-false (leb from (to + i)))) in
       ap (λ (n : ℕ). someBelow n out) m ∙ some-add to (c - to) out ∙
-      ap₂ _||_ (ap (λ (n : ℕ). someBelow n out) k ∙ some-add from (to - from) out ∙ ap₂ _||_ before within ∙ or-false (someBelow from p)) after
+      ap₂ _||_ (ap (λ (n : ℕ). someBelow n out) k ∙ some-add from (to - from) out ∙ ap₂ _||_ before within ∙ or-false (someBelow from p))
+      after

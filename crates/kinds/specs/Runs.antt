@@ -3,7 +3,8 @@ use mathlib.Core.Bool.{Bool, _&&_, cond}
 use Prim.Native.Nat.{ℕ, _+_, _-_}
 use lib.Dec.{leb, ltb}
 use Rattle.scheme.specs.declared.Grid.{Grid}
-use Rattle.scheme.specs.Instruments.{Kind, unknown, fixedString, halfFreeString, freeString, bar, membrane, roundMembrane, kind, points, inTable, atEdge, roundEdge}
+use Rattle.scheme.specs.Instruments.{Kind, unknown, fixedString, halfFreeString, freeString, bar, membrane, roundMembrane, kind, points}
+use Rattle.scheme.specs.Instruments.{inTable, atEdge, roundEdge}
 use Rattle.kinds.specs.declared.runs.Run.{Run}
 use Rattle.kinds.specs.Search.{leading}
 
@@ -22,7 +23,8 @@ inRun r a = leb (r .from) a && ltb a (r .to)
 unfoldable pub innerRun : ℕ → ℕ → ℕ → Run
 innerRun c r b = cond (atEdge r b) (run 0 0) (run 1 (c - 1))
 
--- "in kind 6 with G columns each point whose column a and row b satisfy .." is fixed: what moves in row b, from the first column that does, and as far from the right
+-- "in kind 6 with G columns each point whose column a and row b satisfy .." is fixed:
+-- what moves in row b, from the first column that does, and as far from the right
 unfoldable pub roundRun : ℕ → ℕ → Run
 roundRun G b =
     let first = leading G (λ a. roundEdge G a b) in

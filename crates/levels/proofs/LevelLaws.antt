@@ -54,17 +54,21 @@ pub row-inside : (b r c : ℕ) → b < r → b * c + c ≤ c * r
 row-inside b r c h = subst₂ _≤_ (sym (next-row b c)) (mul-comm r c) (mul-le-mul (omega arith) (le-refl c))
 
 module _ (g : Grid) (xs : List ℤ) (size : inTable g ≡ true) where
-  row-test : (b : ℕ) → b < g .rows → someBelow (g .columns) (λ a. fixed g (b * g .columns + a) && notZero xs (b * g .columns + a)) ≡ rowNotZero xs (b * g .columns) (g .columns) (runOf g b)
+  row-test : (b : ℕ) → b < g .rows → someBelow (g .columns) (λ a. fixed g (b * g .columns + a) && notZero xs (b * g .columns + a))
+      ≡ rowNotZero xs (b * g .columns) (g .columns) (runOf g b)
   unfolding someNotZero
   row-test b h =
       let r = runOf g b in
       let w = run-bounds g b in
       some-ext (g .columns) (λ a q. ap (λ (t : Bool). t && notZero xs (b * g .columns + a)) (fixed-run g b a size h q)) ∙
       some-outside (g .columns) (r .from) (r .to) (λ a. notZero xs (b * g .columns + a)) (w .rising) (w .inside) ∙
-      ap (λ (t : Bool). someNotZero xs (b * g .columns) (r .from) || t) (some-ext (g .columns - r .to) (λ a q. ap (notZero xs) (sym (add-assoc (b * g .columns) (r .to) a))))
+      ap (λ (t : Bool). someNotZero xs (b * g .columns) (r .from) || t)
+      (some-ext (g .columns - r .to) (λ a q. ap (notZero xs) (sym (add-assoc (b * g .columns) (r .to) a))))
 
-  pub rows-test : length xs ≡ points g → fixedNotZero g xs ≡ someBelow (g .rows) (λ b. rowNotZero xs (b * g .columns) (g .columns) (runOf g b))
+  pub rows-test : length xs ≡ points g → fixedNotZero g xs
+      ≡ someBelow (g .rows) (λ b. rowNotZero xs (b * g .columns) (g .columns) (runOf g b))
   unfolding fixedNotZero
   rows-test l =
       let test : ℕ → Bool = λ i. fixed g i && notZero xs i in
-      ap (λ (n : ℕ). someBelow n test) (l ∙ mul-comm (g .columns) (g .rows)) ∙ some-rows (g .rows) (g .columns) test ∙ some-ext (g .rows) row-test
+      ap (λ (n : ℕ). someBelow n test) (l ∙ mul-comm (g .columns) (g .rows)) ∙ some-rows (g .rows) (g .columns) test
+      ∙ some-ext (g .rows) row-test

@@ -39,7 +39,6 @@ fn digit_of(byte: u8) -> u64
 }
 
 // A field of digits, of a value of at most `most`. It is compared before it is computed, so that nothing wraps.
-// Ruled out: a number past `most` taken; a field with no digit taken as 0.
 pub(crate) fn read_unsigned(digits: &[u8], most: u64) -> Unsigned
     requires { ⌜ (9 ≤ most) × (most ≤ 2 ^ 63) ⌝ }
     ensures { λ r. ⌜ r ≡ unsignedRead most (now (digits .entry)) ⌝ }
@@ -82,7 +81,7 @@ fn minus(n: u64) -> i64
     -1 - ((n - 1) as i64)
 }
 
-// A field of digits, which may have one minus before them. Ruled out: −2⁶³ not taken; the minus ignored.
+// A field of digits, which may have one minus before them.
 pub(crate) fn read_signed(field: &[u8]) -> Signed
     ensures { λ r. ⌜ r ≡ signedRead (now (field .entry)) ⌝ }
 {

@@ -48,7 +48,7 @@ fn line_request(line: &[u8]) -> Request
 }
 
 // What the first line of the bytes asks for; the first 256 bytes of the input are enough (`FirstBytesTell`).
-// Ruled out: two spaces taken as one; a force of −2⁶³ answered by `Input`.
+// Ruled out: a line of 256 bytes taken; a force of −2⁶³ answered by `Input`.
 pub fn request(bytes: &[u8]) -> Request
     ensures { λ r. ⌜ r ≡ requestOf (now (bytes .entry)) ⌝ }
 {

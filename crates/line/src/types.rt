@@ -14,7 +14,7 @@ pub struct Numbers {
 }
 
 // What a line asks for: to print `input`, or to run on ten numbers. The definition `requestOf` tells which, and `numbers` the values;
-// `answerTo` of the crate shell tells what is printed for each.
+// `textFor` of the crate shell tells what is printed for each.
 pub enum Request {
     Input,
     Run(Numbers),

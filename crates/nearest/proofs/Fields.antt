@@ -26,16 +26,20 @@ signed-mul : (s : Bool) (a b : ℕ) → signed s (a * b) ≡ signed s a *ℤ pos
 signed-mul false a b = refl
 signed-mul true a b = ring 2 (λ a b. ⊝ (a ⊗ b) ≈ ⊝ a ⊗ b) refl (pos a) (pos b)
 
-pub same-size : (s : Bool) (a b c d : ℕ) → 0 < b → 0 < d → a * d ≡ c * b → wholeIn (halvesUp (signed s a) b) ≡ wholeIn (halvesUp (signed s c) d)
-same-size s a b c d p q h = ap wholeIn (same-fraction (signed s a) (signed s c) b d p q (sym (signed-mul s a d) ∙ ap (signed s) h ∙ signed-mul s c b))
+pub same-size : (s : Bool) (a b c d : ℕ) → 0 < b → 0 < d → a * d ≡ c * b
+    → wholeIn (halvesUp (signed s a) b) ≡ wholeIn (halvesUp (signed s c) d)
+same-size s a b c d p q h = ap wholeIn (same-fraction (signed s a) (signed s c) b d p q
+    (sym (signed-mul s a d) ∙ ap (signed s) h ∙ signed-mul s c b))
 
-pub by-value : (k : ℕ) (v : Float) (s : Bool) (a c : ℕ) → 0 < c → HasValue v s a c → nearestTimes k v ≡ wholeIn (halvesUp (signed s (a * k)) c)
+pub by-value : (k : ℕ) (v : Float) (s : Bool) (a c : ℕ) → 0 < c → HasValue v s a c
+    → nearestTimes k v ≡ wholeIn (halvesUp (signed s (a * k)) c)
 unfolding nearestTimes
 by-value k nan s a c p h = absurd h
 by-value k (inf t) s a c p h = absurd h
 by-value k (fin t m e) s a c p h =
     ap (λ (b : Bool). wholeIn (halvesUp (signed b (m * up e * k)) (down e))) (h .0)
-    ∙ same-size s (m * up e * k) (down e) (a * k) c (down-pos e) p (mul-right-comm (m * up e) k c ∙ ap (λ (x : ℕ). x * k) (h .1) ∙ mul-right-comm a (down e) k)
+    ∙ same-size s (m * up e * k) (down e) (a * k) c (down-pos e) p
+    (mul-right-comm (m * up e) k c ∙ ap (λ (x : ℕ). x * k) (h .1) ∙ mul-right-comm a (down e) k)
 
 -- ---- the fields: the exponent's field e, and the digits t below the leading one
 
@@ -59,7 +63,8 @@ fields-value s (suc x) t h =
     let y : suc x - 1 ≡ x = omega arith in
     simp (n, y) (odd-sign 53 s (leading + t) x 1074)
 
-of-fields : (s : Bool) (e t : ℕ) → e < 2047 → nearestWhole (ofFields binary64 s e t) ≡ wholeIn (halvesUp (signed s (mantissa e t * 2 ^ (e - 1) * D)) (2 ^ 1074))
+of-fields : (s : Bool) (e t : ℕ) → e < 2047
+    → nearestWhole (ofFields binary64 s e t) ≡ wholeIn (halvesUp (signed s (mantissa e t * 2 ^ (e - 1) * D)) (2 ^ 1074))
 of-fields s e t h = by-value D (ofFields binary64 s e t) s (mantissa e t * 2 ^ (e - 1)) (2 ^ 1074) (pow-pos 1074) (fields-value s e t h)
 
 -- D times a float below 2³⁶ is its mantissa over a power of two
@@ -72,10 +77,12 @@ mantissa-over m x h =
     total : (x : ℕ) → x ≤ 1058 → x + (16 + (1058 - x)) ≡ 1074
     total x h = omega arith
 
-pub of-low-fields : (s : Bool) (e t : ℕ) → e ≤ 1059 → nearestWhole (ofFields binary64 s e t) ≡ wholeIn (halvesUp (signed s (mantissa e t)) (2 ^ (1058 - (e - 1))))
+pub of-low-fields : (s : Bool) (e t : ℕ) → e ≤ 1059
+    → nearestWhole (ofFields binary64 s e t) ≡ wholeIn (halvesUp (signed s (mantissa e t)) (2 ^ (1058 - (e - 1))))
 of-low-fields s e t h =
     of-fields s e t (omega arith)
-    ∙ same-size s (mantissa e t * 2 ^ (e - 1) * D) (2 ^ 1074) (mantissa e t) (2 ^ (1058 - (e - 1))) (pow-pos 1074) (pow-pos (1058 - (e - 1))) (mantissa-over (mantissa e t) (e - 1) (omega arith))
+    ∙ same-size s (mantissa e t * 2 ^ (e - 1) * D) (2 ^ 1074) (mantissa e t) (2 ^ (1058 - (e - 1)))
+    (pow-pos 1074) (pow-pos (1058 - (e - 1))) (mantissa-over (mantissa e t) (e - 1) (omega arith))
 
 no-number : (s b : Bool) → nearestWhole (cond b (inf s) nan) ≡ Outside
 unfolding nearestTimes
@@ -106,7 +113,8 @@ of-high-fields s (suc x) t h k = go (eq-or-lt-of-le (le-of-suc-le-suc k))
         of-fields s (suc x) t l
         ∙ two-or-more s ((leading + t) * 2 ^ (suc x - 1)) (2 ^ 1074) (pow-pos 1074) (mul-le-mul (lead t) (pow-mono high))
 
-pub of-middle-fields : (s : Bool) (e t : ℕ) → 1006 ≤ e → e ≤ 1023 → nearestWhole (ofFields binary64 s e t) ≡ wholeIn (halvesUp (signed s (leading + t)) (2 ^ (1059 - e)))
+pub of-middle-fields : (s : Bool) (e t : ℕ) → 1006 ≤ e → e ≤ 1023
+    → nearestWhole (ofFields binary64 s e t) ≡ wholeIn (halvesUp (signed s (leading + t)) (2 ^ (1059 - e)))
 of-middle-fields s zero t h k = absurd (omega arith)
 of-middle-fields s (suc x) t h k =
     let e : 1058 - (suc x - 1) ≡ 1059 - suc x = omega arith in
@@ -126,7 +134,8 @@ digits b = b % leading
 module _ (b : ℕ) where
   read-as : (s : Bool) → leb sign b ≡ s → nearestWhole (ofBits binary64 b) ≡ nearestWhole (ofFields binary64 s (exponent b) (digits b))
   unfolding ofBits
-  read-as s h = ap (λ (x : ℕ). nearestWhole (ofFields binary64 (leb sign b) x (digits b))) (field b 11 52) ∙ ap (λ (u : Bool). nearestWhole (ofFields binary64 u (exponent b) (digits b))) h
+  read-as s h = ap (λ (x : ℕ). nearestWhole (ofFields binary64 (leb sign b) x (digits b))) (field b 11 52)
+      ∙ ap (λ (u : Bool). nearestWhole (ofFields binary64 u (exponent b) (digits b))) h
 
   pub bits-small : exponent b < 1006 → nearestWhole (ofBits binary64 b) ≡ Is 0
   bits-small h =
@@ -144,18 +153,21 @@ module _ (b : ℕ) where
   bits-large h = read-as (leb sign b) refl ∙ of-high-fields (leb sign b) (exponent b) (digits b) h (mod-lt (b / leading) (pow-pos 11))
 
   module _ (low : 1006 ≤ exponent b) (high : exponent b ≤ 1023) where
-    pub bits-plus : b < sign → {d n : ℕ} → d ≡ digits b → n ≡ nearest (leading + d) (2 ^ (1059 - exponent b)) → nearestWhole (ofBits binary64 b) ≡ wholeIn (pos n)
+    pub bits-plus : b < sign → {d n : ℕ} → d ≡ digits b → n ≡ nearest (leading + d) (2 ^ (1059 - exponent b))
+        → nearestWhole (ofBits binary64 b) ≡ wholeIn (pos n)
     bits-plus h e f =
         read-as false (lt-leb sign b h)
         ∙ of-middle-fields false (exponent b) (digits b) low high
         ∙ ap wholeIn (plus (leading + digits b) (2 ^ (1059 - exponent b)))
         ∙ ap (λ (n : ℕ). wholeIn (pos n)) (sym (f ∙ ap (λ (d : ℕ). nearest (leading + d) (2 ^ (1059 - exponent b))) e))
 
-    bits-minus : sign ≤ b → nearestWhole (ofBits binary64 b) ≡ wholeIn (halvesUp (negℤ (pos (leading + digits b))) (2 ^ (1059 - exponent b)))
+    bits-minus : sign ≤ b
+        → nearestWhole (ofBits binary64 b) ≡ wholeIn (halvesUp (negℤ (pos (leading + digits b))) (2 ^ (1059 - exponent b)))
     bits-minus h = read-as true (le-leb sign b h) ∙ of-middle-fields true (exponent b) (digits b) low high
 
     pub bits-minus-half : sign ≤ b → exponent b ≡ 1006 → digits b ≡ 0 → nearestWhole (ofBits binary64 b) ≡ Is 0
-    bits-minus-half h e t = bits-minus h ∙ ap wholeIn (minus-half (leading + digits b) (2 ^ (1059 - exponent b)) (pow-pos (1059 - exponent b)) (simp (e, t) (lit≤ tt)))
+    bits-minus-half h e t = bits-minus h
+        ∙ ap wholeIn (minus-half (leading + digits b) (2 ^ (1059 - exponent b)) (pow-pos (1059 - exponent b)) (simp (e, t) (lit≤ tt)))
 
     pub bits-minus-below : sign ≤ b → (exponent b ≡ 1006 → digits b ≡ 0 → ⊥) → nearestWhole (ofBits binary64 b) ≡ Outside
     bits-minus-below h n = bits-minus h ∙ minus-below (leading + digits b) (2 ^ (1059 - exponent b)) (go (eq-or-lt-of-le low))

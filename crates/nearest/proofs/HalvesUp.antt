@@ -2,7 +2,8 @@
 use mathlib.Core.Path.{_≡_, refl, sym, ap, ap₂, _∙_}
 use mathlib.Core.Bool.{Bool, true, false, cond}
 use Prim.Native.Nat.{ℕ, zero, suc, _+_, _-_, _*_, _/_, _^_, _≤_, _<_}
-use native.Mathlib.Nat.{mul-pos, zero-lt-suc, mul-comm, mul-right-comm, mul-div-mul-right, div-div-eq-div-mul, add-div-right, div-eq-of-lt, div-eq-of-lt-le, le-div-iff-mul-le}
+use native.Mathlib.Nat.{mul-pos, zero-lt-suc, mul-comm, mul-right-comm, mul-div-mul-right, div-div-eq-div-mul, add-div-right}
+use native.Mathlib.Nat.{div-eq-of-lt, div-eq-of-lt-le, le-div-iff-mul-le}
 use native.Mathlib.Omega.{arith}
 use borrow.Author.Tests.{le-leb, lt-leb}
 use lib.IntN.{ℤ, pos, negsuc, negℤ, _+ℤ_, _*ℤ_}
@@ -27,7 +28,8 @@ shr-scaled : (z : ℤ) (m k : ℕ) → 0 < k → shrZ (z *ℤ pos k) (m * k) ≡
 shr-scaled (pos n) m k K = ap pos (mul-div-mul-right n m K)
 shr-scaled (negsuc n) m k K =
     shr-minus (suc n * k) (m * k) (mul-pos (zero-lt-suc n) K)
-    ∙ ap negsuc (ap (λ (y : ℕ). (suc n * k - 1) / y) (mul-comm m k) ∙ sym (div-div-eq-div-mul (suc n * k - 1) k m) ∙ ap (λ (y : ℕ). y / m) (less-one n k K))
+    ∙ ap negsuc (ap (λ (y : ℕ). (suc n * k - 1) / y) (mul-comm m k)
+    ∙ sym (div-div-eq-div-mul (suc n * k - 1) k m) ∙ ap (λ (y : ℕ). y / m) (less-one n k K))
 
 -- one fraction for another of the same size
 pub same-fraction : (z z′ : ℤ) (d d′ : ℕ) → 0 < d → 0 < d′ → z *ℤ pos d′ ≡ z′ *ℤ pos d → halvesUp z d ≡ halvesUp z′ d′

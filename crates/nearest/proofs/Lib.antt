@@ -1,3 +1,4 @@
+pub mod Examples
 pub mod HalvesUp
 pub mod Fields
 pub mod Values

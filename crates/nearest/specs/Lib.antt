@@ -1,2 +1,3 @@
 pub mod Nearest
 pub mod Claims
+pub mod Examples

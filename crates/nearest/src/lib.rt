@@ -23,7 +23,7 @@ impl Whole {
         }
     }
 
-    // The number, 0 where there is none. Ruled out: D read as 0; 1 where there is none.
+    // The number, 0 where there is none. Ruled out: a number read as 0; 1 where there is none.
     pub fn value(self) -> u64
         ensures { λ r. ⌜ r ≡ valueOf self ⌝ }
     {
@@ -55,8 +55,8 @@ fn digits_of(bits: u64) -> u64
     bits - ((bits >> 52) << 52)
 }
 
-// `nearest_whole` of a bit pattern that is a number's. D times a float is its mantissa over 2^(1059 − exponent): below a half where the exponent
-// is below 1006, and 2D or more where it is above 1023, as an infinity's is. A negative one rounds to 0 from −1/2 on.
+// `nearest_whole` of a bit pattern that is a number's. D times a float is its mantissa over 2^(1059 − exponent): below a half where
+// the exponent is below 1006, and 2D or more where it is above 1023, as an infinity's is. A negative one rounds to 0 from −1/2 on.
 fn whole_of_bits(bits: u64) -> Whole
     ensures { λ r. ⌜ r ≡ nearestWhole (ofBits binary64 bits) ⌝ }
 {

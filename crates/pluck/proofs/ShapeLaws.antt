@@ -1,6 +1,6 @@
 -- Laws of the shape of a pluck.
 use mathlib.Core.Path.{_≡_, sym, ap, ap₂, _∙_}
-use mathlib.Core.Bool.{Bool, true, _&&_, _||_, cond, and-false}
+use mathlib.Core.Bool.{Bool, _&&_, _||_, cond, and-false}
 use mathlib.Core.List.{List}
 use Prim.Native.Nat.{ℕ, _+_, _-_, _*_, _/_, _≤_, _<_}
 use native.Mathlib.Nat.{mul-one, zero-mul, zero-add, lt-of-le-of-lt, mul-le-mul, sub-le, div-lt-iff-lt-mul}
@@ -13,7 +13,7 @@ use lib.ListN.{length, set, length-set}
 use lib.Seq.{getD-set-same, getD-set-other}
 use Rattle.scheme.specs.declared.Grid.{Grid}
 use Rattle.scheme.specs.Lists.{tabulate}
-use Rattle.scheme.specs.Instruments.{ceiling, points, within, moving}
+use Rattle.scheme.specs.Instruments.{ceiling, points, moving}
 use Rattle.scheme.specs.Pluck.{distanceFrom, pluckValue, pluckAt, pluckLevel}
 use Rattle.scheme.specs.Refusals.{lastPlucked, wrongLength, lowest, pluckChecks, pluckRefusal}
 use Rattle.scheme.specs.declared.Refusal.the-variants.{Nothing}
@@ -22,6 +22,7 @@ use Rattle.scheme.proofs.Laws.Bools.{and-both, and-yes, and-no}
 use Rattle.scheme.proofs.Laws.Kinds.{within-is}
 use Rattle.scheme.proofs.Laws.Lists.{length-tabulate, getD-tabulate, is-tabulate}
 use Rattle.scheme.proofs.Laws.Refusals.{pluck-passes}
+use Rattle.kinds.specs.declared.runs.Run.{Run}
 use Rattle.kinds.specs.Runs.{inRun, runOf}
 use Rattle.kinds.proofs.KindLaws.{line-size}
 use Rattle.kinds.proofs.RunLaws.{moving-run}
@@ -107,8 +108,9 @@ module _ (g : Grid) (older newer c w : ℕ) (a : ℤ) (none : pluckRefusal g old
       let r = within-is 1 1 (g .rows) (p .1) in
       (within-is 3 1024 (g .columns) (p .0) .1, omega arith)
 
-  pub shaped : Shaped (shapeOf g c w a)
-  shaped =
+  -- whatever the points and the centre
+  pub shaped : (r : Run) (k : ℕ) → Shaped (record { run = r; centre = k; width = w; height = a })
+  shaped r k =
       let b = within-is 1 (g .columns - 1) w (not-false _ (passes .width-in)) in
       record {
         some = b .0;

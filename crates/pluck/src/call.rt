@@ -23,7 +23,11 @@ use scheme::Refusal;
 fn wrong_levels(g: Grid, older: usize, newer: usize) -> bool
     ensures { λ r. ⌜ r ≡ (notLong g older || notLong g newer) ⌝ }
 {
-    if wrong_length(g, older) { true } else { wrong_length(g, newer) }
+    if wrong_length(g, older) {
+        true
+    } else {
+        wrong_length(g, newer)
+    }
 }
 
 // What refuses a pluck of two levels of so many points.
@@ -67,7 +71,7 @@ fn carry_out(
 }
 
 // Both levels overwritten with the shape of the pluck; or what refuses it, and both as they were.
-// Ruled out: point 0 of the levels left as it was; the index of the table taken with 1023 for 1024; a refused pluck answered as carried out.
+// Ruled out: point 0 left as it was; the index of the table taken with 1023 for 1024; a refused pluck answered as carried out.
 pub fn pluck(
     g: Grid,
     older: &mut [i64],

@@ -4,7 +4,8 @@ use lib.Ieee.{ofBits, div, ofInt}
 use Rattle.integers.specs.Sum.{sum, sumOver}
 use Rattle.scheme.specs.Lists.{tabulate, someBelow, countBelow, only}
 use Rattle.scheme.specs.Instruments.{kindOf, sizeIn, stableIn, roundEdge, fixedIn, moving, freeIn}
-use Rattle.scheme.specs.Step.{beside, neighbours, laplacian, innerLaplacian, numerator, roundAway, nextAt, nextLevel, someBeyond, sampleOf, floatOf}
+use Rattle.scheme.specs.Step.{beside, neighbours, laplacian, innerLaplacian, numerator, roundAway, nextAt, nextLevel, someBeyond}
+use Rattle.scheme.specs.Step.{sampleOf, floatOf}
 use Rattle.scheme.specs.Table.{table}
 use Rattle.scheme.specs.Pluck.{pluckAt, pluckLevel}
 use Rattle.scheme.specs.Refusals.{fixedNotZero, blockRefusal, pluckRefusal, readingRefusal, instrumentRefusal}
@@ -12,10 +13,17 @@ use Rattle.scheme.specs.Calls.{play, block, pluck, reading}
 use Rattle.scheme.specs.Energy.{weight, squares, later, pairSum, laplacianSum, energy}
 use Rattle.scheme.specs.Book.{unroundedAt, unroundedStep, unroundedSteps, goesOn, bookBlock, bookPluck, leaves, bookCall, calls}
 use Rattle.scheme.specs.Examples.{A, B, C, D, E, F, G, H, I, J, ExamplesHold}
-use Rattle.scheme.specs.FurtherExamples.{freeEndTwice, halfFree, barWithLoss, freeWithHit, fixedRing, roundRing, membraneStep, numbers, kinds, lineSizes, membraneSizes, roundSizes, coefficients, stability, stiffness, lengths, hits, forces, pickUps, highPoints, fixedPoints, pluckKinds, pluckLengths, pluckCentres, pluckHeights, widths, readingRefusals, lowestFirst, samples, readings, plucked, pluckedDown, pluckedFree, pluckedBoth, ringListing, endedBlock, atOnce, blockTurnedDown, emptyBlock, energies, bookGoesOn, bookStartsAnew, pluckedBook, pluckThenStep, distances, FurtherHold}
+use Rattle.scheme.specs.FurtherExamples.{freeEndTwice, halfFree, barWithLoss, freeWithHit, fixedRing, roundRing, membraneStep}
+use Rattle.scheme.specs.FurtherExamples.{numbers, kinds, lineSizes, membraneSizes, roundSizes, coefficients, stability, stiffness}
+use Rattle.scheme.specs.FurtherExamples.{lengths, hits, forces, pickUps, highPoints, fixedPoints, pluckKinds, pluckLengths}
+use Rattle.scheme.specs.FurtherExamples.{pluckCentres, pluckHeights, widths, readingRefusals, lowestFirst, samples, readings, plucked}
+use Rattle.scheme.specs.FurtherExamples.{pluckedDown, pluckedFree, pluckedBoth, ringListing, endedBlock, atOnce, blockTurnedDown}
+use Rattle.scheme.specs.FurtherExamples.{emptyBlock, energies, bookGoesOn, bookStartsAnew, pluckedBook, pluckThenStep, outcomes}
+use Rattle.scheme.specs.FurtherExamples.{distances, halfOff, FurtherHold}
 
 pub examples-hold : ExamplesHold
-unfolding tabulate only kindOf countBelow sumOver sizeIn stableIn roundEdge fixedIn moving freeIn beside neighbours laplacian innerLaplacian numerator roundAway nextAt nextLevel instrumentRefusal
+unfolding tabulate only kindOf countBelow sumOver sizeIn stableIn roundEdge fixedIn moving freeIn beside neighbours laplacian innerLaplacian
+    numerator roundAway nextAt nextLevel instrumentRefusal
 examples-hold A = refl
 examples-hold B = refl
 examples-hold C = refl
@@ -28,7 +36,10 @@ examples-hold I = (λ c r e. simp e, λ c r e. simp e)
 examples-hold J = (refl, refl)
 
 pub further-hold : FurtherHold
-unfolding sum sumOver tabulate someBelow only kindOf sizeIn stableIn roundEdge fixedIn moving freeIn beside neighbours laplacian innerLaplacian numerator roundAway nextAt nextLevel someBeyond sampleOf floatOf table pluckAt pluckLevel fixedNotZero blockRefusal pluckRefusal readingRefusal instrumentRefusal play block pluck reading weight squares later pairSum laplacianSum energy unroundedAt unroundedStep unroundedSteps goesOn bookBlock bookPluck leaves bookCall calls ofBits div ofInt
+unfolding sum sumOver tabulate someBelow only kindOf sizeIn stableIn roundEdge fixedIn moving freeIn beside neighbours laplacian
+    innerLaplacian numerator roundAway nextAt nextLevel someBeyond sampleOf floatOf table pluckAt pluckLevel fixedNotZero blockRefusal
+    pluckRefusal readingRefusal instrumentRefusal play block pluck reading weight squares later pairSum laplacianSum energy
+    unroundedAt unroundedStep unroundedSteps goesOn bookBlock bookPluck leaves bookCall calls ofBits div ofInt
 further-hold freeEndTwice = refl
 further-hold halfFree = (refl, refl)
 further-hold barWithLoss = refl
@@ -73,4 +84,6 @@ further-hold bookGoesOn = refl
 further-hold bookStartsAnew = refl
 further-hold pluckedBook = refl
 further-hold pluckThenStep = refl
+further-hold outcomes = refl
 further-hold distances = (refl, refl)
+further-hold halfOff = record { all-points = refl; near = record { le = tt } }

@@ -23,7 +23,8 @@ pub data LastStep : Type 0 where
   noStep : LastStep
   stepOf : Instrument → LastStep
 
--- "It holds n, two levels of fractions (in whole numbers, as above), and the kind, grid and settings of its last step": the levels times (D+s)ⁿ
+-- "It holds n, two levels of fractions (in whole numbers, as above),
+-- and the kind, grid and settings of its last step": the levels times (D+s)ⁿ
 pub record Book : Type 0 where
   pub n : ℕ
   pub older : List ℤ
@@ -38,9 +39,11 @@ fresh last older newer = record { n = 0; older = older; newer = newer; last = la
 abbrev pub scale : Settings → ℕ → ℤ
 scale c n = pos (divisor c ^ n)
 
--- "every moving point becomes the numerator of "One step" over D+s, not rounded, with u and p from the book's own levels": held times (D+s)ⁿ⁺¹
+-- "every moving point becomes the numerator of "One step" over D+s,
+-- not rounded, with u and p from the book's own levels": held times (D+s)ⁿ⁺¹
 unfoldable pub unroundedAt : Instrument → Hit → Book → ℕ → ℤ
-unroundedAt i h b k = cond (moving (i .grid) k) (numerator i (point (b .newer)) (point (b .older)) (λ j. scale (i .settings) (b .n) *ℤ forceOf h j) k) (pos 0)
+unroundedAt i h b k = cond (moving (i .grid) k)
+    (numerator i (point (b .newer)) (point (b .older)) (λ j. scale (i .settings) (b .n) *ℤ forceOf h j) k) (pos 0)
 
 -- "Fixed points remain 0, newer becomes older, n grows by 1."
 unfoldable pub unroundedStep : Instrument → Hit → Book → Book
@@ -67,7 +70,8 @@ unfoldable pub goesOn : Instrument → LastStep → Bool
 goesOn i noStep = false
 goesOn i (stepOf l) = sameInstrument i l
 
--- "A block with no step done, refused or not, changes nothing in the book"; one with steps done "first takes the two levels lent to this block, with n 0"
+-- "A block with no step done, refused or not, changes nothing in the book";
+-- one with steps done "first takes the two levels lent to this block, with n 0"
 unfoldable pub bookBlock : Instrument → Hit → (older newer : List ℤ) → ℕ → Book → Book
 bookBlock i h older newer zero b = b
 bookBlock i h older newer (suc k) b = unroundedSteps i h (suc k) (cond (goesOn i (b .last)) b (fresh (b .last) older newer))

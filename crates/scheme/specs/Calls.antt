@@ -43,7 +43,12 @@ ended r older newer samples = record { answer = record { steps = 0; refusal = r 
 -- a step done, with sample v, before the rest: "the count of steps done, .. their samples written"
 abbrev pub oneMore : ℤ → AfterSteps → AfterSteps
 oneMore v rest =
-    record { answer = record { steps = suc (rest .answer .steps); refusal = rest .answer .refusal }; older = rest .older; newer = rest .newer; samples = v ∷ rest .samples }
+    record {
+      answer = record { steps = suc (rest .answer .steps); refusal = rest .answer .refusal };
+      older = rest .older;
+      newer = rest .newer;
+      samples = v ∷ rest .samples;
+    }
 
 -- "A block has as many steps as the lent sample buffer has places; the hit, if any, acts in its first step." "Newer becomes older."
 -- "13. The next step would put some point beyond the ceiling."

@@ -1,4 +1,5 @@
--- Demand 3 as four propositions. Their proofs are in proofs/: `energy-never-negative`, `energy-never-raised`, `energy-kept`, `distance-bound`.
+-- Demand 3 as four propositions. Their proofs are in proofs/:
+-- `energy-never-negative`, `energy-never-raised`, `energy-kept`, `distance-bound`.
 use mathlib.Core.Path.{_≡_}
 use mathlib.Core.Bool.{false}
 use mathlib.Core.List.{List, [], _∷_}
@@ -49,7 +50,8 @@ bookEnergy i b = energy i (point (b .newer)) (point (b .older))
 -- a property of every book that the unrounded scheme reaches
 abbrev pub OfEveryReached : (Instrument → Book → Type 0) → Type 0
 OfEveryReached P =
-    (i : Instrument) (older newer : List ℤ) (hs : List Hit) → Passes i older newer → HitsPass (i .grid) hs → P i (unroundedRun i hs (fresh noStep older newer))
+    (i : Instrument) (older newer : List ℤ) (hs : List Hit) → Passes i older newer → HitsPass (i .grid) hs
+    → P i (unroundedRun i hs (fresh noStep older newer))
 
 -- "the energy is never below zero"
 abbrev pub EnergyNeverNegative : Type 0
@@ -57,11 +59,13 @@ EnergyNeverNegative = OfEveryReached (λ i b. pos 0 ≤ℤ bookEnergy i b)
 
 -- "never raised by a step without a hit": after it the levels are held times D+s more, so the energy times (D+s)² more
 abbrev pub EnergyNeverRaised : Type 0
-EnergyNeverRaised = OfEveryReached (λ i b. bookEnergy i (unroundedStep i Absent b) ≤ℤ (square (pos (divisor (i .settings))) *ℤ bookEnergy i b))
+EnergyNeverRaised = OfEveryReached (λ i b.
+    bookEnergy i (unroundedStep i Absent b) ≤ℤ (square (pos (divisor (i .settings))) *ℤ bookEnergy i b))
 
 -- "kept without loss"
 abbrev pub EnergyKept : Type 0
-EnergyKept = OfEveryReached (λ i b. i .settings .s ≡ 0 → bookEnergy i (unroundedStep i Absent b) ≡ square (pos (divisor (i .settings))) *ℤ bookEnergy i b)
+EnergyKept = OfEveryReached (λ i b. i .settings .s ≡ 0 →
+    bookEnergy i (unroundedStep i Absent b) ≡ square (pos (divisor (i .settings))) *ℤ bookEnergy i b)
 
 -- ---- distance
 

@@ -31,6 +31,9 @@ pairSum g a b = sum (points g) (λ k. sumOver (later g k) (λ j. (a j -ℤ a k) 
 unfoldable pub laplacianSum : Grid → (a b : ℕ → ℤ) → ℤ
 laplacianSum g a b = sum (points g) (λ k. innerLaplacian g a k *ℤ innerLaplacian g b k)
 
--- "The energy of newer a and older b is the sum of (a−b)², plus R × the sum over neighbouring pairs .., plus μ² × the sum of L(a) × L(b)": times 2D
+-- "The energy of newer a and older b is the sum of (a−b)²,
+-- plus R × the sum over neighbouring pairs .., plus μ² × the sum of L(a) × L(b)": times 2D
 unfoldable pub energy : Instrument → (a b : ℕ → ℤ) → ℤ
-energy i a b = pos D *ℤ squares (i .grid) a b +ℤ pos (2 * i .settings .q) *ℤ pairSum (i .grid) a b +ℤ pos (2 * i .settings .m) *ℤ laplacianSum (i .grid) a b
+energy i a b =
+    pos D *ℤ squares (i .grid) a b +ℤ pos (2 * i .settings .q) *ℤ pairSum (i .grid) a b
+    +ℤ pos (2 * i .settings .m) *ℤ laplacianSum (i .grid) a b

@@ -53,7 +53,8 @@ says C = next (instrument 1 3 1 16384 0 0) (middle3 (pos 1)) (middle3 (pos 1)) �
 says D = next (instrument 1 3 1 16384 0 0) (middle3 (minus 1)) (middle3 (minus 1)) ≡ middle3 (minus 1)
 says E = next (instrument 1 3 1 0 0 65536) (middle3 (pos 3)) (middle3 (pos 7)) ≡ middle3 (pos 3)
 says F = next (instrument 3 3 1 65536 0 0) (level (4 ∷ 0 ∷ 0 ∷ [])) (level (0 ∷ 0 ∷ 0 ∷ [])) ≡ level (0 ∷ 4 ∷ 0 ∷ [])
-says G = next (instrument 4 5 1 0 16384 0) (level (0 ∷ 0 ∷ 8 ∷ 0 ∷ 0 ∷ [])) (level (0 ∷ 0 ∷ 0 ∷ 0 ∷ 0 ∷ [])) ≡ level (0 ∷ 8 ∷ 4 ∷ 8 ∷ 0 ∷ [])
+says G = next (instrument 4 5 1 0 16384 0) (level (0 ∷ 0 ∷ 8 ∷ 0 ∷ 0 ∷ [])) (level (0 ∷ 0 ∷ 0 ∷ 0 ∷ 0 ∷ []))
+    ≡ level (0 ∷ 8 ∷ 4 ∷ 8 ∷ 0 ∷ [])
 says H = AtEverySize 4 65532 1 0 × AtEverySize 4 65533 1 5
 says I = AtEverySize 5 32768 0 0 × AtEverySize 5 32769 0 5
 says J = (countBelow 49 (moving (grid 6 7 7)) ≡ 25) × (countBelow 64 (moving (grid 6 8 8)) ≡ 32)

@@ -1,4 +1,5 @@
--- A second table: what A to J leave loose. Each kind's step, both sides of every refusal's border, samples, readings, plucks, blocks, energy, and the book of lists of calls.
+-- A second table: what A to J leave loose. Each kind's step, both sides of every refusal's border,
+-- samples, readings, plucks, blocks, energy, and the book of lists of calls.
 -- The numbers come from the reference in another language under host/, or by hand.
 use mathlib.Core.Path.{_≡_}
 use mathlib.Core.Bool.{false}
@@ -10,7 +11,9 @@ use lib.ListN.{length}
 use Rattle.scheme.specs.declared.Instrument.{Instrument}
 use Rattle.scheme.specs.declared.Hit.{Hit}
 use Rattle.scheme.specs.declared.Hit.the-variants.{Absent, At}
-use Rattle.scheme.specs.declared.Refusal.the-variants.{Nothing, UnknownKind, WrongSize, SheetNumber, Coefficient, Unstable, WrongLength, NotMoving, TooStrong, PickUp, HalfWidth, PointBeyond, FixedNotZero, NextBeyond}
+use Rattle.scheme.specs.declared.Refusal.the-variants.{Nothing, UnknownKind, WrongSize, SheetNumber, Coefficient, Unstable}
+use Rattle.scheme.specs.declared.Refusal.the-variants.{WrongLength, NotMoving, TooStrong, PickUp, HalfWidth, PointBeyond}
+use Rattle.scheme.specs.declared.Refusal.the-variants.{FixedNotZero, NextBeyond}
 use Rattle.scheme.specs.Lists.{point}
 use Rattle.scheme.specs.Instruments.{ceiling}
 use Rattle.scheme.specs.Step.{nextLevel, sampleOf}
@@ -19,8 +22,8 @@ use Rattle.scheme.specs.Pluck.{pluckLevel}
 use Rattle.scheme.specs.Refusals.{number, wrongLength, instrumentRefusal, blockRefusal, pluckRefusal, readingRefusal}
 use Rattle.scheme.specs.Calls.{block, pluck, reading}
 use Rattle.scheme.specs.Energy.{energy}
-use Rattle.scheme.specs.Book.{stepOf, Call, blockCall, pluckCall, State, start, calls}
-use Rattle.scheme.specs.Claims.{distance, bound}
+use Rattle.scheme.specs.Book.{stepOf, Call, blockCall, pluckCall, blockOutcome, pluckOutcome, AfterCalls, State, start, calls}
+use Rattle.scheme.specs.Claims.{distance, bound, Near}
 use Rattle.scheme.specs.Examples.{grid, instrument, level, minus, next, middle3}
 
 -- the numbers of refusals
@@ -82,8 +85,24 @@ plucks = pluckCall (grid 1 4 1) 2 2 (pos 9)
 abbrev pluckTurnedDown : Call
 pluckTurnedDown = pluckCall (grid 1 4 1) 0 2 (pos 9)
 
+abbrev fromHere : List Call → AfterCalls
+fromHere ks = calls ks (start (pos 0 ∷ pos 1 ∷ minus 2 ∷ pos 0 ∷ []) (level (0 ∷ 3 ∷ 4 ∷ 0 ∷ [])))
+
 abbrev after : List Call → State
-after ks = calls ks (start (pos 0 ∷ pos 1 ∷ minus 2 ∷ pos 0 ∷ []) (level (0 ∷ 3 ∷ 4 ∷ 0 ∷ []))) .state
+after ks = fromHere ks .state
+
+-- one step of a free string of 20 points after which every point lies half a unit from the unrounded scheme
+abbrev halves : Instrument
+halves = instrument 3 20 1 16384 0 0
+
+abbrev still20 : List ℤ
+still20 = level (0 ∷ 0 ∷ 0 ∷ 0 ∷ 0 ∷ 0 ∷ 0 ∷ 0 ∷ 0 ∷ 0 ∷ 0 ∷ 0 ∷ 0 ∷ 0 ∷ 0 ∷ 0 ∷ 0 ∷ 0 ∷ 0 ∷ 0 ∷ [])
+
+abbrev zigzag20 : List ℤ
+zigzag20 = level (0 ∷ 1 ∷ 0 ∷ 1 ∷ 0 ∷ 1 ∷ 0 ∷ 1 ∷ 0 ∷ 1 ∷ 0 ∷ 1 ∷ 0 ∷ 1 ∷ 0 ∷ 1 ∷ 0 ∷ 1 ∷ 0 ∷ 1 ∷ [])
+
+abbrev afterHalves : State
+afterHalves = calls (blockCall halves still20 (level (0 ∷ [])) 0 Absent ∷ []) (start still20 zigzag20) .state
 
 pub data Further : Type 0 where
   -- one step
@@ -91,11 +110,12 @@ pub data Further : Type 0 where
   -- 1, 2, 4 and 5
   numbers kinds lineSizes membraneSizes roundSizes coefficients stability stiffness : Further
   -- the refusals of a block, a pluck and a reading
-  lengths hits forces pickUps highPoints fixedPoints pluckKinds pluckLengths pluckCentres pluckHeights widths readingRefusals lowestFirst : Further
+  lengths hits forces pickUps highPoints fixedPoints pluckKinds pluckLengths pluckCentres pluckHeights widths readingRefusals
+      lowestFirst : Further
   -- samples, readings, plucks, blocks
   samples readings plucked pluckedDown pluckedFree pluckedBoth ringListing endedBlock atOnce blockTurnedDown emptyBlock : Further
   -- energy, distance and book
-  energies bookGoesOn bookStartsAnew pluckedBook pluckThenStep distances : Further
+  energies bookGoesOn bookStartsAnew pluckedBook pluckThenStep outcomes distances halfOff : Further
 
 abbrev pub shows : Further → Type 0
 -- "there newer "0 4 0" over zeros must give "8 0 8""
@@ -104,92 +124,129 @@ shows halfFree =
     (next (instrument 2 3 1 65536 0 0) (middle3 (pos 4)) (middle3 (pos 0)) ≡ level (0 ∷ 0 ∷ 8 ∷ [])) ×
     (next (instrument 2 3 1 65536 0 0) (level (0 ∷ 0 ∷ 4 ∷ [])) (middle3 (pos 0)) ≡ middle3 (pos 4))
 shows barWithLoss =
-    next (instrument 4 6 1 30000 5000 100) (pos 0 ∷ pos 7 ∷ minus 3 ∷ pos 9 ∷ minus 11 ∷ pos 0 ∷ []) (pos 0 ∷ pos 1 ∷ minus 2 ∷ pos 3 ∷ pos 5 ∷ pos 0 ∷ [])
+    next (instrument 4 6 1 30000 5000 100) (pos 0 ∷ pos 7 ∷ minus 3 ∷ pos 9 ∷ minus 11 ∷ pos 0 ∷ [])
+    (pos 0 ∷ pos 1 ∷ minus 2 ∷ pos 3 ∷ pos 5 ∷ pos 0 ∷ [])
     ≡ pos 0 ∷ pos 1 ∷ pos 13 ∷ minus 9 ∷ minus 6 ∷ pos 0 ∷ []
 shows freeWithHit =
     nextLevel (instrument 3 4 1 40000 0 12345) (At 3 (pos 7)) (level (1 ∷ 2 ∷ 3 ∷ 4 ∷ [])) (pos 10 ∷ minus 20 ∷ pos 30 ∷ minus 40 ∷ [])
     ≡ minus 15 ∷ pos 6 ∷ minus 13 ∷ pos 8 ∷ []
 -- with q, m and s 0 the next value is 2u − p: 2 at each moving point of a level of ones over zeros
-shows fixedRing = next (instrument 5 4 3 0 0 0) (level (1 ∷ 1 ∷ 1 ∷ 1 ∷ 1 ∷ 1 ∷ 1 ∷ 1 ∷ 1 ∷ 1 ∷ 1 ∷ 1 ∷ [])) [] ≡ level (0 ∷ 0 ∷ 0 ∷ 0 ∷ 0 ∷ 2 ∷ 2 ∷ 0 ∷ 0 ∷ 0 ∷ 0 ∷ 0 ∷ [])
+shows fixedRing = next (instrument 5 4 3 0 0 0) (level (1 ∷ 1 ∷ 1 ∷ 1 ∷ 1 ∷ 1 ∷ 1 ∷ 1 ∷ 1 ∷ 1 ∷ 1 ∷ 1 ∷ [])) []
+    ≡ level (0 ∷ 0 ∷ 0 ∷ 0 ∷ 0 ∷ 2 ∷ 2 ∷ 0 ∷ 0 ∷ 0 ∷ 0 ∷ 0 ∷ [])
 shows roundRing =
-    next (instrument 6 5 5 0 0 0) (level (1 ∷ 1 ∷ 1 ∷ 1 ∷ 1 ∷ 1 ∷ 1 ∷ 1 ∷ 1 ∷ 1 ∷ 1 ∷ 1 ∷ 1 ∷ 1 ∷ 1 ∷ 1 ∷ 1 ∷ 1 ∷ 1 ∷ 1 ∷ 1 ∷ 1 ∷ 1 ∷ 1 ∷ 1 ∷ [])) []
+    next (instrument 6 5 5 0 0 0) (level (1 ∷ 1 ∷ 1 ∷ 1 ∷ 1 ∷ 1 ∷ 1 ∷ 1 ∷ 1 ∷ 1 ∷ 1 ∷ 1 ∷ 1 ∷ 1 ∷ 1 ∷ 1 ∷ 1 ∷ 1 ∷ 1 ∷ 1 ∷ 1 ∷ 1 ∷ 1 ∷ 1 ∷ 1
+    ∷ [])) []
     ≡ level (0 ∷ 0 ∷ 0 ∷ 0 ∷ 0 ∷ 0 ∷ 2 ∷ 2 ∷ 2 ∷ 0 ∷ 0 ∷ 2 ∷ 2 ∷ 2 ∷ 0 ∷ 0 ∷ 2 ∷ 2 ∷ 2 ∷ 0 ∷ 0 ∷ 0 ∷ 0 ∷ 0 ∷ 0 ∷ [])
 shows membraneStep =
-    next (instrument 5 4 4 20000 0 0) (pos 0 ∷ pos 0 ∷ pos 0 ∷ pos 0 ∷ pos 0 ∷ pos 5 ∷ pos 9 ∷ pos 0 ∷ pos 0 ∷ minus 7 ∷ pos 2 ∷ pos 0 ∷ pos 0 ∷ pos 0 ∷ pos 0 ∷ pos 0 ∷ []) []
+    next (instrument 5 4 4 20000 0 0) (pos 0 ∷ pos 0 ∷ pos 0 ∷ pos 0 ∷ pos 0 ∷ pos 5 ∷ pos 9 ∷ pos 0 ∷ pos 0 ∷ minus 7 ∷ pos 2 ∷ pos 0
+    ∷ pos 0 ∷ pos 0 ∷ pos 0 ∷ pos 0 ∷ []) []
     ≡ pos 0 ∷ pos 0 ∷ pos 0 ∷ pos 0 ∷ pos 0 ∷ pos 5 ∷ pos 9 ∷ pos 0 ∷ pos 0 ∷ minus 3 ∷ pos 2 ∷ pos 0 ∷ pos 0 ∷ pos 0 ∷ pos 0 ∷ pos 0 ∷ []
 shows numbers =
-    map number (Nothing ∷ UnknownKind ∷ WrongSize ∷ SheetNumber ∷ Coefficient ∷ Unstable ∷ WrongLength ∷ NotMoving ∷ TooStrong ∷ PickUp ∷ HalfWidth ∷ PointBeyond ∷ FixedNotZero ∷ NextBeyond ∷ [])
+    map number (Nothing ∷ UnknownKind ∷ WrongSize ∷ SheetNumber ∷ Coefficient ∷ Unstable ∷ WrongLength ∷ NotMoving ∷ TooStrong ∷ PickUp
+    ∷ HalfWidth ∷ PointBeyond ∷ FixedNotZero ∷ NextBeyond ∷ [])
     ≡ 0 ∷ 1 ∷ 2 ∷ 3 ∷ 4 ∷ 5 ∷ 6 ∷ 7 ∷ 8 ∷ 9 ∷ 10 ∷ 11 ∷ 12 ∷ 13 ∷ []
 shows kinds =
-    instrumentNumbers (instrument 0 3 1 0 0 0 ∷ instrument 1 3 1 0 0 0 ∷ instrument 2 3 1 0 0 0 ∷ instrument 3 3 1 0 0 0 ∷ instrument 4 3 1 0 0 0 ∷ instrument 5 3 3 0 0 0 ∷ instrument 6 3 3 0 0 0 ∷ instrument 7 3 3 0 0 0 ∷ [])
+    instrumentNumbers (instrument 0 3 1 0 0 0 ∷ instrument 1 3 1 0 0 0 ∷ instrument 2 3 1 0 0 0 ∷ instrument 3 3 1 0 0 0
+    ∷ instrument 4 3 1 0 0 0 ∷ instrument 5 3 3 0 0 0 ∷ instrument 6 3 3 0 0 0 ∷ instrument 7 3 3 0 0 0 ∷ [])
     ≡ 1 ∷ 0 ∷ 0 ∷ 0 ∷ 0 ∷ 0 ∷ 0 ∷ 1 ∷ []
 shows lineSizes =
-    instrumentNumbers (instrument 1 2 1 0 0 0 ∷ instrument 1 1024 1 0 0 0 ∷ instrument 1 1025 1 0 0 0 ∷ instrument 1 3 0 0 0 0 ∷ instrument 1 3 2 0 0 0 ∷
+    instrumentNumbers (instrument 1 2 1 0 0 0 ∷ instrument 1 1024 1 0 0 0 ∷ instrument 1 1025 1 0 0 0 ∷ instrument 1 3 0 0 0 0
+    ∷ instrument 1 3 2 0 0 0 ∷
     instrument 2 2 1 0 0 0 ∷ instrument 2 1024 1 0 0 0 ∷ instrument 2 1025 1 0 0 0 ∷ instrument 2 3 0 0 0 0 ∷ instrument 2 3 2 0 0 0 ∷
     instrument 3 2 1 0 0 0 ∷ instrument 3 1024 1 0 0 0 ∷ instrument 3 1025 1 0 0 0 ∷ instrument 3 3 0 0 0 0 ∷ instrument 3 3 2 0 0 0 ∷
     instrument 4 2 1 0 0 0 ∷ instrument 4 1024 1 0 0 0 ∷ instrument 4 1025 1 0 0 0 ∷ instrument 4 3 0 0 0 0 ∷ instrument 4 3 2 0 0 0 ∷ [])
     ≡ 2 ∷ 0 ∷ 2 ∷ 2 ∷ 2 ∷ 2 ∷ 0 ∷ 2 ∷ 2 ∷ 2 ∷ 2 ∷ 0 ∷ 2 ∷ 2 ∷ 2 ∷ 2 ∷ 0 ∷ 2 ∷ 2 ∷ 2 ∷ []
 shows membraneSizes =
-    instrumentNumbers (instrument 5 2 3 0 0 0 ∷ instrument 5 3 2 0 0 0 ∷ instrument 5 3 64 0 0 0 ∷ instrument 5 64 3 0 0 0 ∷ instrument 5 64 64 0 0 0 ∷ instrument 5 65 64 0 0 0 ∷ instrument 5 64 65 0 0 0 ∷ [])
+    instrumentNumbers (instrument 5 2 3 0 0 0 ∷ instrument 5 3 2 0 0 0 ∷ instrument 5 3 64 0 0 0 ∷ instrument 5 64 3 0 0 0
+    ∷ instrument 5 64 64 0 0 0 ∷ instrument 5 65 64 0 0 0 ∷ instrument 5 64 65 0 0 0 ∷ [])
     ≡ 2 ∷ 2 ∷ 0 ∷ 0 ∷ 0 ∷ 2 ∷ 2 ∷ []
-shows roundSizes = instrumentNumbers (instrument 6 2 2 0 0 0 ∷ instrument 6 64 64 0 0 0 ∷ instrument 6 65 65 0 0 0 ∷ instrument 6 5 6 0 0 0 ∷ instrument 6 6 5 0 0 0 ∷ []) ≡ 2 ∷ 0 ∷ 2 ∷ 2 ∷ 2 ∷ []
+shows roundSizes = instrumentNumbers (instrument 6 2 2 0 0 0 ∷ instrument 6 64 64 0 0 0 ∷ instrument 6 65 65 0 0 0 ∷ instrument 6 5 6 0 0 0
+    ∷ instrument 6 6 5 0 0 0 ∷ []) ≡ 2 ∷ 0 ∷ 2 ∷ 2 ∷ 2 ∷ []
 shows coefficients =
-    instrumentNumbers (instrument 1 3 1 65536 0 65536 ∷ instrument 1 3 1 65537 0 0 ∷ instrument 4 3 1 0 65537 0 ∷ instrument 1 3 1 0 0 65537 ∷ []) ≡ 0 ∷ 4 ∷ 4 ∷ 4 ∷ []
+    instrumentNumbers (instrument 1 3 1 65536 0 65536 ∷ instrument 1 3 1 65537 0 0 ∷ instrument 4 3 1 0 65537 0 ∷ instrument 1 3 1 0 0 65537
+    ∷ []) ≡ 0 ∷ 4 ∷ 4 ∷ 4 ∷ []
 shows stability =
-    instrumentNumbers (instrument 2 3 1 65536 0 0 ∷ instrument 3 3 1 65536 0 0 ∷ instrument 4 3 1 0 16384 0 ∷ instrument 4 3 1 0 16385 0 ∷ instrument 4 3 1 1 16384 0 ∷ instrument 6 3 3 32768 0 0 ∷ instrument 6 3 3 32769 0 0 ∷ [])
+    instrumentNumbers (instrument 2 3 1 65536 0 0 ∷ instrument 3 3 1 65536 0 0 ∷ instrument 4 3 1 0 16384 0 ∷ instrument 4 3 1 0 16385 0
+    ∷ instrument 4 3 1 1 16384 0 ∷ instrument 6 3 3 32768 0 0 ∷ instrument 6 3 3 32769 0 0 ∷ [])
     ≡ 0 ∷ 0 ∷ 0 ∷ 5 ∷ 5 ∷ 0 ∷ 5 ∷ []
-shows stiffness = instrumentNumbers (instrument 1 3 1 0 1 0 ∷ instrument 2 3 1 0 1 0 ∷ instrument 3 3 1 0 1 0 ∷ instrument 4 3 1 0 1 0 ∷ instrument 5 3 3 0 1 0 ∷ instrument 6 3 3 0 1 0 ∷ []) ≡ 5 ∷ 5 ∷ 5 ∷ 0 ∷ 5 ∷ 5 ∷ []
+shows stiffness = instrumentNumbers (instrument 1 3 1 0 1 0 ∷ instrument 2 3 1 0 1 0 ∷ instrument 3 3 1 0 1 0 ∷ instrument 4 3 1 0 1 0
+    ∷ instrument 5 3 3 0 1 0 ∷ instrument 6 3 3 0 1 0 ∷ []) ≡ 5 ∷ 5 ∷ 5 ∷ 0 ∷ 5 ∷ 5 ∷ []
 shows lengths =
-    refusedBy rest rest rest 0 Absent ∷ refusedBy five rest rest 0 Absent ∷ refusedBy rest five rest 0 Absent ∷ refusedBy rest rest five 0 Absent ∷ refusedBy rest rest (middle3 (pos 0)) 0 Absent ∷ []
+    refusedBy rest rest rest 0 Absent ∷ refusedBy five rest rest 0 Absent ∷ refusedBy rest five rest 0 Absent
+    ∷ refusedBy rest rest five 0 Absent ∷ refusedBy rest rest (middle3 (pos 0)) 0 Absent ∷ []
     ≡ 0 ∷ 6 ∷ 6 ∷ 6 ∷ 6 ∷ []
-shows hits = hitRefusedBy 0 (pos 0) ∷ hitRefusedBy 1 (pos 0) ∷ hitRefusedBy 2 (pos 0) ∷ hitRefusedBy 3 (pos 0) ∷ hitRefusedBy 4 (pos 0) ∷ [] ≡ 7 ∷ 0 ∷ 0 ∷ 7 ∷ 7 ∷ []
-shows forces = hitRefusedBy 1 (pos ceiling) ∷ hitRefusedBy 1 (pos above) ∷ hitRefusedBy 1 (minus ceiling) ∷ hitRefusedBy 1 (minus above) ∷ [] ≡ 0 ∷ 8 ∷ 0 ∷ 8 ∷ []
+shows hits = hitRefusedBy 0 (pos 0) ∷ hitRefusedBy 1 (pos 0) ∷ hitRefusedBy 2 (pos 0) ∷ hitRefusedBy 3 (pos 0) ∷ hitRefusedBy 4 (pos 0) ∷ []
+    ≡ 7 ∷ 0 ∷ 0 ∷ 7 ∷ 7 ∷ []
+shows forces = hitRefusedBy 1 (pos ceiling) ∷ hitRefusedBy 1 (pos above) ∷ hitRefusedBy 1 (minus ceiling) ∷ hitRefusedBy 1 (minus above)
+    ∷ [] ≡ 0 ∷ 8 ∷ 0 ∷ 8 ∷ []
 shows pickUps = refusedBy rest rest rest 3 Absent ∷ refusedBy rest rest rest 4 Absent ∷ [] ≡ 0 ∷ 9 ∷ []
 shows highPoints =
     refusedBy (level (0 ∷ ceiling ∷ 0 ∷ 0 ∷ [])) rest rest 0 Absent ∷ refusedBy (level (0 ∷ above ∷ 0 ∷ 0 ∷ [])) rest rest 0 Absent ∷
-    refusedBy rest (pos 0 ∷ pos 0 ∷ minus ceiling ∷ pos 0 ∷ []) rest 0 Absent ∷ refusedBy rest (pos 0 ∷ pos 0 ∷ minus above ∷ pos 0 ∷ []) rest 0 Absent ∷
+    refusedBy rest (pos 0 ∷ pos 0 ∷ minus ceiling ∷ pos 0 ∷ []) rest 0 Absent
+    ∷ refusedBy rest (pos 0 ∷ pos 0 ∷ minus above ∷ pos 0 ∷ []) rest 0 Absent ∷
     refusedBy rest rest (level (above ∷ above ∷ above ∷ above ∷ [])) 0 Absent ∷ []
     ≡ 0 ∷ 11 ∷ 0 ∷ 11 ∷ 0 ∷ []
 shows fixedPoints =
     refusedBy (level (1 ∷ 0 ∷ 0 ∷ 0 ∷ [])) rest rest 0 Absent ∷ refusedBy (level (0 ∷ 0 ∷ 0 ∷ 1 ∷ [])) rest rest 0 Absent ∷
-    refusedBy rest (minus 1 ∷ pos 0 ∷ pos 0 ∷ pos 0 ∷ []) rest 0 Absent ∷ refusedBy rest (level (0 ∷ 0 ∷ 0 ∷ 1 ∷ [])) rest 0 Absent ∷ refusedBy rest (level (0 ∷ 1 ∷ 1 ∷ 0 ∷ [])) rest 0 Absent ∷ []
+    refusedBy rest (minus 1 ∷ pos 0 ∷ pos 0 ∷ pos 0 ∷ []) rest 0 Absent ∷ refusedBy rest (level (0 ∷ 0 ∷ 0 ∷ 1 ∷ [])) rest 0 Absent
+    ∷ refusedBy rest (level (0 ∷ 1 ∷ 1 ∷ 0 ∷ [])) rest 0 Absent ∷ []
     ≡ 12 ∷ 12 ∷ 12 ∷ 12 ∷ 0 ∷ []
 shows pluckKinds =
-    pluckRefusedBy 0 five five 2 1 (pos 0) ∷ pluckRefusedBy 1 five five 2 1 (pos 0) ∷ pluckRefusedBy 2 five five 2 1 (pos 0) ∷ pluckRefusedBy 3 five five 2 1 (pos 0) ∷ pluckRefusedBy 4 five five 2 1 (pos 0) ∷
-    pluckRefusedBy 5 five five 2 1 (pos 0) ∷ pluckRefusedBy 6 five five 2 1 (pos 0) ∷ pluckRefusedBy 7 five five 2 1 (pos 0) ∷ number (pluckRefusal (grid 1 5 2) 5 5 2 1 (pos 0)) ∷ []
+    pluckRefusedBy 0 five five 2 1 (pos 0) ∷ pluckRefusedBy 1 five five 2 1 (pos 0) ∷ pluckRefusedBy 2 five five 2 1 (pos 0)
+    ∷ pluckRefusedBy 3 five five 2 1 (pos 0) ∷ pluckRefusedBy 4 five five 2 1 (pos 0) ∷
+    pluckRefusedBy 5 five five 2 1 (pos 0) ∷ pluckRefusedBy 6 five five 2 1 (pos 0) ∷ pluckRefusedBy 7 five five 2 1 (pos 0)
+    ∷ number (pluckRefusal (grid 1 5 2) 5 5 2 1 (pos 0)) ∷ []
     ≡ 1 ∷ 0 ∷ 0 ∷ 0 ∷ 0 ∷ 1 ∷ 1 ∷ 1 ∷ 2 ∷ []
-shows pluckLengths = pluckRefusedBy 1 rest five 2 1 (pos 0) ∷ pluckRefusedBy 1 five rest 2 1 (pos 0) ∷ pluckRefusedBy 1 (level (above ∷ 1 ∷ 1 ∷ 1 ∷ 1 ∷ [])) five 2 1 (pos 0) ∷ [] ≡ 6 ∷ 6 ∷ 0 ∷ []
-shows pluckCentres = pluckRefusedBy 1 five five 0 1 (pos 0) ∷ pluckRefusedBy 1 five five 4 1 (pos 0) ∷ pluckRefusedBy 2 five five 4 1 (pos 0) ∷ pluckRefusedBy 3 five five 0 1 (pos 0) ∷ pluckRefusedBy 3 five five 5 1 (pos 0) ∷ [] ≡ 7 ∷ 7 ∷ 0 ∷ 0 ∷ 7 ∷ []
-shows pluckHeights = pluckRefusedBy 1 five five 2 1 (pos ceiling) ∷ pluckRefusedBy 1 five five 2 1 (pos above) ∷ pluckRefusedBy 1 five five 2 1 (minus ceiling) ∷ pluckRefusedBy 1 five five 2 1 (minus above) ∷ [] ≡ 0 ∷ 8 ∷ 0 ∷ 8 ∷ []
-shows widths = pluckRefusedBy 1 five five 2 0 (pos 0) ∷ pluckRefusedBy 1 five five 2 4 (pos 0) ∷ pluckRefusedBy 1 five five 2 5 (pos 0) ∷ [] ≡ 10 ∷ 0 ∷ 10 ∷ []
+shows pluckLengths = pluckRefusedBy 1 rest five 2 1 (pos 0) ∷ pluckRefusedBy 1 five rest 2 1 (pos 0)
+    ∷ pluckRefusedBy 1 (level (above ∷ 1 ∷ 1 ∷ 1 ∷ 1 ∷ [])) five 2 1 (pos 0) ∷ [] ≡ 6 ∷ 6 ∷ 0 ∷ []
+shows pluckCentres =
+    pluckRefusedBy 1 five five 0 1 (pos 0) ∷ pluckRefusedBy 1 five five 4 1 (pos 0) ∷ pluckRefusedBy 2 five five 4 1 (pos 0) ∷
+    pluckRefusedBy 3 five five 0 1 (pos 0) ∷ pluckRefusedBy 3 five five 5 1 (pos 0) ∷ []
+    ≡ 7 ∷ 7 ∷ 0 ∷ 0 ∷ 7 ∷ []
+shows pluckHeights = pluckRefusedBy 1 five five 2 1 (pos ceiling) ∷ pluckRefusedBy 1 five five 2 1 (pos above)
+    ∷ pluckRefusedBy 1 five five 2 1 (minus ceiling) ∷ pluckRefusedBy 1 five five 2 1 (minus above) ∷ [] ≡ 0 ∷ 8 ∷ 0 ∷ 8 ∷ []
+shows widths = pluckRefusedBy 1 five five 2 0 (pos 0) ∷ pluckRefusedBy 1 five five 2 4 (pos 0) ∷ pluckRefusedBy 1 five five 2 5 (pos 0) ∷ []
+    ≡ 10 ∷ 0 ∷ 10 ∷ []
 shows readingRefusals =
-    number (readingRefusal (grid 0 4 1) rest 0) ∷ number (readingRefusal (grid 5 4 1) rest 0) ∷ number (readingRefusal (grid 1 4 1) five 0) ∷ number (readingRefusal (grid 1 4 1) rest 4) ∷
-    number (readingRefusal (grid 1 4 1) (level (0 ∷ above ∷ 0 ∷ 0 ∷ [])) 0) ∷ number (readingRefusal (grid 1 4 1) (level (1 ∷ 0 ∷ 0 ∷ 0 ∷ [])) 0) ∷ number (readingRefusal (grid 1 4 1) rest 3) ∷ []
+    number (readingRefusal (grid 0 4 1) rest 0) ∷ number (readingRefusal (grid 5 4 1) rest 0) ∷ number (readingRefusal (grid 1 4 1) five 0)
+    ∷ number (readingRefusal (grid 1 4 1) rest 4) ∷
+    number (readingRefusal (grid 1 4 1) (level (0 ∷ above ∷ 0 ∷ 0 ∷ [])) 0)
+    ∷ number (readingRefusal (grid 1 4 1) (level (1 ∷ 0 ∷ 0 ∷ 0 ∷ [])) 0) ∷ number (readingRefusal (grid 1 4 1) rest 3) ∷ []
     ≡ 1 ∷ 2 ∷ 6 ∷ 9 ∷ 11 ∷ 12 ∷ 0 ∷ []
 -- where several apply
 shows lowestFirst =
-    number (blockRefusal (instrument 9 1 9 65537 1 0) five rest false 9 (At 9 (pos above))) ∷ number (blockRefusal (instrument 1 2 1 65537 1 0) five rest false 9 (At 9 (pos above))) ∷
-    number (blockRefusal (instrument 1 4 1 65537 1 0) five rest false 9 (At 9 (pos above))) ∷ number (blockRefusal (instrument 1 4 1 0 1 0) five rest false 9 (At 9 (pos above))) ∷
-    refusedBy five (level (1 ∷ above ∷ 0 ∷ 0 ∷ [])) rest 9 (At 9 (pos above)) ∷ refusedBy rest (level (1 ∷ above ∷ 0 ∷ 0 ∷ [])) rest 9 (At 9 (pos above)) ∷
-    refusedBy rest (level (1 ∷ above ∷ 0 ∷ 0 ∷ [])) rest 9 (At 1 (pos above)) ∷ refusedBy rest (level (1 ∷ above ∷ 0 ∷ 0 ∷ [])) rest 9 (At 1 (pos 1)) ∷ refusedBy rest (level (1 ∷ above ∷ 0 ∷ 0 ∷ [])) rest 0 Absent ∷ []
+    number (blockRefusal (instrument 9 1 9 65537 1 0) five rest false 9 (At 9 (pos above)))
+    ∷ number (blockRefusal (instrument 1 2 1 65537 1 0) five rest false 9 (At 9 (pos above))) ∷
+    number (blockRefusal (instrument 1 4 1 65537 1 0) five rest false 9 (At 9 (pos above)))
+    ∷ number (blockRefusal (instrument 1 4 1 0 1 0) five rest false 9 (At 9 (pos above))) ∷
+    refusedBy five (level (1 ∷ above ∷ 0 ∷ 0 ∷ [])) rest 9 (At 9 (pos above))
+    ∷ refusedBy rest (level (1 ∷ above ∷ 0 ∷ 0 ∷ [])) rest 9 (At 9 (pos above)) ∷
+    refusedBy rest (level (1 ∷ above ∷ 0 ∷ 0 ∷ [])) rest 9 (At 1 (pos above))
+    ∷ refusedBy rest (level (1 ∷ above ∷ 0 ∷ 0 ∷ [])) rest 9 (At 1 (pos 1))
+    ∷ refusedBy rest (level (1 ∷ above ∷ 0 ∷ 0 ∷ [])) rest 0 Absent ∷ []
     ≡ 1 ∷ 2 ∷ 4 ∷ 5 ∷ 6 ∷ 7 ∷ 8 ∷ 9 ∷ 11 ∷ []
 shows samples =
     map sampleOf (pos 0 ∷ minus 1 ∷ pos 268435455 ∷ pos 268435456 ∷ minus 268435456 ∷ minus 268435457 ∷ pos ceiling ∷ minus ceiling ∷ [])
     ≡ pos 0 ∷ minus 1 ∷ pos 0 ∷ pos 1 ∷ minus 1 ∷ minus 2 ∷ pos 32767 ∷ minus 32767 ∷ []
 -- 2⁴² reads 0.5, −2⁴¹ reads −0.25, and a refused reading 0
 shows readings =
-    (reading (grid 1 4 1) (level (0 ∷ 2 ^ 42 ∷ 0 ∷ 0 ∷ [])) 1 ≡ record { value = ofBits binary64 0x3fe0_0000_0000_0000; refusal = Nothing }) ×
-    (reading (grid 1 4 1) (pos 0 ∷ pos 0 ∷ minus (2 ^ 41) ∷ pos 0 ∷ []) 2 ≡ record { value = ofBits binary64 0xbfd0_0000_0000_0000; refusal = Nothing }) ×
+    (reading (grid 1 4 1) (level (0 ∷ 2 ^ 42 ∷ 0 ∷ 0 ∷ [])) 1 ≡ record { value = ofBits binary64 0x3fe0_0000_0000_0000; refusal = Nothing })
+    ×
+    (reading (grid 1 4 1) (pos 0 ∷ pos 0 ∷ minus (2 ^ 41) ∷ pos 0 ∷ []) 2
+    ≡ record { value = ofBits binary64 0xbfd0_0000_0000_0000; refusal = Nothing }) ×
     (reading (grid 1 4 1) (level (0 ∷ 2 ^ 42 ∷ 0 ∷ 0 ∷ [])) 4 ≡ record { value = ofBits binary64 0; refusal = PickUp })
 shows plucked = pluckLevel table (grid 1 5 1) 2 3 (pos 1000) ≡ level (0 ∷ 749 ∷ 1000 ∷ 749 ∷ 0 ∷ [])
 shows pluckedDown = pluckLevel table (grid 1 5 1) 2 2 (minus 3) ≡ pos 0 ∷ minus 1 ∷ minus 3 ∷ minus 1 ∷ pos 0 ∷ []
-shows pluckedFree = (pluckLevel table (grid 3 5 1) 0 4 (pos 65536) ≡ level (65536 ∷ 55938 ∷ 32768 ∷ 9598 ∷ 0 ∷ [])) × (pluckLevel table (grid 2 5 1) 4 3 (pos 7000) ≡ level (0 ∷ 0 ∷ 1746 ∷ 5243 ∷ 7000 ∷ []))
+shows pluckedFree = (pluckLevel table (grid 3 5 1) 0 4 (pos 65536) ≡ level (65536 ∷ 55938 ∷ 32768 ∷ 9598 ∷ 0 ∷ []))
+    × (pluckLevel table (grid 2 5 1) 4 3 (pos 7000) ≡ level (0 ∷ 0 ∷ 1746 ∷ 5243 ∷ 7000 ∷ []))
 shows pluckedBoth =
-    (pluck (grid 4 5 1) (level (7 ∷ 7 ∷ 7 ∷ 7 ∷ 7 ∷ [])) five 1 1 (pos 9) ≡ record { refusal = Nothing; older = level (0 ∷ 9 ∷ 0 ∷ 0 ∷ 0 ∷ []); newer = level (0 ∷ 9 ∷ 0 ∷ 0 ∷ 0 ∷ []) }) ×
+    (pluck (grid 4 5 1) (level (7 ∷ 7 ∷ 7 ∷ 7 ∷ 7 ∷ [])) five 1 1 (pos 9)
+    ≡ record { refusal = Nothing; older = level (0 ∷ 9 ∷ 0 ∷ 0 ∷ 0 ∷ []); newer = level (0 ∷ 9 ∷ 0 ∷ 0 ∷ 0 ∷ []) }) ×
     (pluck (grid 4 5 1) (level (7 ∷ [])) five 1 1 (pos 9) ≡ record { refusal = WrongLength; older = level (7 ∷ []); newer = five })
 -- the listing of the program `ring`: `1 3 1 65536 0 0 1 4 1 268435456`, from rest
 shows ringListing =
-    block (instrument 1 3 1 65536 0 0) (middle3 (pos 0)) (middle3 (pos 0)) (middle3 (pos 5)) (level (7 ∷ 7 ∷ 7 ∷ 7 ∷ [])) 1 (At 1 (pos 268435456))
+    block (instrument 1 3 1 65536 0 0) (middle3 (pos 0)) (middle3 (pos 0)) (middle3 (pos 5)) (level (7 ∷ 7 ∷ 7 ∷ 7 ∷ [])) 1
+    (At 1 (pos 268435456))
     ≡ record {
       answer = record { steps = 4; refusal = Nothing };
       older = middle3 (minus 268435456);
@@ -199,7 +256,8 @@ shows ringListing =
     }
 -- 13 at the second step: point 1 would have become 5, point 2 would have passed the ceiling
 shows endedBlock =
-    block (instrument 1 4 1 0 0 0) (pos 0 ∷ minus 1 ∷ pos 6000000000000 ∷ pos 0 ∷ []) (level (0 ∷ 1 ∷ 7000000000000 ∷ 0 ∷ [])) (level (1 ∷ 2 ∷ 3 ∷ 4 ∷ [])) (level (7 ∷ 8 ∷ 9 ∷ [])) 2 Absent
+    block (instrument 1 4 1 0 0 0) (pos 0 ∷ minus 1 ∷ pos 6000000000000 ∷ pos 0 ∷ []) (level (0 ∷ 1 ∷ 7000000000000 ∷ 0 ∷ []))
+    (level (1 ∷ 2 ∷ 3 ∷ 4 ∷ [])) (level (7 ∷ 8 ∷ 9 ∷ [])) 2 Absent
     ≡ record {
       answer = record { steps = 1; refusal = NextBeyond };
       older = level (0 ∷ 1 ∷ 7000000000000 ∷ 0 ∷ []);
@@ -210,30 +268,66 @@ shows endedBlock =
 -- the next point at the ceiling, and one above it: 13 at the first step
 shows atOnce =
     (block (instrument 1 3 1 0 0 0) (middle3 (minus 1)) (middle3 (pos 4397912293375)) (middle3 (pos 5)) (level (7 ∷ [])) 1 (At 1 (pos 1))
-    ≡ record { answer = record { steps = 1; refusal = Nothing }; older = middle3 (pos 4397912293375); newer = middle3 (pos ceiling); work = middle3 (pos 0); samples = level (32767 ∷ []) }) ×
+    ≡ record {
+      answer = record { steps = 1; refusal = Nothing };
+      older = middle3 (pos 4397912293375);
+      newer = middle3 (pos ceiling);
+      work = middle3 (pos 0);
+      samples = level (32767 ∷ []);
+    }) ×
     (block (instrument 1 3 1 0 0 0) (middle3 (minus 1)) (middle3 (pos 4397912293375)) (middle3 (pos 5)) (level (7 ∷ [])) 1 (At 1 (pos 2))
-    ≡ record { answer = record { steps = 0; refusal = NextBeyond }; older = middle3 (minus 1); newer = middle3 (pos 4397912293375); work = middle3 (pos 0); samples = level (7 ∷ []) })
+    ≡ record {
+      answer = record { steps = 0; refusal = NextBeyond };
+      older = middle3 (minus 1);
+      newer = middle3 (pos 4397912293375);
+      work = middle3 (pos 0);
+      samples = level (7 ∷ []);
+    })
 shows blockTurnedDown =
     block string rest (level (0 ∷ 1 ∷ 2 ∷ 0 ∷ [])) (level (1 ∷ 2 ∷ 3 ∷ 4 ∷ [])) (level (7 ∷ 8 ∷ [])) 4 Absent
-    ≡ record { answer = record { steps = 0; refusal = PickUp }; older = rest; newer = level (0 ∷ 1 ∷ 2 ∷ 0 ∷ []); work = level (1 ∷ 2 ∷ 3 ∷ 4 ∷ []); samples = level (7 ∷ 8 ∷ []) }
+    ≡ record {
+      answer = record { steps = 0; refusal = PickUp };
+      older = rest;
+      newer = level (0 ∷ 1 ∷ 2 ∷ 0 ∷ []);
+      work = level (1 ∷ 2 ∷ 3 ∷ 4 ∷ []);
+      samples = level (7 ∷ 8 ∷ []);
+    }
 -- "A block of length 0 passes the same checks, answers 0 steps and drops its hit."
 shows emptyBlock =
     block string rest (level (0 ∷ 1 ∷ 2 ∷ 0 ∷ [])) (level (1 ∷ 2 ∷ 3 ∷ 4 ∷ [])) [] 0 (At 1 (pos 5))
-    ≡ record { answer = record { steps = 0; refusal = Nothing }; older = rest; newer = level (0 ∷ 1 ∷ 2 ∷ 0 ∷ []); work = rest; samples = [] }
+    ≡ record {
+      answer = record { steps = 0; refusal = Nothing };
+      older = rest;
+      newer = level (0 ∷ 1 ∷ 2 ∷ 0 ∷ []);
+      work = rest;
+      samples = [];
+    }
 -- times 2D
 shows energies =
     (energy (instrument 3 3 1 65536 0 0) (point (level (4 ∷ 0 ∷ 0 ∷ []))) (point (middle3 (pos 1))) ≡ pos 655360) ×
-    (energy (instrument 4 5 1 20000 3000 7) (point (pos 0 ∷ pos 1 ∷ pos 8 ∷ minus 2 ∷ pos 0 ∷ [])) (point (level (0 ∷ 3 ∷ 4 ∷ 5 ∷ 0 ∷ []))) ≡ pos 8139968) ×
-    (energy (instrument 5 4 3 20000 0 7) (point (pos 0 ∷ pos 0 ∷ pos 0 ∷ pos 0 ∷ pos 0 ∷ pos 5 ∷ minus 3 ∷ pos 0 ∷ pos 0 ∷ pos 0 ∷ pos 0 ∷ pos 0 ∷ [])) (point (level (0 ∷ 0 ∷ 0 ∷ 0 ∷ 0 ∷ 2 ∷ 9 ∷ 0 ∷ 0 ∷ 0 ∷ 0 ∷ 0 ∷ []))) ≡ pos 15774016)
+    (energy (instrument 4 5 1 20000 3000 7) (point (pos 0 ∷ pos 1 ∷ pos 8 ∷ minus 2 ∷ pos 0 ∷ [])) (point (level (0 ∷ 3 ∷ 4 ∷ 5 ∷ 0 ∷ [])))
+    ≡ pos 8139968) ×
+    (energy (instrument 5 4 3 20000 0 7) (point (pos 0 ∷ pos 0 ∷ pos 0 ∷ pos 0 ∷ pos 0 ∷ pos 5 ∷ minus 3 ∷ pos 0 ∷ pos 0 ∷ pos 0 ∷ pos 0
+    ∷ pos 0 ∷ [])) (point (level (0 ∷ 0 ∷ 0 ∷ 0 ∷ 0 ∷ 2 ∷ 9 ∷ 0 ∷ 0 ∷ 0 ∷ 0 ∷ 0 ∷ []))) ≡ pos 15774016)
 shows bookGoesOn = after (twoSteps ∷ refused ∷ oneStep ∷ []) ≡ record {
   older = level (0 ∷ 19 ∷ 13 ∷ 0 ∷ []);
   newer = level (0 ∷ 22 ∷ 16 ∷ 0 ∷ []);
-  book = record { n = 3; older = level (0 ∷ 5131748136475191 ∷ 3783153414978756 ∷ 0 ∷ []); newer = level (0 ∷ 5982145047920445 ∷ 4594315337286502 ∷ 0 ∷ []); last = stepOf (voice 5) };
+  book = record {
+    n = 3;
+    older = level (0 ∷ 5131748136475191 ∷ 3783153414978756 ∷ 0 ∷ []);
+    newer = level (0 ∷ 5982145047920445 ∷ 4594315337286502 ∷ 0 ∷ []);
+    last = stepOf (voice 5);
+  };
 }
 shows bookStartsAnew = after (twoSteps ∷ refused ∷ oneStep ∷ pluckTurnedDown ∷ noSteps ∷ otherStep ∷ []) ≡ record {
   older = level (0 ∷ 22 ∷ 16 ∷ 0 ∷ []);
   newer = level (0 ∷ 21 ∷ 17 ∷ 0 ∷ []);
-  book = record { n = 1; older = level (0 ∷ 1441924 ∷ 1048672 ∷ 0 ∷ []); newer = level (0 ∷ 1358514 ∷ 1145262 ∷ 0 ∷ []); last = stepOf (voice 6) };
+  book = record {
+    n = 1;
+    older = level (0 ∷ 1441924 ∷ 1048672 ∷ 0 ∷ []);
+    newer = level (0 ∷ 1358514 ∷ 1145262 ∷ 0 ∷ []);
+    last = stepOf (voice 6);
+  };
 }
 shows pluckedBook = after (twoSteps ∷ plucks ∷ []) ≡ record {
   older = level (0 ∷ 4 ∷ 9 ∷ 0 ∷ []);
@@ -243,12 +337,25 @@ shows pluckedBook = after (twoSteps ∷ plucks ∷ []) ≡ record {
 shows pluckThenStep = after (twoSteps ∷ plucks ∷ oneStep ∷ []) ≡ record {
   older = level (0 ∷ 4 ∷ 9 ∷ 0 ∷ []);
   newer = level (0 ∷ 4 ∷ 7 ∷ 0 ∷ []);
-  book = record { n = 1; older = level (0 ∷ 262164 ∷ 589869 ∷ 0 ∷ []); newer = level (0 ∷ 272164 ∷ 449869 ∷ 0 ∷ []); last = stepOf (voice 5) };
+  book = record {
+    n = 1;
+    older = level (0 ∷ 262164 ∷ 589869 ∷ 0 ∷ []);
+    newer = level (0 ∷ 272164 ∷ 449869 ∷ 0 ∷ []);
+    last = stepOf (voice 5);
+  };
 }
+shows outcomes = fromHere (twoSteps ∷ refused ∷ plucks ∷ pluckTurnedDown ∷ []) .outcomes ≡
+    blockOutcome (record { steps = 2; refusal = Nothing }) rest (level (0 ∷ 0 ∷ [])) ∷
+    blockOutcome (record { steps = 0; refusal = PickUp }) nines (level (0 ∷ 0 ∷ [])) ∷
+    pluckOutcome Nothing ∷
+    pluckOutcome NotMoving ∷ []
 -- the distance of `bookGoesOn`, times 2 × (D+s)⁶, and its bound times 32 × (D+s)⁶
 shows distances =
-    (distance (voice 5) 3 (level (0 ∷ 22 ∷ 16 ∷ 0 ∷ [])) (level (0 ∷ 5982145047920445 ∷ 4594315337286502 ∷ 0 ∷ [])) ≡ pos 105739055655369542657018668490) ×
+    (distance (voice 5) 3 (level (0 ∷ 22 ∷ 16 ∷ 0 ∷ [])) (level (0 ∷ 5982145047920445 ∷ 4594315337286502 ∷ 0 ∷ []))
+    ≡ pos 105739055655369542657018668490) ×
     (bound (voice 5) 3 ≡ pos 91312631662562532654555856021632)
+-- 152 × D² of 160 × D²: with 17 for 16 the bound would not hold
+shows halfOff = Near (afterHalves .newer) 1 (afterHalves .book .newer) (afterHalves .book .last)
 
 abbrev pub FurtherHold : Type 0
 FurtherHold = (x : Further) → shows x

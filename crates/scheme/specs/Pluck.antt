@@ -14,7 +14,8 @@ use Rattle.scheme.specs.Instruments.{points, moving}
 abbrev pub distanceFrom : ℕ → ℕ → ℕ
 distanceFrom c i = natAbs (pos i -ℤ pos c)
 
--- "a times entry i of the table T, divided by 65536 and cut toward zero, with i = 1024(w−d)/w rounded down": half width w, height a, distance d
+-- "a times entry i of the table T, divided by 65536 and cut toward zero,
+-- with i = 1024(w−d)/w rounded down": half width w, height a, distance d
 abbrev pub pluckValue : (table : List ℕ) → ℕ → ℤ → ℕ → ℤ
 pluckValue table w a d = quotZ (a *ℤ pos (getD table (1024 * (w - d) / w) 0)) (pos 65536)
 

@@ -11,7 +11,9 @@ use Rattle.scheme.specs.declared.Instrument.{Instrument}
 use Rattle.scheme.specs.declared.Hit.{Hit}
 use Rattle.scheme.specs.declared.Hit.the-variants.{Absent, At}
 use Rattle.scheme.specs.declared.Refusal.{Refusal}
-use Rattle.scheme.specs.declared.Refusal.the-variants.{Nothing, UnknownKind, WrongSize, SheetNumber, Coefficient, Unstable, WrongLength, NotMoving, TooStrong, PickUp, HalfWidth, PointBeyond, FixedNotZero, NextBeyond}
+use Rattle.scheme.specs.declared.Refusal.the-variants.{Nothing, UnknownKind, WrongSize, SheetNumber, Coefficient, Unstable}
+use Rattle.scheme.specs.declared.Refusal.the-variants.{WrongLength, NotMoving, TooStrong, PickUp, HalfWidth, PointBeyond}
+use Rattle.scheme.specs.declared.Refusal.the-variants.{FixedNotZero, NextBeyond}
 use Rattle.scheme.specs.Lists.{point, someBelow}
 use Rattle.scheme.specs.Instruments.{D, kind, beyond, points, within, inTable, stableIn, fixed, moving}
 use Rattle.scheme.specs.Step.{someBeyond}
@@ -180,6 +182,7 @@ instrumentRefusal i = lowest (instrumentChecks i)
 
 -- each call's checks stand in the order of their numbers, so that `lowest` answers the lowest that applies
 pub record ChecksInOrder : Type 0 where
-  pub block : (i : Instrument) (older newer : List ℤ) (wrong : Bool) (pick : ℕ) (h : Hit) → T (standsIn order (blockChecks i older newer wrong pick h))
+  pub block : (i : Instrument) (older newer : List ℤ) (wrong : Bool) (pick : ℕ) (h : Hit)
+      → T (standsIn order (blockChecks i older newer wrong pick h))
   pub pluck : (g : Grid) (wrong : Bool) (c w : ℕ) (a : ℤ) → T (standsIn order (pluckChecks g wrong c w a))
   pub reading : (g : Grid) (newer : List ℤ) (pick : ℕ) → T (standsIn order (readingChecks g newer pick))

@@ -44,7 +44,8 @@ numeratorOf c u l b p f = pos (2 * D) *ℤ u +ℤ pos (c .q) *ℤ l -ℤ pos (c 
 
 -- "with u newer and p older": at point k
 unfoldable pub numerator : Instrument → (newer older force : ℕ → ℤ) → ℕ → ℤ
-numerator i newer older force k = numeratorOf (i .settings) (newer k) (laplacian (i .grid) newer k) (biharmonic (i .grid) newer k) (older k) (force k)
+numerator i newer older force k = numeratorOf (i .settings) (newer k) (laplacian (i .grid) newer k) (biharmonic (i .grid) newer k) (older k)
+    (force k)
 
 -- n / d to the nearest, halves up
 abbrev pub nearest : ℕ → ℕ → ℕ
@@ -66,7 +67,8 @@ divisor c = D + c .s
 
 -- "For each moving point .. the numerator .. divided by D+s and rounded"; "Fixed points remain 0"
 unfoldable pub nextAt : Instrument → Hit → (older newer : List ℤ) → ℕ → ℤ
-nextAt i h older newer k = cond (moving (i .grid) k) (roundAway (numerator i (point newer) (point older) (forceOf h) k) (divisor (i .settings))) (pos 0)
+nextAt i h older newer k = cond (moving (i .grid) k)
+    (roundAway (numerator i (point newer) (point older) (forceOf h) k) (divisor (i .settings))) (pos 0)
 
 unfoldable pub nextLevel : Instrument → Hit → (older newer : List ℤ) → List ℤ
 nextLevel i h older newer = tabulate (points (i .grid)) (nextAt i h older newer)

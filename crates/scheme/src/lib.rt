@@ -69,7 +69,7 @@ pub struct Instrument {
     pub settings: Settings,
 }
 
-// A block's hit, if any, acts in its first step.
+// A block's hit, if any, acts in its first step. The definition `forceOf` tells the force on each point.
 pub enum Hit {
     Absent,
     At { point: usize, force: i64 },

@@ -25,7 +25,8 @@ use Rattle.sheet.specs.Claims.{SheetChecksInOrder, AcceptedPlayable}
 
 -- ---- the program's test t of a check b: where it holds the check answers, and where not the others do
 
-pub applies : {t b : Bool} (r : Refusal) (cs : List Check) (c : Settings) → accepted r ≡ false → t ≡ b → t ≡ true → answerTo (b ⇒ r ∷ cs) c ≡ sheetRefused r
+pub applies : {t b : Bool} (r : Refusal) (cs : List Check) (c : Settings) → accepted r ≡ false → t ≡ b → t ≡ true
+    → answerTo (b ⇒ r ∷ cs) c ≡ sheetRefused r
 unfolding answerTo
 applies r cs c n e h = simp (sym e ∙ h, n)
 
@@ -70,10 +71,13 @@ module _ (g : Grid) {q : Refusal} {b : Bool} (answer : q ≡ lowest (gridChecks 
 pub checks-in-order : SheetChecksInOrder
 checks-in-order g s = tt
 
-nothing-refused : (cs : List Check) (c : Settings) → answerTo cs c .refusal ≡ Nothing → (lowest cs ≡ Nothing) × (answerTo cs c .settings ≡ c)
+nothing-refused : (cs : List Check) (c : Settings) → answerTo cs c .refusal ≡ Nothing
+    → (lowest cs ≡ Nothing) × (answerTo cs c .settings ≡ c)
 unfolding answerTo
 nothing-refused cs c =
-    cases (λ (b : Bool). let a = cond b (sheetAccepted c) (sheetRefused (lowest cs)) in a .refusal ≡ Nothing → (lowest cs ≡ Nothing) × (a .settings ≡ c)) (accepted (lowest cs))
+    cases (λ (b : Bool). let a = cond b (sheetAccepted c) (sheetRefused (lowest cs)) in a .refusal ≡ Nothing
+    → (lowest cs ≡ Nothing) × (a .settings ≡ c))
+    (accepted (lowest cs))
     (λ e h. (accepted-is _ e, refl)) (λ e h. absurd (true≢false (ap accepted (sym h) ∙ e)))
 
 pub accepted-playable : AcceptedPlayable

@@ -13,4 +13,5 @@ SheetChecksInOrder = (g : Grid) (s : Sheet) → T (standsIn order (sheetChecks g
 
 -- an accepted answer's settings are ones that a block accepts for that kind and grid
 abbrev pub AcceptedPlayable : Type 0
-AcceptedPlayable = (g : Grid) (s : Sheet) → sheetCall g s .refusal ≡ Nothing → instrumentRefusal (record { grid = g; settings = sheetCall g s .settings }) ≡ Nothing
+AcceptedPlayable = (g : Grid) (s : Sheet) → sheetCall g s .refusal ≡ Nothing
+    → instrumentRefusal (record { grid = g; settings = sheetCall g s .settings }) ≡ Nothing

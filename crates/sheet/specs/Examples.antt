@@ -67,11 +67,21 @@ accepts q m s = sheetAccepted (record { q = q; m = m; s = s })
 
 -- ---- the table
 
--- "kind 1, 101 columns, 48000 Hz, pitch 100 Hz, loss 6 per second, bending 0, length 1: q = 11378, m = 0, s = 8"; and a tension with seconds
+-- "kind 1, 101 columns, 48000 Hz, pitch 100 Hz, loss 6 per second, bending 0, length 1: q = 11378, m = 0, s = 8";
+-- and a tension with seconds
 unfoldable pub acceptedSheets : List Example
 acceptedSheets =
     (paperSheet (Hertz (whole 100)) (PerSecond (whole 6)) on size 1 101 1 gives accepts 11378 0 8) ∷
     (paperSheet (Tension (whole 40000) (whole 1)) (Seconds (whole 2)) on size 2 101 1 gives accepts 11378 0 5) ∷ []
+
+-- "float operations stand in this order": two operations that change places, or another last digit of 6.907755278982137, would change
+-- a coefficient
+unfoldable pub orders : List Example
+orders =
+    (paperSheet (Hertz (nearestFloat 208209808397067 (2 ^ 42))) lossless on size 1 11 1 gives accepts 26 0 0) ∷
+    (numbers (whole 3) (whole 1) (whole 0) (Tension (whole 81) (whole 13107200)) lossless on size 1 11 1 gives accepts 5 0 0) ∷
+    (numbers (whole 7) (whole 1) (nearestFloat 9653 10616832) (tension 0) lossless on size 4 4 1 gives accepts 0 98 0) ∷
+    (paperSheet (Hertz (whole 0)) (Seconds (nearestFloat 326732291679999 (2 ^ 50))) on size 1 11 1 gives accepts 0 0 33) ∷ []
 
 -- 1, before all others
 unfoldable pub kinds : List Example
@@ -127,6 +137,7 @@ limits =
 
 pub record ExamplesHold : Type 0 where
   pub accepted-hold : Hold acceptedSheets
+  pub orders-hold : Hold orders
   pub kinds-hold : Hold kinds
   pub sizes-hold : Hold sizes
   pub zeros-hold : Hold zeros

@@ -1,5 +1,5 @@
--- Refusal 3: "A sheet number that is not finite, is negative (minus zero counts as zero), or is zero where it is the sample rate, length, density or decay time
--- (a loss per second may be zero); or a pitch in hertz for kinds 5 and 6."
+-- Refusal 3: "A sheet number that is not finite, is negative (minus zero counts as zero), or is zero where it is the sample rate, length,
+-- density or decay time (a loss per second may be zero); or a pitch in hertz for kinds 5 and 6."
 use mathlib.Core.Bool.{Bool, true, false, not, _&&_, _||_}
 use lib.Dec.{eqb}
 use lib.Ieee.{Float, nan, inf, fin}
@@ -42,4 +42,5 @@ lossAllowed (Seconds seconds) = positive seconds
 
 -- 3 does not apply
 unfoldable pub numbersAllowed : Kind → Sheet → Bool
-numbersAllowed k s = positive (s .rate) && positive (s .length) && nonNegative (s .bending) && speedAllowed k (s .speed) && lossAllowed (s .loss)
+numbersAllowed k s = positive (s .rate) && positive (s .length) && nonNegative (s .bending)
+    && speedAllowed k (s .speed) && lossAllowed (s .loss)

@@ -13,13 +13,15 @@ use scheme::Grid;
 use scheme::Refusal;
 use scheme::Settings;
 
-// A speed: hertz, which is wave speed over twice the length, or a tension with a density.
+// A speed: hertz, which is wave speed over twice the length, or a tension with a density. The definitions `speedAllowed` and
+// `courantSquared` tell what the paper makes of each.
 pub enum Speed {
     Hertz(f64),
     Tension { tension: f64, density: f64 },
 }
 
-// A loss: a rate per second, or the seconds to a thousandth.
+// A loss: a rate per second, or the seconds to a thousandth. The definitions `lossAllowed` and `lossPerStep` tell what the paper makes
+// of each.
 pub enum Loss {
     PerSecond(f64),
     Seconds(f64),
@@ -34,12 +36,14 @@ pub struct Sheet {
     pub loss: Loss,
 }
 
-// A sheet's answer: what refused it, by the paper's `number`, and the settings, all zeros where something did.
+// A sheet's answer: what refused it, and the settings, all zeros where something did. The definition `number` tells the paper's number
+// of each refusal.
 pub struct SheetAnswer {
     pub settings: Settings,
     pub refusal: Refusal,
 }
 
+// The answer of a refused sheet: all zeros.
 fn refused(refusal: Refusal) -> SheetAnswer
     ensures { λ r. ⌜ r ≡ sheetRefused refusal ⌝ }
 {
@@ -67,7 +71,7 @@ fn answer(grid: Grid, c: Coefficients) -> SheetAnswer
 }
 
 // The settings of a sheet for a kind and its grid, or what refuses it.
-// Ruled out: a refused sheet's answer not all zeros; a coefficient refused before a number of the sheet.
+// Ruled out: a refused sheet's answer not all zeros; q and m exchanged.
 pub fn settings_for(grid: Grid, sheet: Sheet) -> SheetAnswer
     ensures { λ r. ⌜ r ≡ sheetCall grid sheet ⌝ }
 {

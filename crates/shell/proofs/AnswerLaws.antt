@@ -11,9 +11,10 @@ use lib.IntN.{ℤ, pos}
 use lib.ListN.{length, take}
 use lib.Seq.{getD-take}
 use Rattle.scheme.specs.declared.Refusal.{Refusal}
-use Rattle.scheme.specs.declared.Refusal.the-variants.{Nothing, UnknownKind, WrongSize, SheetNumber, Coefficient, Unstable, WrongLength, NotMoving, TooStrong, PickUp, HalfWidth, PointBeyond, FixedNotZero, NextBeyond}
+use Rattle.scheme.specs.declared.Refusal.the-variants.{Nothing, UnknownKind, WrongSize, SheetNumber, Coefficient, Unstable, WrongLength}
+use Rattle.scheme.specs.declared.Refusal.the-variants.{NotMoving, TooStrong, PickUp, HalfWidth, PointBeyond, FixedNotZero, NextBeyond}
 use Rattle.scheme.specs.Lists.{point}
-use Rattle.scheme.specs.Refusals.{number, blockRefusal}
+use Rattle.scheme.specs.Refusals.{number, wrongLength, blockRefusal}
 use Rattle.scheme.specs.Calls.{AfterBlock, accepted}
 use Rattle.scheme.proofs.Laws.Bools.{and-both}
 use Rattle.scheme.proofs.Laws.Refusals.{accepted-is}
@@ -22,17 +23,16 @@ use Rattle.line.specs.declared.types.Numbers.{Numbers}
 use Rattle.line.specs.declared.types.Request.{Request}
 use Rattle.line.specs.declared.types.Request.the-variants.{Input, Run}
 use Rattle.line.specs.Lists.{all}
-use Rattle.line.specs.Requests as Requests
-use Rattle.line.specs.Requests.{isWhole, isForce, field, fields, lineRequest, firstLine, requestOf}
+use Rattle.line.specs.Requests.{digitsValue, isUnsigned, isSigned, field, fields, wellFormed, lineRequest, firstLine, requestOf}
 use Rattle.line.proofs.RequestLaws as line
 use Rattle.shell.specs.Play.{gridOf, instrumentOf, hitOf, rest, isTooLarge, fromRest, played}
 use Rattle.shell.specs.Text.{pairLine, stepLines}
-use Rattle.shell.specs.Answer.{answerTo, answer}
+use Rattle.shell.specs.Answer.{textFor, answer}
 use Rattle.shell.specs.Claims.{FirstBytesTell}
 
 pub first-bytes-tell : FirstBytesTell
 unfolding answer
-first-bytes-tell bytes = ap answerTo (line.first-bytes-tell bytes)
+first-bytes-tell bytes = ap textFor (line.first-bytes-tell bytes)
 
 pub number-low : (r : Refusal) → number r < 100
 number-low Nothing = omega arith
@@ -53,18 +53,24 @@ number-low NextBeyond = omega arith
 -- ---- no more steps than places
 
 module _ (n : Numbers) (samples : List ℤ) where
+  abbrev level : List ℤ
+  level = rest (gridOf n)
+
   abbrev refusal : Refusal
-  refusal = blockRefusal (instrumentOf n) (rest (gridOf n)) (rest (gridOf n)) (rest (gridOf n)) (n .pick) (hitOf n)
+  refusal = blockRefusal (instrumentOf n) level level (wrongLength (gridOf n) (length level)) (n .pick) (hitOf n)
 
   block-steps : fromRest n samples .answer .steps ≤ length samples
   block-steps = go (accepted refusal) refl
     where
       go : (t : Bool) → accepted refusal ≡ t → fromRest n samples .answer .steps ≤ length samples
       go true e =
-          let b = stands-behind (instrumentOf n) (n .pick) (hitOf n) (rest (gridOf n)) (rest (gridOf n)) samples in
-          subst⁻¹ (λ (a : AfterBlock). a .answer .steps ≤ length samples) (block-done (instrumentOf n) _ _ _ samples _ _ (accepted-is _ e))
+          let b = stands-behind (instrumentOf n) (n .pick) (hitOf n) level level samples in
+          subst⁻¹ (λ (a : AfterBlock). a .answer .steps ≤ length samples)
+          (block-done (instrumentOf n) level level level samples _ _ (accepted-is _ e))
           (⊎-elim (λ u. omega (arith, u .1)) (λ u. omega (arith, u .1)) (b .ends))
-      go false e = subst⁻¹ (λ (a : AfterBlock). a .answer .steps ≤ length samples) (block-refused (instrumentOf n) _ _ _ samples _ _ e) (omega arith)
+      go false e =
+          subst⁻¹ (λ (a : AfterBlock). a .answer .steps ≤ length samples) (block-refused (instrumentOf n) level level level samples _ _ e)
+          (omega arith)
 
   pub played-steps : played n samples .answer .steps ≤ length samples
   unfolding played
@@ -92,16 +98,18 @@ StepsLow (Run n) = n .steps ≤ 8192
 last-of-four : (a b c d : Bool) → (a && (b && (c && d))) ≡ true → d ≡ true
 last-of-four a b c d e = and-both c d (and-both b (c && d) (and-both a (b && (c && d)) e .1) .1) .1
 
-accepted-low : (fs : List (List ℕ)) → Requests.accepted fs ≡ true → Requests.decimal (field fs 7) ≤ 8192
-unfolding Requests.accepted
-accepted-low fs e = leb-true _ _ (last-of-four (eqb (length fs) 10) (all isWhole (take 9 fs)) (isForce (field fs 9)) (leb (Requests.decimal (field fs 7)) 8192) e)
+formed-low : (fs : List (List ℕ)) → wellFormed fs ≡ true → digitsValue (field fs 7) ≤ 8192
+unfolding wellFormed
+formed-low fs e =
+    let low = leb (digitsValue (field fs 7)) 8192 in
+    leb-true _ _ (last-of-four (eqb (length fs) 10) (all isUnsigned (take 9 fs)) (isSigned (field fs 9)) low e)
 
 line-low : (l : List ℕ) → StepsLow (lineRequest l)
 unfolding lineRequest
-line-low l = go (Requests.accepted (fields l)) refl
+line-low l = go (wellFormed (fields l)) refl
   where
-    go : (t : Bool) → Requests.accepted (fields l) ≡ t → StepsLow (lineRequest l)
-    go true e = simp e (accepted-low (fields l) e)
+    go : (t : Bool) → wellFormed (fields l) ≡ t → StepsLow (lineRequest l)
+    go true e = simp e (formed-low (fields l) e)
     go false e = simp e tt
 
 request-low : (bytes : List ℕ) → StepsLow (requestOf bytes)

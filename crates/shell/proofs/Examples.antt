@@ -7,12 +7,15 @@ use Rattle.scheme.specs.Step.{beside, neighbours, laplacian, innerLaplacian, nu
 use Rattle.scheme.specs.Refusals.{fixedNotZero, blockRefusal}
 use Rattle.scheme.specs.Calls.{play, block}
 use Rattle.line.specs.Lists.{all, before, splitOn, text}
-use Rattle.line.specs.Requests.{wholeTo, isForce, forceOf, accepted, lineRequest, requestOf}
+use Rattle.line.specs.Requests.{unsignedTo, isSigned, signedValue, wellFormed, lineRequest, requestOf}
 use Rattle.shell.specs.Play.{played}
-use Rattle.shell.specs.Text.{digitsIn, decimal, signed, pairLine, stepLines, doneLine}
+use Rattle.shell.specs.Text.{digitsIn, decimal, signedDecimal, pairLine, stepLines, doneLine}
 use Rattle.shell.specs.Answer.{runText, answer}
 use Rattle.shell.specs.Examples.{table, ExamplesHold}
 
 pub examples-hold : ExamplesHold
-unfolding sumOver tabulate someBelow only kindOf sizeIn stableIn roundEdge fixedIn moving freeIn beside neighbours laplacian innerLaplacian numerator roundAway nextAt nextLevel someBeyond sampleOf fixedNotZero blockRefusal play block all before splitOn wholeTo isForce forceOf accepted lineRequest requestOf played text digitsIn decimal signed pairLine stepLines doneLine runText answer table
+unfolding sumOver tabulate someBelow only kindOf sizeIn stableIn roundEdge fixedIn moving freeIn beside neighbours laplacian innerLaplacian
+    numerator roundAway nextAt nextLevel someBeyond sampleOf fixedNotZero blockRefusal play block
+    all before splitOn unsignedTo isSigned signedValue wellFormed lineRequest requestOf
+    played text digitsIn decimal signedDecimal pairLine stepLines doneLine runText answer table
 examples-hold = refl

@@ -1,18 +1,17 @@
 -- What `ring` prints for the bytes of its standard input: `answer`.
-use mathlib.Core.Path.{_≡_}
-use mathlib.Core.Bool.{Bool, true, false}
-use mathlib.Core.List.{List, _++_}
-use Prim.Native.Nat.{ℕ, _≤_}
+use mathlib.Core.Bool.{cond}
+use mathlib.Core.List.{List, [], _++_}
+use Prim.Native.Nat.{ℕ}
 use lib.Dec.{leb}
 use lib.IntN.{pos}
-use lib.ListN.{length, take, replicate}
+use lib.ListN.{length, drop, replicate}
 use Rattle.scheme.specs.Refusals.{number}
 use Rattle.line.specs.declared.types.Numbers.{Numbers}
 use Rattle.line.specs.declared.types.Request.{Request}
 use Rattle.line.specs.declared.types.Request.the-variants.{Input, Run}
+use Rattle.line.specs.Lists.{text}
 use Rattle.line.specs.Requests.{requestOf}
 use Rattle.shell.specs.Play.{Heard, played}
-use Rattle.line.specs.Lists.{text}
 use Rattle.shell.specs.Text.{stepLines, doneLine}
 
 -- "prints the step's number from 1 and its sample for each step done, then `done`, the count and the refusal number (0 for none)"
@@ -23,13 +22,13 @@ playedText h = stepLines (h .answer .steps) (h .samples) ++ doneLine (h .answer 
 unfoldable pub runText : Numbers → List ℕ
 runText n = playedText (played n (replicate (n .steps) (pos 0)))
 
--- "Other lines .. print `input`"
-abbrev pub answerTo : Request → List ℕ
-answerTo Input = text "input\n"
-answerTo (Run n) = runText n
+-- what is printed for each: "Other lines .. print `input`"
+abbrev pub textFor : Request → List ℕ
+textFor Input = text "input\n"
+textFor (Run n) = runText n
 
 unfoldable pub answer : List ℕ → List ℕ
-answer bytes = answerTo (requestOf bytes)
+answer bytes = textFor (requestOf bytes)
 
 -- ---- in a buffer
 
@@ -37,10 +36,10 @@ answer bytes = answerTo (requestOf bytes)
 abbrev pub room : ℕ
 room = 98320
 
--- the first `size` bytes are the answer, and the bytes after them may differ from one program to another; a buffer without room stays as it was
-abbrev pub AnsweredIf : Bool → (bytes before : List ℕ) (size : ℕ) (after : List ℕ) → Type 0
-AnsweredIf true bytes before size after = (size ≤ length after) × (take size after ≡ answer bytes)
-AnsweredIf false bytes before size after = (size ≡ 0) × (after ≡ before)
+-- what is written to a buffer: the answer, or nothing where the buffer has no room
+unfoldable pub writtenTo : (buffer bytes : List ℕ) → List ℕ
+writtenTo buffer bytes = cond (leb room (length buffer)) (answer bytes) []
 
-abbrev pub Answered : (bytes before : List ℕ) (size : ℕ) (after : List ℕ) → Type 0
-Answered bytes before size after = AnsweredIf (leb room (length before)) bytes before size after
+-- a buffer with a text written at its start: the bytes after the text stay as they were
+abbrev pub over : (written buffer : List ℕ) → List ℕ
+over written buffer = written ++ drop (length written) buffer

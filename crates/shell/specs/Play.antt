@@ -10,8 +10,8 @@ use Rattle.scheme.specs.declared.Hit.{Hit}
 use Rattle.scheme.specs.declared.Hit.the-variants.{At}
 use Rattle.scheme.specs.declared.BlockAnswer.{BlockAnswer}
 use Rattle.scheme.specs.declared.Refusal.the-variants.{WrongSize}
-use Rattle.scheme.specs.Instruments.{kind, points}
-use Rattle.scheme.specs.Refusals.{known}
+use Rattle.scheme.specs.Instruments.{within, points}
+use Rattle.scheme.specs.Refusals.{lastKind}
 use Rattle.scheme.specs.Calls.{AfterBlock, block}
 use Rattle.line.specs.declared.types.Numbers.{Numbers}
 
@@ -31,7 +31,7 @@ rest g = replicate (points g) (pos 0)
 
 -- "A known kind with more than 1024 points"
 abbrev pub isTooLarge : Grid → Bool
-isTooLarge g = known (kind g) && ltb 1024 (points g)
+isTooLarge g = within 1 lastKind (g .kind) && ltb 1024 (points g)
 
 -- what is heard of a block: its answer, and the samples afterwards
 pub record Heard : Type 0 where

@@ -5,7 +5,7 @@ use mathlib.Core.List.{List, [], _∷_, _++_}
 use Prim.Native.Nat.{ℕ, zero, suc, _+_, _/_, _%_}
 use lib.Dec.{ltb}
 use lib.IntN.{ℤ, pos, negsuc}
-use lib.ListN.{length, take}
+use lib.ListN.{length, take, drop}
 use Rattle.scheme.specs.Lists.{point}
 use Rattle.line.specs.Lists.{text}
 
@@ -26,15 +26,15 @@ digitsIn (suc k) n =
 unfoldable pub decimal : ℕ → List ℕ
 decimal n = digitsIn n n
 
-unfoldable pub signed : ℤ → List ℕ
-signed (pos n) = decimal n
-signed (negsuc n) = text "-" ++ decimal (suc n)
+unfoldable pub signedDecimal : ℤ → List ℕ
+signedDecimal (pos n) = decimal n
+signedDecimal (negsuc n) = text "-" ++ decimal (suc n)
 
 -- ---- lines
 
 -- two numbers, a single space between
 unfoldable pub pairLine : ℕ → ℤ → List ℕ
-pairLine number value = decimal number ++ (text " " ++ (signed value ++ text "\n"))
+pairLine number value = decimal number ++ (text " " ++ (signedDecimal value ++ text "\n"))
 
 -- the lines of the first i samples: "the step's number from 1 and its sample"
 unfoldable pub stepLines : ℕ → List ℤ → List ℕ
@@ -47,7 +47,8 @@ doneLine count refusal = text "done " ++ pairLine count (pos refusal)
 
 -- ---- text in a buffer
 
--- a text was written at a place, up to `end`
+-- a text was written at a place, up to `end`, and no byte elsewhere
 pub record Put (before : List ℕ) (at : ℕ) (written : List ℕ) (end : ℕ) (after : List ℕ) : Type 0 where
   pub ends : end ≡ at + length written
   pub holds : take end after ≡ take at before ++ written
+  pub kept : drop end after ≡ drop end before

@@ -2,10 +2,11 @@
 ghost use mathlib.Core.Path.{_≡_};
 ghost use Prim.Native.Nat.{_≤_};
 ghost use lib.IntN.{pos};
-ghost use lib.ListN.{length, take, replicate};
+ghost use lib.ListN.{length, replicate};
 ghost use Rattle.io.specs.Counts.{Counts};
 ghost use Rattle.shell.specs.Play.{played};
-ghost use Rattle.shell.specs.Answer.{playedText, runText, answer, room, Answered};
+ghost use Rattle.shell.specs.Text.{Put};
+ghost use Rattle.shell.specs.Answer.{playedText, runText, answer, room, writtenTo, over};
 use crate::playing::play;
 use crate::text::put_bytes;
 use crate::text::put_done;
@@ -17,9 +18,12 @@ use line::request;
 // Room for every answer: 8192 lines of at most 12 bytes, and a last line.
 const ROOM: usize = 98320;
 
+// The length of `input` and its line feed.
+const INPUT: usize = 6;
+
 fn put_played(out: &mut [u8], n: Numbers, samples: &mut [i16]) -> usize
     requires { ⌜ (room ≤ length (now out)) × (length (now samples) ≤ 8192) ⌝ }
-    ensures { λ r. ⌜ (r ≤ room) × (take r (now (out .exit)) ≡ playedText (played n (now (samples .entry)))) ⌝ }
+    ensures { λ r. ⌜ (r ≤ room) × Put (now (out .entry)) 0 (playedText (played n (now (samples .entry)))) r (now (out .exit)) ⌝ }
 {
     let answer = play(n, samples);
     let done = answer.steps;
@@ -36,7 +40,7 @@ fn silence() -> [i16; 8192]
 
 fn put_run(out: &mut [u8], n: Numbers) -> usize
     requires { ⌜ (room ≤ length (now out)) × (n .steps ≤ 8192) ⌝ }
-    ensures { λ r. ⌜ (r ≤ room) × (take r (now (out .exit)) ≡ runText n) ⌝ }
+    ensures { λ r. ⌜ (r ≤ room) × Put (now (out .entry)) 0 (runText n) r (now (out .exit)) ⌝ }
 {
     let mut samples = silence();
     let steps = n.steps;
@@ -46,20 +50,24 @@ fn put_run(out: &mut [u8], n: Numbers) -> usize
 // What is printed for the bytes read, where there is room.
 fn put_answer(out: &mut [u8], bytes: &[u8]) -> usize
     requires { ⌜ room ≤ length (now out) ⌝ }
-    ensures { λ r. ⌜ (r ≤ room) × (take r (now (out .exit)) ≡ answer (now (bytes .entry))) ⌝ }
+    ensures { λ r. ⌜ (r ≤ room) × Put (now (out .entry)) 0 (answer (now (bytes .entry))) r (now (out .exit)) ⌝ }
 {
     let asked = request(bytes);
     match asked {
-        Request::Input => put_bytes(out, 0, b"input\n"),
+        Request::Input => {
+            put_bytes(out, 0, b"input\n");
+            INPUT
+        }
         Request::Run(n) => put_run(out, n),
     }
 }
 
-// What `ring` prints for the bytes of its standard input, at the start of out, and how many bytes that is; 0 where out has no room for every answer.
-// Ruled out: the count printed where the refusal's number should stand; the lines numbered from 0.
+// What `ring` prints for the bytes of its standard input, at the start of out, and how many bytes that is; nothing where out has no room
+// for every answer. Ruled out: the lines numbered from 0; the byte after the text cleared.
 pub fn answer(out: &mut [u8], bytes: &[u8]) -> usize
     ensures { λ r. ⌜ Counts r (now (out .exit)) ⌝ }
-    ensures { λ r. ⌜ Answered (now (bytes .entry)) (now (out .entry)) r (now (out .exit)) ⌝ }
+    ensures { λ r. ⌜ r ≡ length (writtenTo (now (out .entry)) (now (bytes .entry))) ⌝ }
+    ensures { λ r. ⌜ now (out .exit) ≡ over (writtenTo (now (out .entry)) (now (bytes .entry))) (now (out .entry)) ⌝ }
 {
     if out.len() < ROOM {
         return 0;

@@ -4,8 +4,7 @@ ghost use Prim.Native.Nat.{_*_, _≤_};
 ghost use lib.Dec.{ltb};
 ghost use lib.IntN.{pos};
 ghost use lib.ListN.{replicate};
-ghost use Rattle.scheme.specs.Instruments.{kindOf, points};
-ghost use Rattle.scheme.specs.Refusals.{known};
+ghost use Rattle.scheme.specs.Instruments.{points};
 ghost use Rattle.shell.specs.Play.{instrumentOf, hitOf, isTooLarge, heard, played};
 use engine::BlockAnswer;
 use engine::Grid;
@@ -14,6 +13,7 @@ use engine::Instrument;
 use engine::Refusal;
 use engine::Settings;
 use engine::block;
+use kinds::is_within;
 use line::Numbers;
 
 const MOST: usize = 1024;
@@ -21,18 +21,9 @@ const MOST: usize = 1024;
 fn instrument_of(n: Numbers) -> Instrument
     ensures { λ r. ⌜ r ≡ instrumentOf n ⌝ }
 {
-    Instrument {
-        grid: Grid {
-            kind: n.kind,
-            columns: n.columns,
-            rows: n.rows,
-        },
-        settings: Settings {
-            q: n.q,
-            m: n.m,
-            s: n.s,
-        },
-    }
+    let grid = Grid::new(n.kind, n.columns, n.rows);
+    let settings = Settings::new(n.q, n.m, n.s);
+    Instrument { grid, settings }
 }
 
 fn hit_of(n: Numbers) -> Hit
@@ -41,15 +32,6 @@ fn hit_of(n: Numbers) -> Hit
     Hit::At {
         point: n.point,
         force: n.force,
-    }
-}
-
-fn is_known(kind: u64) -> bool
-    ensures { λ r. ⌜ r ≡ known (kindOf kind) ⌝ }
-{
-    match kind {
-        1..=6 => true,
-        _ => false,
     }
 }
 
@@ -63,10 +45,12 @@ fn is_above(columns: usize, rows: usize) -> bool
     MOST / rows < columns
 }
 
+// Whether the kind is known and has more than 1024 points.
 fn is_too_large(g: Grid) -> bool
     ensures { λ r. ⌜ r ≡ isTooLarge g ⌝ }
 {
-    if is_known(g.kind) {
+    let kind = g.kind as usize;
+    if is_within(1, Grid::LAST as usize, kind) {
         return is_above(g.columns, g.rows);
     }
     false
@@ -90,8 +74,7 @@ fn at_rest() -> [i64; 1024]
 }
 
 // The block that the numbers ask for, from rest, as many steps as samples has places.
-// Ruled out: no hit where the force is 0; more than 1024 points admitted; an unknown kind answered by 2.
-pub fn play(n: Numbers, samples: &mut [i16]) -> BlockAnswer
+pub(crate) fn play(n: Numbers, samples: &mut [i16]) -> BlockAnswer
     ensures { λ r. ⌜ heard r (now (samples .exit)) ≡ played n (now (samples .entry)) ⌝ }
 {
     let i = instrument_of(n);

@@ -3,9 +3,9 @@ ghost use mathlib.Core.Path.{_≡_};
 ghost use Prim.Native.Nat.{_+_, _≤_, _<_};
 ghost use lib.IntN.{natAbs};
 ghost use lib.ListN.{length};
-ghost use Rattle.shell.specs.Text.{decimal, signed, pairLine, stepLines, doneLine, Put};
+ghost use Rattle.shell.specs.Text.{decimal, signedDecimal, pairLine, stepLines, doneLine, Put};
 
-pub fn put_bytes(out: &mut [u8], at: usize, bytes: &[u8]) -> usize
+pub(crate) fn put_bytes(out: &mut [u8], at: usize, bytes: &[u8]) -> usize
     requires { ⌜ at + length (now bytes) ≤ length (now out) ⌝ }
     ensures { λ r. ⌜ Put (now (out .entry)) at (now (bytes .entry)) r (now (out .exit)) ⌝ }
 {
@@ -37,8 +37,8 @@ fn magnitude(v: i16) -> u64
 }
 
 fn put_signed(out: &mut [u8], at: usize, v: i16) -> usize
-    requires { ⌜ at + length (signed v) ≤ length (now out) ⌝ }
-    ensures { λ r. ⌜ Put (now (out .entry)) at (signed v) r (now (out .exit)) ⌝ }
+    requires { ⌜ at + length (signedDecimal v) ≤ length (now out) ⌝ }
+    ensures { λ r. ⌜ Put (now (out .entry)) at (signedDecimal v) r (now (out .exit)) ⌝ }
 {
     if v < 0 {
         let digits = put_bytes(out, at, b"-");
@@ -59,9 +59,10 @@ fn put_pair(out: &mut [u8], at: usize, number: u64, value: i16) -> usize
 }
 
 // A line for each sample, from the start of the buffer.
-pub fn put_steps(out: &mut [u8], samples: &[i16]) -> usize
+pub(crate) fn put_steps(out: &mut [u8], samples: &[i16]) -> usize
     requires { ⌜ (length (now samples) ≤ 8192) × (98304 ≤ length (now out)) ⌝ }
-    ensures { λ r. ⌜ (r ≤ 98304) × Put (now (out .entry)) 0 (stepLines (length (now (samples .entry))) (now (samples .entry))) r (now (out .exit)) ⌝ }
+    ensures { λ r. ⌜ r ≤ 98304 ⌝ }
+    ensures { λ r. ⌜ Put (now (out .entry)) 0 (stepLines (length (now (samples .entry))) (now (samples .entry))) r (now (out .exit)) ⌝ }
 {
     let mut at = 0;
     let mut i = 0;
@@ -73,7 +74,7 @@ pub fn put_steps(out: &mut [u8], samples: &[i16]) -> usize
 }
 
 // The last line.
-pub fn put_done(out: &mut [u8], at: usize, count: u64, refusal: u64) -> usize
+pub(crate) fn put_done(out: &mut [u8], at: usize, count: u64, refusal: u64) -> usize
     requires { ⌜ (refusal < 100) × (at + length (doneLine count refusal) ≤ length (now out)) ⌝ }
     ensures { λ r. ⌜ Put (now (out .entry)) at (doneLine count refusal) r (now (out .exit)) ⌝ }
 {

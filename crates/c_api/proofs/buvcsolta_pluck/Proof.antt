@@ -31,7 +31,8 @@ returns c =
     let a = new .before .args in
     ap (λ (n : ℕ). pluckLeft n (called .last .1 .0) (called .last .1 .1 .0)) (c .number .ensures)
     ∙ ap pluckNumbers (called .ensures)
-    ∙ ap₂ (λ (g : Grid) (z : ℤ). pluckNumbers (Calls.pluck g (a .older .now) (a .newer .now) (a .centre) (a .half-width) z)) (new .new .ensures) (search needs)
+    ∙ ap₂ (λ (g : Grid) (z : ℤ). pluckNumbers (Calls.pluck g (a .older .now) (a .newer .now) (a .centre) (a .half-width) z))
+    (new .new .ensures) (search needs)
 
 pub buvcsolta-pluck-spec : {M : Type 1} → statement M
 buvcsolta-pluck-spec =

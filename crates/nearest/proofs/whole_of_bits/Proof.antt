@@ -38,12 +38,14 @@ shifted-requires c κs = search needs
 returns-6 : tie.Need-returns-6
 returns-6 c =
     let called = c .before .before .before .before .before in
-    sym (bits-plus _ (search needs) (search needs) (search needs) (called .digits-of .ensures) (c .before .shifted .ensures) ∙ is-whole (c .before .shifted .result) (search needs))
+    sym (bits-plus _ (search needs) (search needs) (search needs) (called .digits-of .ensures) (c .before .shifted .ensures)
+    ∙ is-whole (c .before .shifted .result) (search needs))
 
 returns-7 : tie.Need-returns-7
 returns-7 c =
     let called = c .before .before .before .before .before in
-    sym (bits-plus _ (search needs) (search needs) (search needs) (called .digits-of .ensures) (c .before .shifted .ensures) ∙ above-whole (c .before .shifted .result) (search needs))
+    sym (bits-plus _ (search needs) (search needs) (search needs) (called .digits-of .ensures) (c .before .shifted .ensures)
+    ∙ above-whole (c .before .shifted .result) (search needs))
 
 pub whole-of-bits-spec : {M : Type 1} → statement M
 whole-of-bits-spec =

@@ -37,7 +37,9 @@ below : (c : tie.Else1) → let a = c .before .before .before .args in a .pick <
 below c = let p = passed c in omega (arith, p .pick-in, p .newer-passes .long)
 
 -- the point there, as it is handed on
-point-is : (c : tie.After-float-of-arg) → let a = c .before .before .before .before .args in toZ w64 (ofZ w64 (point (a .newer .now) (a .pick))) ≡ point (a .newer .now) (a .pick)
+point-is : (c : tie.After-float-of-arg)
+    → let a = c .before .before .before .before .args in
+    toZ w64 (ofZ w64 (point (a .newer .now) (a .pick))) ≡ point (a .newer .now) (a .pick)
 point-is c = back _ (c .float-of-arg .given)
 
 reading-refusal-requires : tie.Need-reading-refusal-requires

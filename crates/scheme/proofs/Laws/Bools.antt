@@ -32,11 +32,6 @@ or-no {b = b} e = ap (λ (x : Bool). x || b) e
 pub neither-or : {a b : Bool} → a ≡ false → b ≡ false → (a || b) ≡ false
 neither-or p q = or-no p ∙ q
 
-pub or-twice : (a b : Bool) → (a || b || b) ≡ (a || b)
-or-twice true b = refl
-or-twice false true = refl
-or-twice false false = refl
-
 -- what is not true is false
 pub not-so : {a : Bool} → (a ≡ true → ⊥) → a ≡ false
 not-so {a = true} f = absurd (f refl)

@@ -8,7 +8,7 @@ use native.Mathlib.Omega.{arith}
 use lib.Dec.{ltb}
 use lib.Ieee.{binary64, ofInt}
 use lib.IntN.{ℤ, pos, natAbs}
-use lib.ListN.{length, length-replicate}
+use lib.ListN.{length}
 use Rattle.scheme.specs.declared.Grid.{Grid}
 use Rattle.scheme.specs.declared.Instrument.{Instrument}
 use Rattle.scheme.specs.declared.Hit.{Hit}
@@ -18,17 +18,19 @@ use Rattle.scheme.specs.Lists.{point}
 use Rattle.scheme.specs.Instruments.{points, fixed}
 use Rattle.scheme.specs.Step.{nextLevel, someBeyond, sampleOf, floatOf}
 use Rattle.scheme.specs.Table.{table}
-use Rattle.scheme.specs.Pluck.{pluckAt, pluckLevel}
+use Rattle.scheme.specs.Pluck.{pluckLevel}
 use Rattle.scheme.specs.Refusals.{wrongLength, fixedNotZero, blockRefusal, pluckRefusal, readingRefusal}
-use Rattle.scheme.specs.Calls.{accepted, AfterSteps, ended, oneMore, play, levelsAfter, hitAfter, StandsBehind, StepsStandBehind, AfterBlock, withWorkZero, blockRefused, block, AfterPluck, overwritten, pluckRefused, pluck, reading}
+use Rattle.scheme.specs.Calls.{accepted, AfterSteps, ended, oneMore, play, levelsAfter, hitAfter, StandsBehind, StepsStandBehind}
+use Rattle.scheme.specs.Calls.{AfterBlock, withWorkZero, blockRefused, block, overwritten, pluckRefused, pluck, reading}
 use Rattle.scheme.specs.Claims.{LevelPasses}
 use Rattle.scheme.proofs.Laws.Bools.{cases}
-use Rattle.scheme.proofs.Laws.Lists.{length-tabulate, none-below}
+use Rattle.scheme.proofs.Laws.Lists.{none-below}
 use Rattle.scheme.proofs.Laws.Step.{fixed-still, length-next, next-fixed}
-use Rattle.scheme.proofs.Laws.Refusals.{accepted-is, right-length, block-passes, pluck-passes}
+use Rattle.scheme.proofs.Laws.Refusals.{block-passes}
 
 -- a next level within the ceiling passes
-pub next-passes : (i : Instrument) (h : Hit) (older newer : List ℤ) → someBeyond (nextLevel i h older newer) ≡ false → LevelPasses (i .grid) (nextLevel i h older newer)
+pub next-passes : (i : Instrument) (h : Hit) (older newer : List ℤ) → someBeyond (nextLevel i h older newer) ≡ false
+    → LevelPasses (i .grid) (nextLevel i h older newer)
 unfolding fixedNotZero
 next-passes i h older newer e = record {
   long = length-next i h older newer;
@@ -46,7 +48,8 @@ module _ (i : Instrument) (pick : ℕ) (h : Hit) (older newer : List ℤ) (x : �
   play-ends e = simp e
 
   pub play-goes : someBeyond (nextLevel i h older newer) ≡ false
-      → play i pick h older newer (x ∷ xs) ≡ oneMore (sampleOf (point (nextLevel i h older newer) pick)) (play i pick Absent newer (nextLevel i h older newer) xs)
+      → play i pick h older newer (x ∷ xs) ≡ oneMore (sampleOf (point (nextLevel i h older newer) pick))
+      (play i pick Absent newer (nextLevel i h older newer) xs)
   unfolding play
   play-goes e = simp e
 
@@ -61,7 +64,8 @@ stands-behind i pick h older newer [] = record {
   places-long = refl;
   ends = inl (refl, refl);
 }
-stands-behind i pick h older newer (x ∷ xs) = go (someBeyond (nextLevel i h older newer)) refl (stands-behind i pick Absent newer (nextLevel i h older newer) xs)
+stands-behind i pick h older newer (x ∷ xs) = go (someBeyond (nextLevel i h older newer)) refl
+    (stands-behind i pick Absent newer (nextLevel i h older newer) xs)
   where
     next : List ℤ
     next = nextLevel i h older newer
@@ -100,7 +104,8 @@ stands-behind i pick h older newer (x ∷ xs) = go (someBeyond (nextLevel i h ol
         low-at zero p = e
         low-at (suc j) p = w .low j (omega arith)
 
-        sampled-at : (j : ℕ) → j < suc (rest .answer .steps) → point (sampleOf (point next pick) ∷ rest .samples) j ≡ sampleOf (point (levelsAfter i Absent j newer next .newer) pick)
+        sampled-at : (j : ℕ) → j < suc (rest .answer .steps) → point (sampleOf (point next pick) ∷ rest .samples) j
+            ≡ sampleOf (point (levelsAfter i Absent j newer next .newer) pick)
         sampled-at zero p = refl
         sampled-at (suc j) p = w .sampled j (omega arith)
 
@@ -109,98 +114,77 @@ stands-behind i pick h older newer (x ∷ xs) = go (someBeyond (nextLevel i h ol
         later-at (suc j) p = w .later j (omega arith)
 
         over : ((rest .answer .refusal ≡ Nothing) × (rest .answer .steps ≡ length xs))
-            ⊎ ((rest .answer .refusal ≡ NextBeyond) × (rest .answer .steps < length xs) × (someBeyond (nextLevel i (hitAfter Absent (rest .answer .steps)) (rest .older) (rest .newer)) ≡ true))
+            ⊎ ((rest .answer .refusal ≡ NextBeyond) × (rest .answer .steps < length xs)
+            × (someBeyond (nextLevel i (hitAfter Absent (rest .answer .steps)) (rest .older) (rest .newer)) ≡ true))
             → ((rest .answer .refusal ≡ Nothing) × (suc (rest .answer .steps) ≡ suc (length xs)))
-            ⊎ ((rest .answer .refusal ≡ NextBeyond) × (suc (rest .answer .steps) < suc (length xs)) × (someBeyond (nextLevel i Absent (rest .older) (rest .newer)) ≡ true))
+            ⊎ ((rest .answer .refusal ≡ NextBeyond) × (suc (rest .answer .steps) < suc (length xs))
+            × (someBeyond (nextLevel i Absent (rest .older) (rest .newer)) ≡ true))
         over (inl u) = inl (u .0, ap suc (u .1))
-        over (inr u) = inr (u .0, omega (arith, u .1), ap (λ (h : Hit). someBeyond (nextLevel i h (rest .older) (rest .newer))) (sym (same (rest .answer .steps))) ∙ u .2)
+        over (inr u) = inr (
+          u .0,
+          omega (arith, u .1),
+          ap (λ (h : Hit). someBeyond (nextLevel i h (rest .older) (rest .newer))) (sym (same (rest .answer .steps))) ∙ u .2,
+        )
 
 -- levels that passed before k steps within the ceiling pass after them
-pub after-passes : (i : Instrument) (h : Hit) (k : ℕ) (older newer : List ℤ) → ((j : ℕ) → j < k → someBeyond (levelsAfter i h (suc j) older newer .newer) ≡ false)
-    → LevelPasses (i .grid) older → LevelPasses (i .grid) newer → LevelPasses (i .grid) (levelsAfter i h k older newer .older) × LevelPasses (i .grid) (levelsAfter i h k older newer .newer)
+pub after-passes : (i : Instrument) (h : Hit) (k : ℕ) (older newer : List ℤ)
+    → ((j : ℕ) → j < k → someBeyond (levelsAfter i h (suc j) older newer .newer) ≡ false)
+    → LevelPasses (i .grid) older → LevelPasses (i .grid) newer → LevelPasses (i .grid) (levelsAfter i h k older newer .older)
+    × LevelPasses (i .grid) (levelsAfter i h k older newer .newer)
 unfolding levelsAfter
 after-passes i h zero older newer low a b = (a, b)
 after-passes i h (suc k) older newer low a b =
-    after-passes i Absent k newer (nextLevel i h older newer) (λ j p. low (suc j) (omega arith)) b (next-passes i h older newer (low zero (omega arith)))
+    after-passes i Absent k newer (nextLevel i h older newer) (λ j p. low (suc j) (omega arith)) b
+    (next-passes i h older newer (low zero (omega arith)))
 
 -- ---- a block
 
 module _ (i : Instrument) (older newer work samples : List ℤ) (pick : ℕ) (h : Hit) where
-  pub block-done : blockRefusal i older newer (wrongLength (i .grid) (length work)) pick h ≡ Nothing → block i older newer work samples pick h ≡ withWorkZero (points (i .grid)) (play i pick h older newer samples)
+  pub block-done : blockRefusal i older newer (wrongLength (i .grid) (length work)) pick h ≡ Nothing
+      → block i older newer work samples pick h ≡ withWorkZero (points (i .grid)) (play i pick h older newer samples)
   unfolding block
   block-done e = simp e
 
   pub block-refused : accepted (blockRefusal i older newer (wrongLength (i .grid) (length work)) pick h) ≡ false
-      → block i older newer work samples pick h ≡ blockRefused (blockRefusal i older newer (wrongLength (i .grid) (length work)) pick h) older newer work samples
+      → block i older newer work samples pick h ≡ blockRefused (blockRefusal i older newer (wrongLength (i .grid) (length work)) pick h)
+      older newer work samples
   unfolding block
   block-refused e = simp e
 
   -- what an accepted block leaves passes 11 and 12
   pub accepted-leaves : blockRefusal i older newer (wrongLength (i .grid) (length work)) pick h ≡ Nothing
-      → LevelPasses (i .grid) (block i older newer work samples pick h .older) × LevelPasses (i .grid) (block i older newer work samples pick h .newer)
+      → LevelPasses (i .grid) (block i older newer work samples pick h .older)
+      × LevelPasses (i .grid) (block i older newer work samples pick h .newer)
   accepted-leaves e =
       let w = block-passes i older newer (wrongLength (i .grid) (length work)) pick h e in
       let s = stands-behind i pick h older newer samples in
-      let p = after-passes i h (play i pick h older newer samples .answer .steps) older newer (s .low) (w .older-passes) (w .newer-passes) in
+      let p = after-passes i h (play i pick h older newer samples .answer .steps) older newer (s .low) (w .older-passes) (w .newer-passes)
+      in
       subst (λ (r : AfterBlock). LevelPasses (i .grid) (r .older) × LevelPasses (i .grid) (r .newer)) (sym (block-done e))
       (subst (LevelPasses (i .grid)) (sym (s .older-is)) (p .0), subst (LevelPasses (i .grid)) (sym (s .newer-is)) (p .1))
-
-  -- all lengths are kept, refused or not
-  pub record SameLengths (r : AfterBlock) : Type 0 where
-    pub older-long : length (r .older) ≡ length older
-    pub newer-long : length (r .newer) ≡ length newer
-    pub work-long : length (r .work) ≡ length work
-    pub samples-long : length (r .samples) ≡ length samples
-
-  pub block-lengths : SameLengths (block i older newer work samples pick h)
-  block-lengths = go (accepted (blockRefusal i older newer (wrongLength (i .grid) (length work)) pick h)) refl
-    where
-      go : (t : Bool) → accepted (blockRefusal i older newer (wrongLength (i .grid) (length work)) pick h) ≡ t → SameLengths (block i older newer work samples pick h)
-      go true e =
-          let n = accepted-is _ e in
-          let w = block-passes i older newer (wrongLength (i .grid) (length work)) pick h n in
-          let p = accepted-leaves n in
-          record {
-            older-long = p .0 .long ∙ sym (w .older-passes .long);
-            newer-long = p .1 .long ∙ sym (w .newer-passes .long);
-            work-long = ap (λ (r : AfterBlock). length (r .work)) (block-done n) ∙ length-replicate (points (i .grid)) (pos 0) ∙ sym (right-length (i .grid) (length work) (w .rest-right));
-            samples-long = ap (λ (r : AfterBlock). length (r .samples)) (block-done n) ∙ stands-behind i pick h older newer samples .places-long;
-          }
-      go false e = subst SameLengths (sym (block-refused e)) (record { older-long = refl; newer-long = refl; work-long = refl; samples-long = refl })
 
 -- ---- a pluck
 
 module _ (g : Grid) (older newer : List ℤ) (c w : ℕ) (a : ℤ) where
-  pub pluck-done : pluckRefusal g (length older) (length newer) c w a ≡ Nothing → pluck g older newer c w a ≡ overwritten (pluckLevel table g c w a)
+  pub pluck-done : pluckRefusal g (length older) (length newer) c w a ≡ Nothing → pluck g older newer c w a
+      ≡ overwritten (pluckLevel table g c w a)
   unfolding pluck
   pluck-done e = simp e
 
-  pub pluck-refused : accepted (pluckRefusal g (length older) (length newer) c w a) ≡ false → pluck g older newer c w a ≡ pluckRefused (pluckRefusal g (length older) (length newer) c w a) older newer
+  pub pluck-refused : accepted (pluckRefusal g (length older) (length newer) c w a) ≡ false → pluck g older newer c w a
+      ≡ pluckRefused (pluckRefusal g (length older) (length newer) c w a) older newer
   unfolding pluck
   pluck-refused e = simp e
-
-  pub pluck-lengths : (length (pluck g older newer c w a .older) ≡ length older) × (length (pluck g older newer c w a .newer) ≡ length newer)
-  unfolding pluckLevel
-  pluck-lengths = go (accepted (pluckRefusal g (length older) (length newer) c w a)) refl
-    where
-      Kept : AfterPluck → Type 0
-      Kept r = (length (r .older) ≡ length older) × (length (r .newer) ≡ length newer)
-
-      go : (t : Bool) → accepted (pluckRefusal g (length older) (length newer) c w a) ≡ t → Kept (pluck g older newer c w a)
-      go true e =
-          let n = accepted-is _ e in
-          let v = pluck-passes g (length older) (length newer) c w a n in
-          let l = length-tabulate (points g) (pluckAt table g c w a) in
-          subst Kept (sym (pluck-done n)) (l ∙ sym (v .older-long), l ∙ sym (v .newer-long))
-      go false e = subst Kept (sym (pluck-refused e)) (refl, refl)
 
 -- ---- the float reading
 
 module _ (g : Grid) (newer : List ℤ) (pick : ℕ) where
-  pub reading-done : readingRefusal g newer pick ≡ Nothing → reading g newer pick ≡ record { value = floatOf (point newer pick); refusal = Nothing }
+  pub reading-done : readingRefusal g newer pick ≡ Nothing → reading g newer pick
+      ≡ record { value = floatOf (point newer pick); refusal = Nothing }
   unfolding reading
   reading-done e = simp e
 
-  pub reading-refused : accepted (readingRefusal g newer pick) ≡ false → reading g newer pick ≡ record { value = ofInt binary64 (pos 0); refusal = readingRefusal g newer pick }
+  pub reading-refused : accepted (readingRefusal g newer pick) ≡ false → reading g newer pick
+      ≡ record { value = ofInt binary64 (pos 0); refusal = readingRefusal g newer pick }
   unfolding reading
   reading-refused e = simp e

@@ -1,4 +1,5 @@
--- The facts of the grid that go by the kind: the sizes that the table has, how many neighbours a point has against its weight, where there is stiffness, and what stable means.
+-- The facts of the grid that go by the kind: the sizes that the table has,
+-- how many neighbours a point has against its weight, where there is stiffness, and what stable means.
 use mathlib.Core.Path.{_≡_, refl, sym, ap, _∙_, subst}
 use mathlib.Core.Bool.{Bool, true, false, _&&_, _||_, cond, true≢false}
 use mathlib.Core.List.{List}
@@ -11,7 +12,8 @@ use lib.Dec.{T, leb, ltb, eqb, lit≤}
 use lib.ListN.{length, length-append}
 use Rattle.scheme.specs.declared.Grid.{Grid}
 use Rattle.scheme.specs.Lists.{only}
-use Rattle.scheme.specs.Instruments.{D, Kind, unknown, fixedString, halfFreeString, freeString, bar, membrane, roundMembrane, kind, within, lineSize, sizeIn, stableIn, points, column, row, atEdge, freeIn, freeEnd}
+use Rattle.scheme.specs.Instruments.{D, Kind, unknown, fixedString, halfFreeString, freeString, bar, membrane, roundMembrane, kind}
+use Rattle.scheme.specs.Instruments.{within, lineSize, sizeIn, stableIn, points, column, row, atEdge, freeIn, freeEnd}
 use Rattle.scheme.specs.Step.{beside}
 use Rattle.scheme.specs.Energy.{weight}
 use Rattle.scheme.proofs.Laws.Bools.{and-both, and-yes, same}
@@ -52,7 +54,8 @@ pub record Sized (c r : ℕ) : Type 0 where
   pub points-high : c * r ≤ 4096
 
 -- 3..m columns and l..n rows
-sized-by : (m l n c r : ℕ) → T (leb m 1024) → T (leb 1 l) → T (leb n 64) → T (leb (m * n) 4096) → (within 3 m c && within l n r) ≡ true → Sized c r
+sized-by : (m l n c r : ℕ) → T (leb m 1024) → T (leb 1 l) → T (leb n 64) → T (leb (m * n) 4096) → (within 3 m c && within l n r) ≡ true
+    → Sized c r
 sized-by m l n c r tm tl tn tp e =
     let p = and-both (within 3 m c) (within l n r) e in
     let x = within-is 3 m c (p .0) in
@@ -119,14 +122,26 @@ module _ (g : Grid) (i : ℕ) where
 
   grid-degree : freeEnd g i ≡ false → 2 * length (beside g i) ≤ 4 * weight g i
   unfolding weight
-  grid-degree e = omega (arith, count, in-row, at-most-one (ltb 0 (row g i)) (i - g .columns), at-most-one (ltb (row g i + 1) (g .rows)) (i + g .columns), ap (λ (t : Bool). cond {A = ℕ} t 1 2) e)
+  grid-degree e = omega (
+    arith,
+    count,
+    in-row,
+    at-most-one (ltb 0 (row g i)) (i - g .columns),
+    at-most-one (ltb (row g i + 1) (g .rows)) (i + g .columns),
+    ap (λ (t : Bool). cond {A = ℕ} t 1 2) e,
+  )
 
   module _ (line : g .rows ≡ 1) (p : i < points g) where
     short : i < g .columns
     short = subst (λ (n : ℕ). i < n) (ap (λ (n : ℕ). g .columns * n) line ∙ N.mul-one (g .columns)) p
 
     along : length (beside g i) ≡ length left + length right
-    along = omega (arith, count, none 0 (row g i) (i - g .columns) (omega (arith, N.div-eq-of-lt short)), none (row g i + 1) (g .rows) (i + g .columns) (omega (arith, N.div-eq-of-lt short)))
+    along = omega (
+      arith,
+      count,
+      none 0 (row g i) (i - g .columns) (omega (arith, N.div-eq-of-lt short)),
+      none (row g i + 1) (g .rows) (i + g .columns) (omega (arith, N.div-eq-of-lt short)),
+    )
 
     first-one : column g i ≡ 0 → length (beside g i) ≤ 1
     first-one e = omega (arith, along, none 0 (column g i) (i - 1) (omega arith), at-most-one (ltb (column g i + 1) (g .columns)) (i + 1))
@@ -160,7 +175,8 @@ module _ (g : Grid) (i : ℕ) where
         go true e = omega (arith, free-one (kind g) e)
         go false e = omega (arith, along, in-row)
 
-  pub few : i < points g → (K : Kind) → kind g ≡ K → sizeIn K (g .columns) (g .rows) ≡ true → 2 * length (beside g i) ≤ degree K * weight g i
+  pub few : i < points g → (K : Kind) → kind g ≡ K → sizeIn K (g .columns) (g .rows) ≡ true → 2 * length (beside g i) ≤ degree K
+      * weight g i
   unfolding sizeIn freeIn
   few p unknown k e = absurd (true≢false (sym e))
   few p fixedString k e = line-degree (one-row (g .columns) (g .rows) e) p

@@ -26,7 +26,8 @@ getD-tabulate (suc n) f zero d h = refl
 getD-tabulate (suc n) f (suc i) d h = getD-tabulate n (λ i. f (suc i)) i d (le-of-suc-le-suc h)
 
 -- a list of n entries, each of which is f's
-pub is-tabulate : {A : Type 0} (n : ℕ) (f : ℕ → A) (d : A) (xs : List A) → length xs ≡ n → ((i : ℕ) → i < n → getD xs i d ≡ f i) → xs ≡ tabulate n f
+pub is-tabulate : {A : Type 0} (n : ℕ) (f : ℕ → A) (d : A) (xs : List A) → length xs ≡ n → ((i : ℕ) → i < n → getD xs i d ≡ f i) → xs
+    ≡ tabulate n f
 is-tabulate n f d xs l h =
     ext-getD d xs (tabulate n f) (l ∙ sym (length-tabulate n f))
     (λ i p. h i (omega (arith, l)) ∙ sym (getD-tabulate n f i d (omega (arith, l))))

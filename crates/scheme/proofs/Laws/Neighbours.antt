@@ -9,7 +9,8 @@ use borrow.Author.Tests.{lt-ltb, le-ltb, ne-eqb}
 use lib.Dec.{ltb}
 use Rattle.scheme.specs.declared.Grid.{Grid}
 use Rattle.scheme.specs.Lists.{only}
-use Rattle.scheme.specs.Instruments.{Kind, unknown, fixedString, halfFreeString, freeString, bar, membrane, roundMembrane, kind, points, column, row, freeIn, freeEnd}
+use Rattle.scheme.specs.Instruments.{Kind, unknown, fixedString, halfFreeString, freeString, bar, membrane, roundMembrane, kind}
+use Rattle.scheme.specs.Instruments.{points, column, row, freeIn, freeEnd}
 use Rattle.scheme.specs.Step.{beside, neighbours}
 use Rattle.scheme.proofs.Laws.Bools.{neither-or}
 
@@ -35,7 +36,8 @@ inner-held roundMembrane c a h k = refl
 module _ (g : Grid) (i : ℕ) where
   -- by the four tests
   four : {p q r s : List ℕ} → only (ltb 0 (column g i)) (i - 1) ≡ p → only (ltb (column g i + 1) (g .columns)) (i + 1) ≡ q
-      → only (ltb 0 (row g i)) (i - g .columns) ≡ r → only (ltb (row g i + 1) (g .rows)) (i + g .columns) ≡ s → beside g i ≡ p ++ (q ++ (r ++ s))
+      → only (ltb 0 (row g i)) (i - g .columns) ≡ r → only (ltb (row g i + 1) (g .rows)) (i + g .columns) ≡ s → beside g i
+      ≡ p ++ (q ++ (r ++ s))
   unfolding beside
   four a b c d = ap₂ _++_ a (ap₂ _++_ b (ap₂ _++_ c d))
 
@@ -57,23 +59,28 @@ module _ (g : Grid) (i : ℕ) where
 
     pub line-inner : 0 < i → i + 1 < g .columns → neighbours g i ≡ (i - 1) ∷ (i + 1) ∷ []
     line-inner h k =
-        one-each (subst (λ (a : ℕ). freeIn (kind g) (g .columns) a ≡ false) (sym (N.mod-eq-of-lt p)) (inner-held (kind g) (g .columns) i h k)) ∙
-        four (only-lt 0 (column g i) (i - 1) (omega (arith, N.mod-eq-of-lt p))) (only-lt (column g i + 1) (g .columns) (i + 1) (omega (arith, N.mod-eq-of-lt p))) above below
+        one-each (subst (λ (a : ℕ). freeIn (kind g) (g .columns) a ≡ false) (sym (N.mod-eq-of-lt p))
+        (inner-held (kind g) (g .columns) i h k)) ∙
+        four (only-lt 0 (column g i) (i - 1) (omega (arith, N.mod-eq-of-lt p)))
+        (only-lt (column g i + 1) (g .columns) (i + 1) (omega (arith, N.mod-eq-of-lt p))) above below
 
     -- a free end has its one neighbour twice
     pub line-first : i ≡ 0 → 1 < g .columns → freeEnd g i ≡ true → neighbours g i ≡ (i + 1) ∷ (i + 1) ∷ []
     line-first h k e = twice e ∙ ap (λ (js : List ℕ). js ++ js)
-        (four (only-ge 0 (column g i) (i - 1) (omega (arith, N.mod-eq-of-lt p))) (only-lt (column g i + 1) (g .columns) (i + 1) (omega (arith, N.mod-eq-of-lt p))) above below)
+        (four (only-ge 0 (column g i) (i - 1) (omega (arith, N.mod-eq-of-lt p)))
+        (only-lt (column g i + 1) (g .columns) (i + 1) (omega (arith, N.mod-eq-of-lt p))) above below)
 
     pub line-last : i + 1 ≡ g .columns → 0 < i → freeEnd g i ≡ true → neighbours g i ≡ (i - 1) ∷ (i - 1) ∷ []
     line-last h k e = twice e ∙ ap (λ (js : List ℕ). js ++ js)
-        (four (only-lt 0 (column g i) (i - 1) (omega (arith, N.mod-eq-of-lt p))) (only-ge (column g i + 1) (g .columns) (i + 1) (omega (arith, N.mod-eq-of-lt p))) above below)
+        (four (only-lt 0 (column g i) (i - 1) (omega (arith, N.mod-eq-of-lt p)))
+        (only-ge (column g i + 1) (g .columns) (i + 1) (omega (arith, N.mod-eq-of-lt p))) above below)
 
   -- ---- an inner point of a grid
   pub grid-inner : freeEnd g i ≡ false → 0 < column g i → column g i + 1 < g .columns → 0 < row g i → row g i + 1 < g .rows
       → neighbours g i ≡ (i - 1) ∷ (i + 1) ∷ (i - g .columns) ∷ (i + g .columns) ∷ []
   grid-inner e a b c d = one-each e ∙
-      four (only-lt 0 (column g i) (i - 1) a) (only-lt (column g i + 1) (g .columns) (i + 1) b) (only-lt 0 (row g i) (i - g .columns) c) (only-lt (row g i + 1) (g .rows) (i + g .columns) d)
+      four (only-lt 0 (column g i) (i - 1) a) (only-lt (column g i + 1) (g .columns) (i + 1) b) (only-lt 0 (row g i) (i - g .columns) c)
+      (only-lt (row g i + 1) (g .rows) (i + g .columns) d)
 
   -- a row further up and a row further down are points of the grid
   pub grid-above : 0 < row g i → g .columns ≤ i

@@ -1,4 +1,5 @@
--- How large the numbers of a step grow: under an instrument that passes, with points and force within the ceiling, every partial sum of the numerator stays within 2⁶².
+-- How large the numbers of a step grow: under an instrument that passes,
+-- with points and force within the ceiling, every partial sum of the numerator stays within 2⁶².
 use mathlib.Core.Path.{_≡_, refl, ap}
 use mathlib.Core.Bool.{Bool, true, false, cond, _||_}
 use mathlib.Core.List.{_++_}
@@ -46,7 +47,13 @@ module _ (g : Grid) (size : sizeIn (kind g) (g .columns) (g .rows) ≡ true) whe
       let n : ℕ = length (neighbours g k) in
       let each : n * B ≤ K * B = N.mul-le-mul-right B (neighbour-count k p) in
       let own : n * natAbs (a k) ≤ n * B = N.mul-le-mul-left n (h k) in
-      omega (arith, size-minus (sumOver (neighbours g k) a) (pos n *ℤ a k), size-over (neighbours g k) a B h, size-mul (pos n) (a k), N.mul-assoc 2 K B)
+      omega (
+        arith,
+        size-minus (sumOver (neighbours g k) a) (pos n *ℤ a k),
+        size-over (neighbours g k) a B h,
+        size-mul (pos n) (a k),
+        N.mul-assoc 2 K B,
+      )
 
   pub inner-size : (B : ℕ) (a : Level) → AtMost B a → AtMost (2 * K * B) (innerLaplacian g a)
   unfolding innerLaplacian
@@ -58,7 +65,11 @@ module _ (g : Grid) (size : sizeIn (kind g) (g .columns) (g .rows) ≡ true) whe
 
       go : (t : Bool) → ltb k (points g) ≡ t → natAbs (cond (moving g k) (laplacian g a k) (pos 0)) ≤ 2 * K * B
       go true e = bounded (moving g k) (laplacian-size B a h k (ltb-true k (points g) e))
-      go false e = omega (arith, ap (λ (t : Bool). natAbs (cond t (laplacian g a k) (pos 0))) (outside-still g k (ltb-false k (points g) e)))
+      go false e = omega (
+        arith,
+        ap (λ (t : Bool). natAbs (cond t (laplacian g a k) (pos 0)))
+            (outside-still g k (ltb-false k (points g) e)),
+      )
 
   pub biharmonic-size : (B : ℕ) (a : Level) → AtMost B a → (k : ℕ) → k < points g → natAbs (biharmonic g a k) ≤ 2 * K * (2 * K * B)
   biharmonic-size B a h k p = laplacian-size (2 * K * B) (innerLaplacian g a) (inner-size B a h) k p
@@ -76,12 +87,17 @@ module _ (i : Instrument) (ok : InstrumentPasses i) where
   abbrev c : Settings
   c = i .settings
 
-  pub numerator-terms : (newer older force : Level) → AtMost ceiling newer → AtMost ceiling older → AtMost ceiling force → (k : ℕ) → k < points (i .grid)
+  pub numerator-terms : (newer older force : Level) → AtMost ceiling newer → AtMost ceiling older → AtMost ceiling force → (k : ℕ)
+      → k < points (i .grid)
       → Terms c (newer k) (laplacian (i .grid) newer k) (biharmonic (i .grid) newer k) (older k) (force k)
   numerator-terms newer older force hn ho hf k p = record {
     own = omega (arith, size-mul (pos (2 * D)) (newer k), hn k);
     neighbouring = omega (arith, size-mul (pos (c .q)) l, size-mul (pos (c .m)) b, ql, mb, joint, e);
-    older = omega (arith, size-mul (pos D -ℤ pos (c .s)) (older k), N.mul-le-mul (size-less D (c .s) (coefficients-small c (ok .coefficients) .2)) (ho k));
+    older = omega (
+      arith,
+      size-mul (pos D -ℤ pos (c .s)) (older k),
+      N.mul-le-mul (size-less D (c .s) (coefficients-small c (ok .coefficients) .2)) (ho k),
+    );
     force = omega (arith, size-mul (pos D) (force k), hf k);
   }
     where
@@ -110,7 +126,8 @@ module _ (i : Instrument) (ok : InstrumentPasses i) where
       joint = N.mul-le-mul-right C (stable-means (kind g) (c .q) (c .m) (ok .stable))
 
       e : c .q * (2 * G * C) + c .m * (2 * G * (2 * G * C)) ≡ 2 * ((G * c .q + 2 * (G * G) * c .m) * C)
-      e = pos-inj (ring 4 (λ q m G C. q ⊗ (# 2 ⊗ G ⊗ C) ⊕ m ⊗ (# 2 ⊗ G ⊗ (# 2 ⊗ G ⊗ C)) ≈ # 2 ⊗ ((G ⊗ q ⊕ # 2 ⊗ (G ⊗ G) ⊗ m) ⊗ C)) refl (pos (c .q)) (pos (c .m)) (pos G) (pos C))
+      e = pos-inj (ring 4 (λ q m G C. q ⊗ (# 2 ⊗ G ⊗ C) ⊕ m ⊗ (# 2 ⊗ G ⊗ (# 2 ⊗ G ⊗ C)) ≈ # 2 ⊗ ((G ⊗ q ⊕ # 2 ⊗ (G ⊗ G) ⊗ m) ⊗ C)) refl
+          (pos (c .q)) (pos (c .m)) (pos G) (pos C))
 
 pub partial-sums : (c : Settings) (u l b p f : ℤ) → Terms c u l b p f → PartialSums c u l b p f
 partial-sums c u l b p f t =

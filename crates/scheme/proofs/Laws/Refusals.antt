@@ -14,11 +14,14 @@ use Rattle.scheme.specs.declared.Grid.{Grid}
 use Rattle.scheme.specs.declared.Instrument.{Instrument}
 use Rattle.scheme.specs.declared.Hit.{Hit}
 use Rattle.scheme.specs.declared.Refusal.{Refusal}
-use Rattle.scheme.specs.declared.Refusal.the-variants.{Nothing, UnknownKind, WrongSize, SheetNumber, Coefficient, Unstable, WrongLength, NotMoving, TooStrong, PickUp, HalfWidth, PointBeyond, FixedNotZero, NextBeyond}
+use Rattle.scheme.specs.declared.Refusal.the-variants.{Nothing, UnknownKind, WrongSize, SheetNumber, Coefficient, Unstable}
+use Rattle.scheme.specs.declared.Refusal.the-variants.{WrongLength, NotMoving, TooStrong, PickUp, HalfWidth, PointBeyond}
+use Rattle.scheme.specs.declared.Refusal.the-variants.{FixedNotZero, NextBeyond}
 use Rattle.scheme.specs.Lists.{point}
 use Rattle.scheme.specs.Instruments.{ceiling, points, beyond, fixed, moving}
 use Rattle.scheme.specs.Step.{someBeyond}
-use Rattle.scheme.specs.Refusals.{number, wrongLength, fixedNotZero, Check, _⇒_, lowest, instrumentChecks, blockChecks, pluckChecks, readingChecks, instrumentRefusal, blockRefusal, pluckRefusal, readingRefusal, ChecksInOrder}
+use Rattle.scheme.specs.Refusals.{number, wrongLength, fixedNotZero, Check, _⇒_, lowest, instrumentChecks, blockChecks, pluckChecks}
+use Rattle.scheme.specs.Refusals.{readingChecks, instrumentRefusal, blockRefusal, pluckRefusal, readingRefusal, ChecksInOrder}
 use Rattle.scheme.specs.Calls.{accepted}
 use Rattle.scheme.specs.Claims.{LevelPasses}
 use Rattle.scheme.specs.Passing.{InstrumentPasses, BlockPasses, PluckPasses, ReadingPasses}
@@ -98,7 +101,8 @@ unfolding someBeyond
 passes-low g xs v k = go (ltb k (length xs)) refl
   where
     go : (t : Bool) → ltb k (length xs) ≡ t → natAbs (point xs k) ≤ ceiling
-    go true e = ltb-false ceiling (natAbs (point xs k)) (none-at (length xs) (λ k. beyond (point xs k)) (v .low) k (ltb-true k (length xs) e))
+    go true e = ltb-false ceiling (natAbs (point xs k))
+        (none-at (length xs) (λ k. beyond (point xs k)) (v .low) k (ltb-true k (length xs) e))
     go false e = subst (λ (z : ℤ). natAbs z ≤ ceiling) (sym (List·getD-eq-default xs (pos 0) (ltb-false k (length xs) e))) (omega arith)
 
 pub instrument-passes : (i : Instrument) → instrumentRefusal i ≡ Nothing → InstrumentPasses i
@@ -106,7 +110,8 @@ unfolding instrumentRefusal
 instrument-passes i e = let n = none-applies (instrumentChecks i) tt e in
     record { size = not-false _ (n .1 .0); coefficients = n .1 .1 .0; stable = not-false _ (n .1 .1 .1 .0) }
 
-pub block-passes : (i : Instrument) (older newer : List ℤ) (wrong : Bool) (pick : ℕ) (h : Hit) → blockRefusal i older newer wrong pick h ≡ Nothing
+pub block-passes : (i : Instrument) (older newer : List ℤ) (wrong : Bool) (pick : ℕ) (h : Hit) → blockRefusal i older newer wrong pick h
+    ≡ Nothing
     → BlockPasses i older newer wrong pick h
 unfolding blockRefusal instrumentRefusal
 block-passes i older newer wrong pick h e =

@@ -55,7 +55,8 @@ round-up (negsuc m) k h e = absurd (true≢false e)
 
 down : (m h k : ℕ) → k / 2 ≡ h → 0 < k → quotZ (negsuc m -ℤ pos h) (pos k) ≡ roundAway (negsuc m) k
 unfolding roundAway
-down m zero k e p = let z : suc m ≡ suc m + k / 2 = omega arith in ap (λ (n : ℤ). quotZ n (pos k)) (+ℤ-idr (negsuc m)) ∙ ap (λ (n : ℕ). negℤ (pos n)) (ap (λ (n : ℕ). n / k) z ∙ nearest-half (suc m) k p)
+down m zero k e p = let z : suc m ≡ suc m + k / 2 = omega arith in
+    ap (λ (n : ℤ). quotZ n (pos k)) (+ℤ-idr (negsuc m)) ∙ ap (λ (n : ℕ). negℤ (pos n)) (ap (λ (n : ℕ). n / k) z ∙ nearest-half (suc m) k p)
 down m (suc h) k e p = ap (λ (n : ℕ). negℤ (pos n)) (ap (λ (n : ℕ). n / k) (omega arith) ∙ nearest-half (suc m) k p)
 
 pub round-down : (n : ℤ) (k : ℕ) → 0 < k → ltZ n (pos 0) ≡ true → quotZ (n -ℤ pos (k / 2)) (pos k) ≡ roundAway n k

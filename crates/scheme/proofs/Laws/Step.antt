@@ -17,7 +17,8 @@ use Rattle.scheme.specs.declared.Instrument.{Instrument}
 use Rattle.scheme.specs.declared.Hit.{Hit}
 use Rattle.scheme.specs.Lists.{tabulate, point}
 use Rattle.scheme.specs.Instruments.{D, ceiling, beyond, points, fixed, moving}
-use Rattle.scheme.specs.Step.{neighbours, laplacian, innerLaplacian, biharmonic, numeratorOf, numerator, roundAway, forceOf, divisor, nextAt, nextLevel, someBeyond}
+use Rattle.scheme.specs.Step.{neighbours, laplacian, innerLaplacian, biharmonic, numeratorOf, numerator, roundAway, forceOf, divisor}
+use Rattle.scheme.specs.Step.{nextAt, nextLevel, someBeyond}
 use Rattle.scheme.proofs.Laws.Bools.{and-both}
 use Rattle.scheme.proofs.Laws.Lists.{length-tabulate, getD-tabulate, point-tabulate, none-at, none-below}
 
@@ -63,7 +64,8 @@ module _ (g : Grid) (k : ℕ) where
 
 pub biharmonic-linear : (g : Grid) (k : ℕ) → Linear (λ a. biharmonic g a k)
 unfolding laplacian
-biharmonic-linear g k = linear-minus (linear-over (neighbours g k) (inner-linear g)) (linear-times (pos (length (neighbours g k))) (inner-linear g k))
+biharmonic-linear g k = linear-minus (linear-over (neighbours g k) (inner-linear g))
+    (linear-times (pos (length (neighbours g k))) (inner-linear g k))
 
 -- the numerator is additive and homogeneous in newer, older and force together
 module _ (i : Instrument) (k : ℕ) where
@@ -79,7 +81,8 @@ module _ (i : Instrument) (k : ℕ) where
   pub numerator-add : (u p f u′ p′ f′ : Level) → numerator i (u ⊞ u′) (p ⊞ p′) (f ⊞ f′) k ≡ numerator i u p f k +ℤ numerator i u′ p′ f′ k
   unfolding numerator
   numerator-add u p f u′ p′ f′ =
-      ap₂ (λ x y. numeratorOf c (u k +ℤ u′ k) x y (p k +ℤ p′ k) (f k +ℤ f′ k)) (laplacian-linear (i .grid) k .add u u′) (biharmonic-linear (i .grid) k .add u u′) ∙
+      ap₂ (λ x y. numeratorOf c (u k +ℤ u′ k) x y (p k +ℤ p′ k) (f k +ℤ f′ k)) (laplacian-linear (i .grid) k .add u u′)
+      (biharmonic-linear (i .grid) k .add u u′) ∙
       ring 13 (λ q m s u u′ l l′ b b′ p p′ f f′. # (2 * D) ⊗ (u ⊕ u′) ⊕ q ⊗ (l ⊕ l′) ⊖ m ⊗ (b ⊕ b′) ⊖ (# D ⊖ s) ⊗ (p ⊕ p′) ⊕ # D ⊗ (f ⊕ f′)
       ≈ (# (2 * D) ⊗ u ⊕ q ⊗ l ⊖ m ⊗ b ⊖ (# D ⊖ s) ⊗ p ⊕ # D ⊗ f) ⊕ (# (2 * D) ⊗ u′ ⊕ q ⊗ l′ ⊖ m ⊗ b′ ⊖ (# D ⊖ s) ⊗ p′ ⊕ # D ⊗ f′)) refl
       (pos (c .q)) (pos (c .m)) (pos (c .s)) (u k) (u′ k) (l u) (l u′) (b u) (b u′) (p k) (p′ k) (f k) (f′ k)
@@ -87,8 +90,10 @@ module _ (i : Instrument) (k : ℕ) where
   pub numerator-scale : (m : ℤ) (u p f : Level) → numerator i (m ⊡ u) (m ⊡ p) (m ⊡ f) k ≡ m *ℤ numerator i u p f k
   unfolding numerator
   numerator-scale m u p f =
-      ap₂ (λ x y. numeratorOf c (m *ℤ u k) x y (m *ℤ p k) (m *ℤ f k)) (laplacian-linear (i .grid) k .scale m u) (biharmonic-linear (i .grid) k .scale m u) ∙
-      ring 9 (λ n q m s u l b p f. # (2 * D) ⊗ (n ⊗ u) ⊕ q ⊗ (n ⊗ l) ⊖ m ⊗ (n ⊗ b) ⊖ (# D ⊖ s) ⊗ (n ⊗ p) ⊕ # D ⊗ (n ⊗ f) ≈ n ⊗ (# (2 * D) ⊗ u ⊕ q ⊗ l ⊖ m ⊗ b ⊖ (# D ⊖ s) ⊗ p ⊕ # D ⊗ f)) refl
+      ap₂ (λ x y. numeratorOf c (m *ℤ u k) x y (m *ℤ p k) (m *ℤ f k)) (laplacian-linear (i .grid) k .scale m u)
+      (biharmonic-linear (i .grid) k .scale m u) ∙
+      ring 9 (λ n q m s u l b p f. # (2 * D) ⊗ (n ⊗ u) ⊕ q ⊗ (n ⊗ l) ⊖ m ⊗ (n ⊗ b) ⊖ (# D ⊖ s) ⊗ (n ⊗ p) ⊕ # D ⊗ (n ⊗ f)
+      ≈ n ⊗ (# (2 * D) ⊗ u ⊕ q ⊗ l ⊖ m ⊗ b ⊖ (# D ⊖ s) ⊗ p ⊕ # D ⊗ f)) refl
       m (pos (c .q)) (pos (c .m)) (pos (c .s)) (u k) (l u) (b u) (p k) (f k)
 
 -- ---- the next level
@@ -98,7 +103,8 @@ module _ (i : Instrument) (h : Hit) (older newer : List ℤ) where
   unfolding nextLevel
   length-next = length-tabulate (points (i .grid)) (nextAt i h older newer)
 
-  pub next-moving : (k : ℕ) → moving (i .grid) k ≡ true → nextAt i h older newer k ≡ roundAway (numerator i (point newer) (point older) (forceOf h) k) (divisor (i .settings))
+  pub next-moving : (k : ℕ) → moving (i .grid) k ≡ true → nextAt i h older newer k
+      ≡ roundAway (numerator i (point newer) (point older) (forceOf h) k) (divisor (i .settings))
   unfolding nextAt
   next-moving k e = simp e
 

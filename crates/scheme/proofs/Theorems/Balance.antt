@@ -1,4 +1,5 @@
--- The balance of the neighbour rule, for line and grid at once: what goes from each point to its neighbours, weighted, is twice what goes both ways over the pairs.
+-- The balance of the neighbour rule, for line and grid at once:
+-- what goes from each point to its neighbours, weighted, is twice what goes both ways over the pairs.
 -- Nothing here depends on the kind: a free end has half the weight and its one neighbour twice.
 use mathlib.Core.Path.{_≡_, refl, sym, ap, ap₂, _∙_, subst}
 use mathlib.Core.Bool.{Bool, true, false, cond}
@@ -20,7 +21,8 @@ use Rattle.scheme.specs.Energy.{weight, later, pairSum}
 use Rattle.scheme.proofs.Laws.Step.{laplacian-differences}
 
 -- two sums, one with its first k terms 0 and the other with its last k, and the rest the same
-shift : (n k : ℕ) (F G : ℕ → ℤ) → ((i : ℕ) → i < k → F i ≡ pos 0) → ((i : ℕ) → i < n → F (k + i) ≡ G i) → ((i : ℕ) → i < k → G (n + i) ≡ pos 0) → sum (k + n) F ≡ sum (n + k) G
+shift : (n k : ℕ) (F G : ℕ → ℤ) → ((i : ℕ) → i < k → F i ≡ pos 0) → ((i : ℕ) → i < n → F (k + i) ≡ G i)
+    → ((i : ℕ) → i < k → G (n + i) ≡ pos 0) → sum (k + n) F ≡ sum (n + k) G
 shift n k F G a b d =
     sum-split k n F ∙ ap₂ _+ℤ_ (sum-vanish k a) (sum-cong n b) ∙ +ℤ-idl (sum n G) ∙
     sym (sum-split n k G ∙ ap (λ z. sum n G +ℤ z) (sum-vanish k d) ∙ +ℤ-idr (sum n G))
@@ -135,16 +137,19 @@ module _ (g : Grid) (hc : 0 < g .columns) (hr : 0 < g .rows) (φ : ℕ → ℕ �
   unfolding beside
   beside-is i = simp (over-append, only-sum)
 
-  later-is : (i : ℕ) → sumOver (later g i) (λ j. φ i j +ℤ φ j i) ≡ (toRight i +ℤ fromRight C R hc hr φ i) +ℤ (toBelow i +ℤ fromBelow C R hc hr φ i)
+  later-is : (i : ℕ) → sumOver (later g i) (λ j. φ i j +ℤ φ j i) ≡ (toRight i +ℤ fromRight C R hc hr φ i)
+      +ℤ (toBelow i +ℤ fromBelow C R hc hr φ i)
   unfolding later
   later-is i = simp (over-append, only-sum, term-add)
 
   -- over all points: what stands beside them, and the pairs both ways
   pub beside-balance : sum (points g) (λ i. sumOver (beside g i) (φ i)) ≡ sum (points g) (λ i. sumOver (later g i) (λ j. φ i j +ℤ φ j i))
   beside-balance =
-      sum-ext n beside-is ∙ sum-add n _ _ ∙ ap (λ z. sum n (toLeft C R hc hr φ) +ℤ z) (sum-add n _ _ ∙ ap (λ z. sum n toRight +ℤ z) (sum-add n _ _)) ∙
+      sum-ext n beside-is ∙ sum-add n _ _ ∙ ap (λ z. sum n (toLeft C R hc hr φ) +ℤ z)
+      (sum-add n _ _ ∙ ap (λ z. sum n toRight +ℤ z) (sum-add n _ _)) ∙
       ap₂ (λ x y. x +ℤ (sum n toRight +ℤ (y +ℤ sum n toBelow))) (across C R hc hr φ) (down C R hc hr φ) ∙
-      ring 4 (λ a b c d. a ⊕ (b ⊕ (c ⊕ d)) ≈ (b ⊕ a) ⊕ (d ⊕ c)) refl (sum n (fromRight C R hc hr φ)) (sum n toRight) (sum n (fromBelow C R hc hr φ)) (sum n toBelow) ∙
+      ring 4 (λ a b c d. a ⊕ (b ⊕ (c ⊕ d)) ≈ (b ⊕ a) ⊕ (d ⊕ c)) refl (sum n (fromRight C R hc hr φ)) (sum n toRight)
+      (sum n (fromBelow C R hc hr φ)) (sum n toBelow) ∙
       sym (sum-ext n later-is ∙ sum-add n _ _ ∙ ap₂ _+ℤ_ (sum-add n _ _) (sum-add n _ _))
     where
       n : ℕ
@@ -155,11 +160,14 @@ module _ (g : Grid) (hc : 0 < g .columns) (hr : 0 < g .rows) (φ : ℕ → ℕ �
   unfolding weight neighbours
   weighted i = go (freeEnd g i)
     where
-      go : (b : Bool) → pos (cond b 1 2) *ℤ sumOver (cond b (beside g i ++ beside g i) (beside g i)) (φ i) ≡ pos 2 *ℤ sumOver (beside g i) (φ i)
-      go true = ap (λ z. pos 1 *ℤ z) (over-append (beside g i) (beside g i) (φ i)) ∙ ring 1 (λ a. # 1 ⊗ (a ⊕ a) ≈ # 2 ⊗ a) refl (sumOver (beside g i) (φ i))
+      go : (b : Bool) → pos (cond b 1 2) *ℤ sumOver (cond b (beside g i ++ beside g i) (beside g i)) (φ i) ≡ pos 2
+          *ℤ sumOver (beside g i) (φ i)
+      go true = ap (λ z. pos 1 *ℤ z) (over-append (beside g i) (beside g i) (φ i))
+          ∙ ring 1 (λ a. # 1 ⊗ (a ⊕ a) ≈ # 2 ⊗ a) refl (sumOver (beside g i) (φ i))
       go false = refl
 
-  pub balance : sum (points g) (λ i. pos (weight g i) *ℤ sumOver (neighbours g i) (φ i)) ≡ pos 2 *ℤ sum (points g) (λ i. sumOver (later g i) (λ j. φ i j +ℤ φ j i))
+  pub balance : sum (points g) (λ i. pos (weight g i) *ℤ sumOver (neighbours g i) (φ i)) ≡ pos 2
+      *ℤ sum (points g) (λ i. sumOver (later g i) (λ j. φ i j +ℤ φ j i))
   balance = sum-ext (points g) weighted ∙ sum-scale (points g) (pos 2) _ ∙ ap (λ z. pos 2 *ℤ z) beside-balance
 
 -- summation by parts: Σ w·L(a)·b = −2·(sum over pairs of difference in a × difference in b)
@@ -169,7 +177,8 @@ unfolding pairSum
 by-parts g hc hr a b =
     sum-ext (points g) (λ i. ap (λ z. pos (weight g i) *ℤ z) (turn i)) ∙
     balance g hc hr (λ i j. b i *ℤ (a j -ℤ a i)) ∙
-    ap (λ z. pos 2 *ℤ z) (sum-ext (points g) (λ i. over-ext (later g i) (λ j. swap (a i) (a j) (b i) (b j)) ∙ over-scale (later g i) (negℤ (pos 1)) _) ∙ sum-scale (points g) (negℤ (pos 1)) _) ∙
+    ap (λ z. pos 2 *ℤ z) (sum-ext (points g) (λ i. over-ext (later g i) (λ j. swap (a i) (a j) (b i) (b j))
+    ∙ over-scale (later g i) (negℤ (pos 1)) _) ∙ sum-scale (points g) (negℤ (pos 1)) _) ∙
     ring 1 (λ x. # 2 ⊗ (⊝ # 1 ⊗ x) ≈ ⊝ # 2 ⊗ x) refl (sum (points g) (λ i. sumOver (later g i) (λ j. (a j -ℤ a i) *ℤ (b j -ℤ b i))))
   where
     turn : (i : ℕ) → laplacian g a i *ℤ b i ≡ sumOver (neighbours g i) (λ j. b i *ℤ (a j -ℤ a i))

@@ -23,7 +23,8 @@ use Rattle.scheme.specs.Lists.{point, square}
 use Rattle.scheme.specs.Instruments.{D, points, moving, freeEnd}
 use Rattle.scheme.specs.Step.{numerator, roundAway, forceOf, divisor, nextAt, nextLevel}
 use Rattle.scheme.specs.Energy.{weight, squares}
-use Rattle.scheme.specs.Book.{LastStep, stepOf, Book, fresh, scale, unroundedAt, unroundedStep, unroundedSteps, sameInstrument, goesOn, bookBlock, State, Call, start, calls}
+use Rattle.scheme.specs.Book.{LastStep, stepOf, Book, fresh, scale, unroundedAt, unroundedStep, unroundedSteps, sameInstrument}
+use Rattle.scheme.specs.Book.{goesOn, bookBlock, State, Call, start, calls}
 use Rattle.scheme.specs.Claims.{WithinBound, Near, DistanceBound}
 use Rattle.scheme.proofs.Laws.Bools.{and-both}
 use Rattle.scheme.proofs.Laws.Rounding.{round-near}
@@ -61,7 +62,8 @@ module _ (i : Instrument) (h : Hit) (older newer : List ℤ) where
       square-is (negsuc n) = refl
 
       small : (z : ℤ) (n : ℕ) → 2 * natAbs z ≤ n → pos 4 *ℤ (z *ℤ z) ⩽ pos n *ℤ pos n
-      small z n p = ≡-≤ℤ (ap (λ x. pos 4 *ℤ x) (square-is z) ∙ ring 1 (λ a. # 4 ⊗ (a ⊗ a) ≈ (# 2 ⊗ a) ⊗ (# 2 ⊗ a)) refl (pos (natAbs z))) (pos≤ (N.mul-le-mul p p))
+      small z n p = ≡-≤ℤ (ap (λ x. pos 4 *ℤ x) (square-is z) ∙ ring 1 (λ a. # 4 ⊗ (a ⊗ a) ≈ (# 2 ⊗ a) ⊗ (# 2 ⊗ a)) refl (pos (natAbs z)))
+          (pos≤ (N.mul-le-mul p p))
 
       go : (t : Bool) → let z : ℤ = cond t (pos d *ℤ roundAway (num k) d -ℤ num k) (pos 0) in pos 4 *ℤ (z *ℤ z) ⩽ pos d *ℤ pos d
       go true = small (pos d *ℤ roundAway (num k) d -ℤ num k) d (round-near (num k) d (omega arith))
@@ -93,7 +95,8 @@ module _ (i : Instrument) (h : Hit) (older newer : List ℤ) where
       w k = pos (weight (i .grid) k)
 
       each : (k : ℕ) → k < n → pos 4 *ℤ (w k *ℤ (off k *ℤ off k)) ⩽ (pos d *ℤ pos d) *ℤ w k
-      each k l = lin 3 (λ w r e. w *⊴ # 4 ⊗ r ⊴ e ⇒ ⊩ # 4 ⊗ (w ⊗ r) ⊴ e ⊗ w) refl (w k) (off k *ℤ off k) (pos d *ℤ pos d) (0≤pos (weight (i .grid) k)) (off-half k)
+      each k l = lin 3 (λ w r e. w *⊴ # 4 ⊗ r ⊴ e ⇒ ⊩ # 4 ⊗ (w ⊗ r) ⊴ e ⊗ w) refl (w k) (off k *ℤ off k) (pos d *ℤ pos d)
+          (0≤pos (weight (i .grid) k)) (off-half k)
 
 -- ---- the levels less the book's
 
@@ -105,7 +108,8 @@ scale-suc : (c : Settings) (n : ℕ) → scale c (suc n) ≡ scale c n *ℤ pos 
 scale-suc c n = ap pos (N.pow-suc (divisor c) n)
 
 gap-same : (c : Settings) (xs : List ℤ) → gap c 0 xs xs ≡ zeros
-gap-same c xs = fun-ext (λ k. ap (λ s. s *ℤ point xs k +ℤ negsuc 0 *ℤ point xs k) (ap pos (N.pow-zero (divisor c))) ∙ ring 1 (λ x. # 1 ⊗ x ⊕ con (negsuc 0) ⊗ x ≈ # 0) refl (point xs k))
+gap-same c xs = fun-ext (λ k. ap (λ s. s *ℤ point xs k +ℤ negsuc 0 *ℤ point xs k) (ap pos (N.pow-zero (divisor c)))
+    ∙ ring 1 (λ x. # 1 ⊗ x ⊕ con (negsuc 0) ⊗ x ≈ # 0) refl (point xs k))
 
 module _ (i : Instrument) (h : Hit) (older newer : List ℤ) (b : Book) where
   abbrev c : Settings
@@ -118,7 +122,8 @@ module _ (i : Instrument) (h : Hit) (older newer : List ℤ) (b : Book) where
   newer-gap : gap c (suc (b .n)) (nextLevel i h older newer) (unroundedStep i h b .newer)
       ≡ freeStep i (gap c (b .n) newer (b .newer)) (gap c (b .n) older (b .older)) ⊞ (p ⊡ off i h older newer)
   unfolding nextAt unroundedAt freeStep off
-  newer-gap = fun-ext (λ k. ap₂ (λ x y. scale c (suc (b .n)) *ℤ x +ℤ negsuc 0 *ℤ y) (next-point i h older newer k) (unrounded-newer i h b k) ∙ go k (moving (i .grid) k))
+  newer-gap = fun-ext (λ k. ap₂ (λ x y. scale c (suc (b .n)) *ℤ x +ℤ negsuc 0 *ℤ y) (next-point i h older newer k) (unrounded-newer i h b k)
+      ∙ go k (moving (i .grid) k))
     where
       u : Level
       u = point newer
@@ -130,26 +135,32 @@ module _ (i : Instrument) (h : Hit) (older newer : List ℤ) (b : Book) where
       B : ℕ → ℤ
       B k = numerator i (point (b .newer)) (point (b .older)) (p ⊡ forceOf h) k
 
-      linear : (k : ℕ) → numerator i (gap c (b .n) newer (b .newer)) (gap c (b .n) older (b .older)) zeros k ≡ p *ℤ num i h older newer k +ℤ negsuc 0 *ℤ B k
+      linear : (k : ℕ) → numerator i (gap c (b .n) newer (b .newer)) (gap c (b .n) older (b .older)) zeros k ≡ p *ℤ num i h older newer k
+          +ℤ negsuc 0 *ℤ B k
       linear k =
           ap (λ (f : Level). numerator i (gap c (b .n) newer (b .newer)) (gap c (b .n) older (b .older)) f k)
           (fun-ext (λ j. ring 2 (λ p f. # 0 ≈ p ⊗ f ⊕ con (negsuc 0) ⊗ (p ⊗ f)) refl p (forceOf h j))) ∙
-          numerator-add i k (p ⊡ u) (p ⊡ o) (p ⊡ forceOf h) (negsuc 0 ⊡ point (b .newer)) (negsuc 0 ⊡ point (b .older)) (negsuc 0 ⊡ (p ⊡ forceOf h)) ∙
-          ap₂ _+ℤ_ (numerator-scale i k p u o (forceOf h)) (numerator-scale i k (negsuc 0) (point (b .newer)) (point (b .older)) (p ⊡ forceOf h))
+          numerator-add i k (p ⊡ u) (p ⊡ o) (p ⊡ forceOf h) (negsuc 0 ⊡ point (b .newer)) (negsuc 0 ⊡ point (b .older))
+          (negsuc 0 ⊡ (p ⊡ forceOf h)) ∙
+          ap₂ _+ℤ_ (numerator-scale i k p u o (forceOf h))
+          (numerator-scale i k (negsuc 0) (point (b .newer)) (point (b .older)) (p ⊡ forceOf h))
 
       go : (k : ℕ) (t : Bool) → let r : ℤ = roundAway (num i h older newer k) (divisor c) in
           scale c (suc (b .n)) *ℤ cond t r (pos 0) +ℤ negsuc 0 *ℤ cond t (B k) (pos 0)
-          ≡ cond t (numerator i (gap c (b .n) newer (b .newer)) (gap c (b .n) older (b .older)) zeros k) (pos 0) +ℤ p *ℤ cond t (pos (divisor c) *ℤ r -ℤ num i h older newer k) (pos 0)
+          ≡ cond t (numerator i (gap c (b .n) newer (b .newer)) (gap c (b .n) older (b .older)) zeros k) (pos 0) +ℤ p
+          *ℤ cond t (pos (divisor c) *ℤ r -ℤ num i h older newer k) (pos 0)
       go k true =
           let r : ℤ = roundAway (num i h older newer k) (divisor c) in
           ap (λ z. z *ℤ r +ℤ negsuc 0 *ℤ B k) (scale-suc c (b .n)) ∙
-          ring 5 (λ p d r n B. (p ⊗ d) ⊗ r ⊕ con (negsuc 0) ⊗ B ≈ (p ⊗ n ⊕ con (negsuc 0) ⊗ B) ⊕ p ⊗ (d ⊗ r ⊖ n)) refl p (pos (divisor c)) r (num i h older newer k) (B k) ∙
+          ring 5 (λ p d r n B. (p ⊗ d) ⊗ r ⊕ con (negsuc 0) ⊗ B ≈ (p ⊗ n ⊕ con (negsuc 0) ⊗ B) ⊕ p ⊗ (d ⊗ r ⊖ n)) refl p (pos (divisor c)) r
+          (num i h older newer k) (B k) ∙
           ap (λ z. z +ℤ p *ℤ (pos (divisor c) *ℤ r -ℤ num i h older newer k)) (sym (linear k))
       go k false = ring 2 (λ p q. q ⊗ # 0 ⊕ con (negsuc 0) ⊗ # 0 ≈ # 0 ⊕ p ⊗ # 0) refl p (scale c (suc (b .n)))
 
   older-gap : gap c (suc (b .n)) newer (unroundedStep i h b .older) ≡ pos (divisor c) ⊡ gap c (b .n) newer (b .newer)
   older-gap = fun-ext (λ k. ap₂ (λ x y. x *ℤ point newer k +ℤ negsuc 0 *ℤ y) (scale-suc c (b .n)) (unrounded-older i h b k) ∙
-      ring 4 (λ p d x y. (p ⊗ d) ⊗ x ⊕ con (negsuc 0) ⊗ (d ⊗ y) ≈ d ⊗ (p ⊗ x ⊕ con (negsuc 0) ⊗ y)) refl p (pos (divisor c)) (point newer k) (point (b .newer) k))
+      ring 4 (λ p d x y. (p ⊗ d) ⊗ x ⊕ con (negsuc 0) ⊗ (d ⊗ y) ≈ d ⊗ (p ⊗ x ⊕ con (negsuc 0) ⊗ y)) refl p (pos (divisor c)) (point newer k)
+      (point (b .newer) k))
 
 -- ---- what the steps keep of the errors
 
@@ -179,8 +190,16 @@ same-is i l e =
     let r = and-both _ _ (q .0) in
     let k = and-both _ _ (r .0) in
     λ x. record {
-      grid = record { kind = sym (eqb-true (i .grid .kind) (l .grid .kind) (k .0)) x; columns = sym (eqb-true (i .grid .columns) (l .grid .columns) (k .1)) x; rows = sym (eqb-true (i .grid .rows) (l .grid .rows) (r .1)) x };
-      settings = record { q = sym (eqb-true (i .settings .q) (l .settings .q) (q .1)) x; m = sym (eqb-true (i .settings .m) (l .settings .m) (m .1)) x; s = sym (eqb-true (i .settings .s) (l .settings .s) (s .1)) x };
+      grid = record {
+        kind = sym (eqb-true (i .grid .kind) (l .grid .kind) (k .0)) x;
+        columns = sym (eqb-true (i .grid .columns) (l .grid .columns) (k .1)) x;
+        rows = sym (eqb-true (i .grid .rows) (l .grid .rows) (r .1)) x;
+      };
+      settings = record {
+        q = sym (eqb-true (i .settings .q) (l .settings .q) (q .1)) x;
+        m = sym (eqb-true (i .settings .m) (l .settings .m) (m .1)) x;
+        s = sym (eqb-true (i .settings .s) (l .settings .s) (s .1)) x;
+      };
     }
 
 steps-last : (i : Instrument) (h : Hit) (k : ℕ) (b : Book) → unroundedSteps i h (suc k) b .last ≡ stepOf i
@@ -193,7 +212,8 @@ unfolding unroundedSteps unroundedStep
 steps-count i h zero b = (b .n, refl)
 steps-count i h (suc k) b = steps-count i Absent k (unroundedStep i h b)
 
-after-long : (i : Instrument) (h : Hit) (k : ℕ) (older newer : List ℤ) → length (levelsAfter i h (suc k) older newer .newer) ≡ points (i .grid)
+after-long : (i : Instrument) (h : Hit) (k : ℕ) (older newer : List ℤ) → length (levelsAfter i h (suc k) older newer .newer)
+    ≡ points (i .grid)
 unfolding levelsAfter
 after-long i h zero older newer = length-next i h older newer
 after-long i h (suc k) older newer = after-long i Absent k newer (nextLevel i h older newer)
@@ -203,21 +223,27 @@ module _ (P : OfErrors) (kept : StepsKeep P) where
 
   pub record Beside (i : Instrument) (older newer : List ℤ) (b : Book) : Type 0 where
     pub passes : InstrumentPasses i
-    pub near : P i passes (b .n) (scale (i .settings) (b .n)) (gap (i .settings) (b .n) newer (b .newer)) (gap (i .settings) (b .n) older (b .older))
+    pub near : P i passes (b .n) (scale (i .settings) (b .n)) (gap (i .settings) (b .n) newer (b .newer))
+        (gap (i .settings) (b .n) older (b .older))
 
-  beside-start : (i : Instrument) → InstrumentPasses i → (last : LastStep) (older newer : List ℤ) → Beside i older newer (fresh last older newer)
+  beside-start : (i : Instrument) → InstrumentPasses i → (last : LastStep) (older newer : List ℤ)
+      → Beside i older newer (fresh last older newer)
   beside-start i ok last older newer = record {
     passes = ok;
-    near = subst₂ (P i ok 0 (scale (i .settings) 0)) (sym (gap-same (i .settings) newer)) (sym (gap-same (i .settings) older)) (kept .first i ok (scale (i .settings) 0));
+    near = subst₂ (P i ok 0 (scale (i .settings) 0)) (sym (gap-same (i .settings) newer)) (sym (gap-same (i .settings) older))
+        (kept .first i ok (scale (i .settings) 0));
   }
 
-  beside-step : (i : Instrument) (h : Hit) (older newer : List ℤ) (b : Book) → Beside i older newer b → Beside i newer (nextLevel i h older newer) (unroundedStep i h b)
+  beside-step : (i : Instrument) (h : Hit) (older newer : List ℤ) (b : Book) → Beside i older newer b
+      → Beside i newer (nextLevel i h older newer) (unroundedStep i h b)
   unfolding unroundedStep
   beside-step i h older newer b now = record {
     passes = now .passes;
-    near = subst (λ (s : ℤ). P i (now .passes) (suc (b .n)) s (gap c′ (suc (b .n)) (nextLevel i h older newer) (unroundedStep i h b .newer)) (gap c′ (suc (b .n)) newer (unroundedStep i h b .older)))
+    near = subst (λ (s : ℤ). P i (now .passes) (suc (b .n)) s (gap c′ (suc (b .n)) (nextLevel i h older newer) (unroundedStep i h b .newer))
+        (gap c′ (suc (b .n)) newer (unroundedStep i h b .older)))
         (sym (scale-suc c′ (b .n)))
-        (subst₂ (P i (now .passes) (suc (b .n)) (scale c′ (b .n) *ℤ pos (divisor c′))) (sym (newer-gap i h older newer b)) (sym (older-gap i h older newer b))
+        (subst₂ (P i (now .passes) (suc (b .n)) (scale c′ (b .n) *ℤ pos (divisor c′))) (sym (newer-gap i h older newer b))
+        (sym (older-gap i h older newer b))
         (kept .next i (now .passes) (b .n) (scale c′ (b .n)) _ _ _ (now .near) (off-still i h older newer) (off-small i h older newer)));
   }
     where
@@ -228,7 +254,8 @@ module _ (P : OfErrors) (kept : StepsKeep P) where
       → Beside i (levelsAfter i h k older newer .older) (levelsAfter i h k older newer .newer) (unroundedSteps i h k b)
   unfolding levelsAfter unroundedSteps
   beside-steps i h zero older newer b v = v
-  beside-steps i h (suc k) older newer b v = beside-steps i Absent k newer (nextLevel i h older newer) (unroundedStep i h b) (beside-step i h older newer b v)
+  beside-steps i h (suc k) older newer b v = beside-steps i Absent k newer (nextLevel i h older newer) (unroundedStep i h b)
+      (beside-step i h older newer b v)
 
   -- ---- the invariant of a list of calls
 
@@ -250,9 +277,11 @@ module _ (P : OfErrors) (kept : StepsKeep P) where
   unfolding goesOn
   steps-from i ok t v = go v (goesOn i (t .book .last)) refl
     where
-      go : Invariant t → (x : Bool) → goesOn i (t .book .last) ≡ x → Beside i (t .older) (t .newer) (cond x (t .book) (fresh (t .book .last) (t .older) (t .newer)))
+      go : Invariant t → (x : Bool) → goesOn i (t .book .last) ≡ x
+          → Beside i (t .older) (t .newer) (cond x (t .book) (fresh (t .book .last) (t .older) (t .newer)))
       go (agrees e) true q = subst (Beside i (t .older) (t .newer)) (sym e) (beside-start i ok (t .book .last) (t .older) (t .newer))
-      go (stepping m n s) true q = subst (λ (l : Instrument). Beside l (t .older) (t .newer) (t .book)) (same-is i (s .instrument) (subst (λ l. goesOn i l ≡ true) (s .last) q)) (s .beside)
+      go (stepping m n s) true q = subst (λ (l : Instrument). Beside l (t .older) (t .newer) (t .book))
+          (same-is i (s .instrument) (subst (λ l. goesOn i l ≡ true) (s .last) q)) (s .beside)
       go v false q = beside-start i ok (t .book .last) (t .older) (t .newer)
 
   steps-keep : (i : Instrument) (h : Hit) (k : ℕ) → InstrumentPasses i → (t : State) → Invariant t → Invariant (stepped i h k t)
@@ -261,7 +290,12 @@ module _ (P : OfErrors) (kept : StepsKeep P) where
   steps-keep i h (suc k) ok t v =
       let b : Book = cond (goesOn i (t .book .last)) (t .book) (fresh (t .book .last) (t .older) (t .newer)) in
       stepping (steps-count i h k b .0) (steps-count i h k b .1)
-      (record { instrument = i; last = steps-last i h k b; long = after-long i h k (t .older) (t .newer); beside = beside-steps i h (suc k) (t .older) (t .newer) b (steps-from i ok t v) })
+      (record {
+        instrument = i;
+        last = steps-last i h k b;
+        long = after-long i h k (t .older) (t .newer);
+        beside = beside-steps i h (suc k) (t .older) (t .newer) b (steps-from i ok t v);
+      })
 
   effect-keeps : (t t′ : State) → Effect t t′ → Invariant t → Invariant t′
   effect-keeps t t′ (nothing e) v = subst Invariant (sym e) v
@@ -274,9 +308,9 @@ module _ (P : OfErrors) (kept : StepsKeep P) where
 
 -- ---- the claim
 
--- `Near` of the forms is such a property
+-- `ErrorsNear` of the forms is such a property
 abbrev pub NearErrors : OfErrors
-NearErrors i ok n p X Y = Forms.Near (scheme i ok) (K i) n p X Y
+NearErrors i ok n p X Y = Forms.ErrorsNear (scheme i ok) (K i) n p X Y
 
 pub near-kept : StepsKeep NearErrors
 near-kept = record {
@@ -285,10 +319,12 @@ near-kept = record {
 }
 
 -- from 16·D·G ≤ D·2N·(D+s)²ⁿ·(n(n+1))²: D cancels
-within : (i : Instrument) (n : ℕ) (older newer : List ℤ) (b : Book) → b .n ≡ n → length newer ≡ points (i .grid) → Beside NearErrors near-kept i older newer b → WithinBound i n newer (b .newer)
+within : (i : Instrument) (n : ℕ) (older newer : List ℤ) (b : Book) → b .n ≡ n → length newer ≡ points (i .grid)
+    → Beside NearErrors near-kept i older newer b → WithinBound i n newer (b .newer)
 within i n older newer b e l v = record {
   all-points = l;
-  near = subst (λ (n : ℕ). pos 16 *ℤ squares (i .grid) (λ k. scale (i .settings) n *ℤ point newer k) (point (b .newer)) ⩽ pos (2 * points (i .grid)) *ℤ (square (pos (n * suc n)) *ℤ square (scale (i .settings) n))) e
+  near = subst (λ (n : ℕ). pos 16 *ℤ squares (i .grid) (λ k. scale (i .settings) n *ℤ point newer k) (point (b .newer)) ⩽ pos
+      (2 * points (i .grid)) *ℤ (square (pos (n * suc n)) *ℤ square (scale (i .settings) n))) e
       (≡-≤ℤ (ap (λ z. pos 16 *ℤ z) (squares-are (i .grid) (scale (i .settings) (b .n) ⊡ point newer) (point (b .newer))))
       (*ℤ-cancel (0<pos 65535)
       (lin 4 (λ N g m p. 1 *≤ # 16 ⊗ (# D ⊗ g) ⊴ (# D ⊗ N) ⊗ (p ⊗ p) ⊗ (m ⊗ m) ⇒ ⊩ # D ⊗ (# 16 ⊗ g) ⊴ # D ⊗ (N ⊗ ((m ⊗ m) ⊗ (p ⊗ p)))) refl
@@ -301,7 +337,8 @@ within i n older newer b e l v = record {
 invariant-near : (t : State) → Invariant NearErrors near-kept t → Near (t .newer) (t .book .n) (t .book .newer) (t .book .last)
 invariant-near t (agrees e) = subst (λ (b : Book). Near (t .newer) (b .n) (b .newer) (b .last)) (sym e) refl
 invariant-near t (stepping m e s) =
-    subst₂ (λ (n : ℕ) (l : LastStep). Near (t .newer) n (t .book .newer) l) (sym e) (sym (s .last)) (within (s .instrument) (suc m) (t .older) (t .newer) (t .book) e (s .long) (s .beside))
+    subst₂ (λ (n : ℕ) (l : LastStep). Near (t .newer) n (t .book .newer) l) (sym e) (sym (s .last))
+    (within (s .instrument) (suc m) (t .older) (t .newer) (t .book) e (s .long) (s .beside))
 
 pub distance-bound : DistanceBound
 distance-bound older newer ks = invariant-near (calls ks (start older newer) .state) (list-invariant NearErrors near-kept older newer ks)

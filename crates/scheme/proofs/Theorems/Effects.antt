@@ -1,4 +1,5 @@
--- What a call does to the two levels and the book: one of three effects. A theorem about lists of calls is proved once over effects; each call has one law that tells its effect.
+-- What a call does to the two levels and the book: one of three effects.
+-- A theorem about lists of calls is proved once over effects; each call has one law that tells its effect.
 use mathlib.Core.Path.{_≡_, refl, ap, _∙_}
 use mathlib.Core.Bool.{Bool, true, false}
 use mathlib.Core.List.{List, [], _∷_}
@@ -12,7 +13,8 @@ use Rattle.scheme.specs.Table.{table}
 use Rattle.scheme.specs.Pluck.{pluckLevel}
 use Rattle.scheme.specs.Refusals.{wrongLength, blockRefusal, pluckRefusal}
 use Rattle.scheme.specs.Calls.{accepted, AfterSteps, play, levelsAfter, AfterBlock, AfterPluck, block, pluck}
-use Rattle.scheme.specs.Book.{fresh, bookBlock, bookPluck, Call, blockCall, pluckCall, leaves, bookCall, State, stateAfter, called, calls}
+use Rattle.scheme.specs.Book.{fresh, bookBlock, bookPluck, Call, blockCall, pluckCall, leaves, bookCall, State, stateAfter, called}
+use Rattle.scheme.specs.Book.{calls}
 use Rattle.scheme.specs.Passing.{InstrumentPasses}
 use Rattle.scheme.proofs.Laws.Refusals.{accepted-is, instrument-passes, block-passes}
 use Rattle.scheme.proofs.Laws.Calls.{stands-behind, block-done, block-refused, pluck-done, pluck-refused}
@@ -35,9 +37,11 @@ pub data Effect (t t′ : State) : Type 0 where
 abbrev pub afterCall : Call → State → State
 afterCall k t = stateAfter k (called k t) t
 
-block-effect : (i : Instrument) (work samples : List ℤ) (pick : ℕ) (h : Hit) (t : State) → Effect t (afterCall (blockCall i work samples pick h) t)
+block-effect : (i : Instrument) (work samples : List ℤ) (pick : ℕ) (h : Hit) (t : State)
+    → Effect t (afterCall (blockCall i work samples pick h) t)
 unfolding leaves bookCall bookBlock
-block-effect i work samples pick h t = go (accepted (blockRefusal i (t .older) (t .newer) (wrongLength (i .grid) (length work)) pick h)) refl
+block-effect i work samples pick h t = go (accepted (blockRefusal i (t .older) (t .newer) (wrongLength (i .grid) (length work)) pick h))
+    refl
   where
     left : AfterBlock → State
     left r = record { older = r .older; newer = r .newer; book = bookBlock i h (t .older) (t .newer) (r .answer .steps) (t .book) }
@@ -50,9 +54,14 @@ block-effect i work samples pick h t = go (accepted (blockRefusal i (t .older) (
     go true e =
         let z = accepted-is _ e in
         let s = stands-behind i pick h (t .older) (t .newer) samples in
-        steps i h (after .answer .steps) (instrument-passes i (block-passes i (t .older) (t .newer) (wrongLength (i .grid) (length work)) pick h z .instrument))
+        steps i h (after .answer .steps) (instrument-passes i
+        (block-passes i (t .older) (t .newer) (wrongLength (i .grid) (length work)) pick h z .instrument))
         (ap left (block-done i (t .older) (t .newer) work samples pick h z) ∙
-        (λ x. record { older = s .older-is x; newer = s .newer-is x; book = bookBlock i h (t .older) (t .newer) (after .answer .steps) (t .book) }))
+        (λ x. record {
+          older = s .older-is x;
+          newer = s .newer-is x;
+          book = bookBlock i h (t .older) (t .newer) (after .answer .steps) (t .book);
+        }))
     go false e = nothing (ap left (block-refused i (t .older) (t .newer) work samples pick h e))
 
 pluck-effect : (g : Grid) (c w : ℕ) (a : ℤ) (t : State) → Effect t (afterCall (pluckCall g c w a) t)
@@ -74,7 +83,8 @@ effect-of (blockCall i work samples pick h) t = block-effect i work samples pick
 effect-of (pluckCall g c w a) t = pluck-effect g c w a t
 
 -- what every effect keeps, a list of calls keeps
-pub list-keeps : (P : State → Type 0) → ((t t′ : State) → Effect t t′ → P t → P t′) → (ks : List Call) (t : State) → P t → P (calls ks t .state)
+pub list-keeps : (P : State → Type 0) → ((t t′ : State) → Effect t t′ → P t → P t′) → (ks : List Call) (t : State) → P t
+    → P (calls ks t .state)
 unfolding calls
 list-keeps P kept [] t p = p
 list-keeps P kept (k ∷ ks) t p = list-keeps P kept ks (afterCall k t) (kept t (afterCall k t) (effect-of k t) p)

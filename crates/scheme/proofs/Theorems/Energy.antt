@@ -1,4 +1,5 @@
--- Demand 3, energy: never negative, never raised by a step without a hit, kept where there is no loss. Of every book that the unrounded scheme reaches.
+-- Demand 3, energy: never negative, never raised by a step without a hit,
+-- kept where there is no loss. Of every book that the unrounded scheme reaches.
 use mathlib.Core.Path.{_≡_, refl, sym, ap, ap₂, _∙_, fun-ext}
 use mathlib.Core.Bool.{false, cond}
 use mathlib.Core.List.{List, [], _∷_}
@@ -43,10 +44,12 @@ module _ (i : Instrument) (h : Hit) (b : Book) where
   unrounded-older k = point-scaled (pos (divisor (i .settings))) (b .newer) k
 
 -- without a hit it is the free step
-pub unrounded-free : (i : Instrument) (b : Book) → point (unroundedStep i Absent b .newer) ≡ freeStep i (point (b .newer)) (point (b .older))
+pub unrounded-free : (i : Instrument) (b : Book) → point (unroundedStep i Absent b .newer)
+    ≡ freeStep i (point (b .newer)) (point (b .older))
 unfolding unroundedAt freeStep
 unrounded-free i b = fun-ext (λ k. unrounded-newer i Absent b k ∙
-    ap (λ (f : Level). cond (moving (i .grid) k) (numerator i (point (b .newer)) (point (b .older)) f k) (pos 0)) (fun-ext (λ j. *ℤ-zero (scale (i .settings) (b .n)))))
+    ap (λ (f : Level). cond (moving (i .grid) k) (numerator i (point (b .newer)) (point (b .older)) f k) (pos 0))
+    (fun-ext (λ j. *ℤ-zero (scale (i .settings) (b .n)))))
 
 -- ---- every reached book is still
 
@@ -55,7 +58,10 @@ pub record StillBook (g : Grid) (b : Book) : Type 0 where
   pub older-still : Still (moving g) (point (b .older))
 
 start-still : (i : Instrument) (older newer : List ℤ) → Passes i older newer → StillBook (i .grid) (fresh noStep older newer)
-start-still i older newer p = record { newer-still = passes-still (i .grid) newer (p .newer-passes); older-still = passes-still (i .grid) older (p .older-passes) }
+start-still i older newer p = record {
+  newer-still = passes-still (i .grid) newer (p .newer-passes);
+  older-still = passes-still (i .grid) older (p .older-passes);
+}
 
 step-still : (i : Instrument) (h : Hit) (b : Book) → StillBook (i .grid) b → StillBook (i .grid) (unroundedStep i h b)
 step-still i h b v = record {
@@ -75,7 +81,8 @@ module _ (i : Instrument) (ok : InstrumentPasses i) (b : Book) (v : StillBook (i
   d = pos (divisor (i .settings))
 
   -- the energy after a step without a hit, and before, by the forms
-  after : bookEnergy i (unroundedStep i Absent b) ≡ Forms.E (scheme i ok) (freeStep i (point (b .newer)) (point (b .older))) (d ⊡ point (b .newer))
+  after : bookEnergy i (unroundedStep i Absent b)
+      ≡ Forms.E (scheme i ok) (freeStep i (point (b .newer)) (point (b .older))) (d ⊡ point (b .newer))
   after = ap₂ (energy i) (unrounded-free i b) (fun-ext (unrounded-older i Absent b)) ∙ energy-is i _ _
 
   before : d *ℤ d *ℤ Forms.E (scheme i ok) (point (b .newer)) (point (b .older)) ≡ square d *ℤ bookEnergy i b
@@ -88,13 +95,16 @@ module _ (i : Instrument) (ok : InstrumentPasses i) (b : Book) (v : StillBook (i
   same e = after ∙ Forms.kept (scheme i ok) lossless (point (b .newer)) (point (b .older)) (v .older-still) ∙ before
     where
       lossless : (c : Level) → held i c c ≡ d *ℤ weighed (i .grid) c c
-      lossless c = lin 3 (λ D s g. (⊝ g) *≈ s ≈ # 0 ⇒ ⊩≈ D ⊗ g ≈ (D ⊕ s) ⊗ g) refl (pos D) (pos (i .settings .s)) (weighed (i .grid) c c) (ap pos e)
+      lossless c = lin 3 (λ D s g. (⊝ g) *≈ s ≈ # 0 ⇒ ⊩≈ D ⊗ g ≈ (D ⊕ s) ⊗ g) refl (pos D) (pos (i .settings .s)) (weighed (i .grid) c c)
+          (ap pos e)
 
 pub energy-never-negative : EnergyNeverNegative
 energy-never-negative i older newer hs p q = energy-nonneg i (instrument-passes i (p .instrument)) _ _
 
 pub energy-never-raised : EnergyNeverRaised
-energy-never-raised i older newer hs p q = not-raised i (instrument-passes i (p .instrument)) _ (run-still i hs (fresh noStep older newer) (start-still i older newer p))
+energy-never-raised i older newer hs p q = not-raised i (instrument-passes i (p .instrument)) _
+    (run-still i hs (fresh noStep older newer) (start-still i older newer p))
 
 pub energy-kept : EnergyKept
-energy-kept i older newer hs p q = same i (instrument-passes i (p .instrument)) _ (run-still i hs (fresh noStep older newer) (start-still i older newer p))
+energy-kept i older newer hs p q = same i (instrument-passes i (p .instrument)) _
+    (run-still i hs (fresh noStep older newer) (start-still i older newer p))

@@ -55,7 +55,8 @@ module _ (g : Grid) where
   -- the paper's doubled first sum
   pub squares-are : (a b : Level) → let c : Level = a ⊞ (negsuc 0 ⊡ b) in squares g a b ≡ weighed c c
   unfolding squares weighed
-  squares-are a b = sum-ext (points g) (λ k. ring 3 (λ w a b. w ⊗ ((a ⊖ b) ⊗ (a ⊖ b)) ≈ w ⊗ ((a ⊕ con (negsuc 0) ⊗ b) ⊗ (a ⊕ con (negsuc 0) ⊗ b))) refl (w k) (a k) (b k))
+  squares-are a b = sum-ext (points g) (λ k. ring 3
+      (λ w a b. w ⊗ ((a ⊖ b) ⊗ (a ⊖ b)) ≈ w ⊗ ((a ⊕ con (negsuc 0) ⊗ b) ⊗ (a ⊕ con (negsuc 0) ⊗ b))) refl (w k) (a k) (b k))
 
   -- ---- L under the forms
 
@@ -65,7 +66,8 @@ module _ (g : Grid) where
     laplacian-parts a b = by-parts g hc hr a b
 
     -- L taken twice: by parts, the pairs turned about, and by parts back
-    pub biharmonic-parts : (a b : Level) → weighed (biharmonic g a) b ≡ sum (points g) (λ k. w k *ℤ (innerLaplacian g a k *ℤ innerLaplacian g b k))
+    pub biharmonic-parts : (a b : Level) → weighed (biharmonic g a) b
+        ≡ sum (points g) (λ k. w k *ℤ (innerLaplacian g a k *ℤ innerLaplacian g b k))
     unfolding weighed innerLaplacian
     biharmonic-parts a b =
         by-parts g hc hr (innerLaplacian g a) b ∙
@@ -78,11 +80,14 @@ module _ (g : Grid) where
         inner false y x = *ℤ-zero y
 
     -- only where every weight is 2 is there stiffness
-    pub stiffness-parts : (m : ℕ) → (m ≡ 0) ⊎ ((k : ℕ) → weight g k ≡ 2) → (a b : Level) → pos m *ℤ weighed (biharmonic g a) b ≡ pos (2 * m) *ℤ laplacianSum g a b
+    pub stiffness-parts : (m : ℕ) → (m ≡ 0) ⊎ ((k : ℕ) → weight g k ≡ 2) → (a b : Level) → pos m *ℤ weighed (biharmonic g a) b ≡ pos (2 * m)
+        *ℤ laplacianSum g a b
     unfolding laplacianSum
-    stiffness-parts m (inl e) a b = ap (λ (n : ℕ). pos n *ℤ weighed (biharmonic g a) b) e ∙ zero-*ℤ (weighed (biharmonic g a) b) ∙ sym (ap (λ (n : ℕ). pos (2 * n) *ℤ laplacianSum g a b) e ∙ zero-*ℤ (laplacianSum g a b))
+    stiffness-parts m (inl e) a b = ap (λ (n : ℕ). pos n *ℤ weighed (biharmonic g a) b) e ∙ zero-*ℤ (weighed (biharmonic g a) b)
+        ∙ sym (ap (λ (n : ℕ). pos (2 * n) *ℤ laplacianSum g a b) e ∙ zero-*ℤ (laplacianSum g a b))
     stiffness-parts m (inr two) a b =
-        ap (λ z. pos m *ℤ z) (biharmonic-parts a b ∙ sum-ext (points g) (λ k. ap (λ (n : ℕ). pos n *ℤ (innerLaplacian g a k *ℤ innerLaplacian g b k)) (two k)) ∙
+        ap (λ z. pos m *ℤ z) (biharmonic-parts a b ∙ sum-ext (points g)
+        (λ k. ap (λ (n : ℕ). pos n *ℤ (innerLaplacian g a k *ℤ innerLaplacian g b k)) (two k)) ∙
         sum-scale (points g) (pos 2) (λ k. innerLaplacian g a k *ℤ innerLaplacian g b k)) ∙
         ring 2 (λ m z. m ⊗ (# 2 ⊗ z) ≈ (# 2 ⊗ m) ⊗ z) refl (pos m) (laplacianSum g a b)
 
@@ -98,17 +103,21 @@ module _ (i : Instrument) where
 
   -- S: the form by which the scheme steps
   unfoldable pub stepForm : Level → Level → ℤ
-  stepForm a b = pos (2 * D) *ℤ weighed (i .grid) a b -ℤ pos (2 * i .settings .q) *ℤ pairSum (i .grid) a b -ℤ pos (2 * i .settings .m) *ℤ laplacianSum (i .grid) a b
+  stepForm a b = pos (2 * D) *ℤ weighed (i .grid) a b -ℤ pos (2 * i .settings .q) *ℤ pairSum (i .grid) a b -ℤ pos (2 * i .settings .m)
+      *ℤ laplacianSum (i .grid) a b
 
   pub step-form : Form stepForm
   unfolding stepForm
-  step-form = minus (minus (times (pos (2 * D)) (weighed-form (i .grid))) (times (pos (2 * i .settings .q)) (pair-form (i .grid)))) (times (pos (2 * i .settings .m)) (laplacian-form (i .grid)))
+  step-form = minus (minus (times (pos (2 * D)) (weighed-form (i .grid))) (times (pos (2 * i .settings .q)) (pair-form (i .grid))))
+      (times (pos (2 * i .settings .m)) (laplacian-form (i .grid)))
 
   -- the paper's energy, times 2D, is the energy of the forms
   pub energy-is : (a b : Level) → energy i a b ≡ Energy.energy held held stepForm a b
   unfolding energy stepForm
   energy-is a b =
       let g = i .grid in
-      ap (λ z. pos D *ℤ z +ℤ pos (2 * i .settings .q) *ℤ pairSum g a b +ℤ pos (2 * i .settings .m) *ℤ laplacianSum g a b) (squares-are g a b ∙ square-difference (weighed-form g) a b) ∙
+      ap (λ z. pos D *ℤ z +ℤ pos (2 * i .settings .q) *ℤ pairSum g a b +ℤ pos (2 * i .settings .m) *ℤ laplacianSum g a b)
+      (squares-are g a b ∙ square-difference (weighed-form g) a b) ∙
       ring 7 (λ q m x y z u v. # D ⊗ (x ⊖ # 2 ⊗ y ⊕ z) ⊕ q ⊗ u ⊕ m ⊗ v ≈ # D ⊗ x ⊕ # D ⊗ z ⊖ (# (2 * D) ⊗ y ⊖ q ⊗ u ⊖ m ⊗ v)) refl
-      (pos (2 * i .settings .q)) (pos (2 * i .settings .m)) (weighed g a a) (weighed g a b) (weighed g b b) (pairSum g a b) (laplacianSum g a b)
+      (pos (2 * i .settings .q)) (pos (2 * i .settings .m)) (weighed g a a) (weighed g a b) (weighed g b b) (pairSum g a b)
+      (laplacianSum g a b)

@@ -14,7 +14,8 @@ use Rattle.scheme.specs.Instruments.{D, points, moving}
 use Rattle.scheme.specs.Step.{laplacian, biharmonic, numerator, divisor}
 use Rattle.scheme.specs.Energy.{weight, pairSum, laplacianSum}
 use Rattle.scheme.specs.Passing.{InstrumentPasses}
-use Rattle.scheme.proofs.Theorems.Forms.{weighed, weighed-form, weighed-nonneg, held, held-form, stepForm, step-form, energy-is, laplacian-parts, stiffness-parts}
+use Rattle.scheme.proofs.Theorems.Forms.{weighed, weighed-form, weighed-nonneg, held, held-form, stepForm, step-form, energy-is}
+use Rattle.scheme.proofs.Theorems.Forms.{laplacian-parts, stiffness-parts}
 use Rattle.scheme.proofs.Theorems.Bounds.{some-columns, some-rows, soft-or-held, energy-nonneg}
 
 module _ (i : Instrument) where
@@ -29,7 +30,8 @@ module _ (i : Instrument) where
   -- against a still level the points that do not move count nothing
   cut : (a b c : Level) → Still (moving (i .grid)) c → weighed (i .grid) (freeStep a b) c ≡ weighed (i .grid) (numerator i a b zeros) c
   unfolding freeStep weighed
-  cut a b c s = sum-ext (points (i .grid)) (λ k. ap (λ z. pos (weight (i .grid) k) *ℤ z) (go (moving (i .grid) k) (numerator i a b zeros k) (c k) (s .still k)))
+  cut a b c s = sum-ext (points (i .grid)) (λ k. ap (λ z. pos (weight (i .grid) k) *ℤ z)
+      (go (moving (i .grid) k) (numerator i a b zeros k) (c k) (s .still k)))
     where
       go : (t : Bool) (n x : ℤ) → (t ≡ false → x ≡ pos 0) → cond t n (pos 0) *ℤ x ≡ n *ℤ x
       go true n x z = refl
@@ -38,12 +40,14 @@ module _ (i : Instrument) where
   -- the numerator, term by term
   terms : (a b c : Level) → weighed (i .grid) (numerator i a b zeros) c ≡
       pos (2 * D) *ℤ weighed (i .grid) a c +ℤ (pos (i .settings .q) *ℤ weighed (i .grid) (laplacian (i .grid) a) c +ℤ
-      (negℤ (pos (i .settings .m)) *ℤ weighed (i .grid) (biharmonic (i .grid) a) c +ℤ negℤ (pos D -ℤ pos (i .settings .s)) *ℤ weighed (i .grid) b c))
+      (negℤ (pos (i .settings .m)) *ℤ weighed (i .grid) (biharmonic (i .grid) a) c +ℤ negℤ (pos D -ℤ pos (i .settings .s))
+      *ℤ weighed (i .grid) b c))
   unfolding weighed numerator
   terms a b c =
       sum-ext n (λ k. ring 9 (λ q m s w a b x l h. w ⊗ ((# (2 * D) ⊗ a ⊕ q ⊗ l ⊖ m ⊗ h ⊖ (# D ⊖ s) ⊗ b ⊕ # D ⊗ # 0) ⊗ x)
       ≈ # (2 * D) ⊗ (w ⊗ (a ⊗ x)) ⊕ (q ⊗ (w ⊗ (l ⊗ x)) ⊕ ((⊝ m) ⊗ (w ⊗ (h ⊗ x)) ⊕ (⊝ (# D ⊖ s)) ⊗ (w ⊗ (b ⊗ x))))) refl
-      (pos (i .settings .q)) (pos (i .settings .m)) (pos (i .settings .s)) (pos (weight (i .grid) k)) (a k) (b k) (c k) (laplacian (i .grid) a k) (biharmonic (i .grid) a k)) ∙
+      (pos (i .settings .q)) (pos (i .settings .m)) (pos (i .settings .s)) (pos (weight (i .grid) k)) (a k) (b k) (c k)
+      (laplacian (i .grid) a k) (biharmonic (i .grid) a k)) ∙
       sum-add n _ _ ∙ ap₂ _+ℤ_ (sum-scale n (pos (2 * D)) _) (sum-add n _ _ ∙ ap₂ _+ℤ_ (sum-scale n (pos (i .settings .q)) _)
       (sum-add n _ _ ∙ ap₂ _+ℤ_ (sum-scale n (negℤ (pos (i .settings .m))) _) (sum-scale n (negℤ (pos D -ℤ pos (i .settings .s))) _)))
     where
@@ -52,16 +56,21 @@ module _ (i : Instrument) where
 
   module _ (ok : InstrumentPasses i) where
     pub step-law : (a b c : Level) → Still (moving (i .grid)) c
-        → weighed (i .grid) (freeStep a b) c ≡ stepForm i a c -ℤ (pos 2 *ℤ held i b c -ℤ (pos D +ℤ pos (i .settings .s)) *ℤ weighed (i .grid) b c)
+        → weighed (i .grid) (freeStep a b) c ≡ stepForm i a c
+        -ℤ (pos 2 *ℤ held i b c -ℤ (pos D +ℤ pos (i .settings .s)) *ℤ weighed (i .grid) b c)
     unfolding stepForm
     step-law a b c s =
         let g = i .grid in
         cut a b c s ∙ terms a b c ∙
-        ap₂ (λ x y. pos (2 * D) *ℤ weighed g a c +ℤ (pos (i .settings .q) *ℤ x +ℤ (y +ℤ negℤ (pos D -ℤ pos (i .settings .s)) *ℤ weighed g b c)))
+        ap₂ (λ x y. pos (2 * D) *ℤ weighed g a c +ℤ (pos (i .settings .q) *ℤ x
+        +ℤ (y +ℤ negℤ (pos D -ℤ pos (i .settings .s)) *ℤ weighed g b c)))
         (laplacian-parts g (some-columns i ok) (some-rows i ok) a c)
-        (ring 2 (λ m z. (⊝ m) ⊗ z ≈ ⊝ (m ⊗ z)) refl (pos (i .settings .m)) (weighed g (biharmonic g a) c) ∙ ap negℤ (stiffness-parts g (some-columns i ok) (some-rows i ok) (i .settings .m) (soft-or-held i ok) a c)) ∙
-        ring 7 (λ q m s u v k z. # (2 * D) ⊗ u ⊕ (q ⊗ (⊝ # 2 ⊗ v) ⊕ (⊝ ((# 2 ⊗ m) ⊗ k) ⊕ (⊝ (# D ⊖ s)) ⊗ z)) ≈ (# (2 * D) ⊗ u ⊖ (# 2 ⊗ q) ⊗ v ⊖ (# 2 ⊗ m) ⊗ k) ⊖ (# 2 ⊗ (# D ⊗ z) ⊖ (# D ⊕ s) ⊗ z)) refl
-        (pos (i .settings .q)) (pos (i .settings .m)) (pos (i .settings .s)) (weighed g a c) (pairSum g a c) (laplacianSum g a c) (weighed g b c)
+        (ring 2 (λ m z. (⊝ m) ⊗ z ≈ ⊝ (m ⊗ z)) refl (pos (i .settings .m)) (weighed g (biharmonic g a) c)
+        ∙ ap negℤ (stiffness-parts g (some-columns i ok) (some-rows i ok) (i .settings .m) (soft-or-held i ok) a c)) ∙
+        ring 7 (λ q m s u v k z. # (2 * D) ⊗ u ⊕ (q ⊗ (⊝ # 2 ⊗ v) ⊕ (⊝ ((# 2 ⊗ m) ⊗ k) ⊕ (⊝ (# D ⊖ s)) ⊗ z))
+        ≈ (# (2 * D) ⊗ u ⊖ (# 2 ⊗ q) ⊗ v ⊖ (# 2 ⊗ m) ⊗ k) ⊖ (# 2 ⊗ (# D ⊗ z) ⊖ (# D ⊕ s) ⊗ z)) refl
+        (pos (i .settings .q)) (pos (i .settings .m)) (pos (i .settings .s)) (weighed g a c) (pairSum g a c) (laplacianSum g a c)
+        (weighed g b c)
 
     abbrev pub scheme : Scheme
     scheme = record {
@@ -76,6 +85,7 @@ module _ (i : Instrument) where
       S-form = step-form i;
       inside = free-still;
       law = step-law;
-      lossy = λ c. lin 3 (λ D s g. s *⊴ # 0 ⊴ g ⇒ ⊩ D ⊗ g ⊴ (D ⊕ s) ⊗ g) refl (pos D) (pos (i .settings .s)) (weighed (i .grid) c c) (0≤pos (i .settings .s)) (weighed-nonneg (i .grid) c);
+      lossy = λ c. lin 3 (λ D s g. s *⊴ # 0 ⊴ g ⇒ ⊩ D ⊗ g ⊴ (D ⊕ s) ⊗ g) refl (pos D) (pos (i .settings .s)) (weighed (i .grid) c c)
+          (0≤pos (i .settings .s)) (weighed-nonneg (i .grid) c);
       nonneg = λ a b. ≤ℤ-≡ (energy-nonneg i ok a b) (energy-is i a b);
     }

@@ -14,7 +14,8 @@ abbrev callsOf : List Made → List Call
 callsOf ms = map (λ (m : Made). m .call) ms
 
 -- the levels that the program holds, and what its calls answered and left, are the definitions'
-pub program-run : (ms : List Made) (t : State) → AllKept ms t → calls (callsOf ms) t ≡ record { outcomes = outcomesOf ms; state = afterAll ms t }
+pub program-run : (ms : List Made) (t : State) → AllKept ms t → calls (callsOf ms) t
+    ≡ record { outcomes = outcomesOf ms; state = afterAll ms t }
 unfolding AllKept afterAll calls
 program-run [] t k = refl
 program-run (m ∷ ms) t k =

@@ -26,7 +26,8 @@ is-stable-requires : tie.Need-is-stable-requires
 is-stable-requires c κs = search needs
 
 -- the program's test of 5, and what 5 says of the settings that the coefficients make
-unstable-is : (c : tie.After-is-stable) → let a = c .before .before .before .before .args in not (c .is-stable .result) ≡ unstable (instrumentOf (a .grid) (a .c))
+unstable-is : (c : tie.After-is-stable)
+    → let a = c .before .before .before .before .args in not (c .is-stable .result) ≡ unstable (instrumentOf (a .grid) (a .c))
 unstable-is c =
     let g = c .before .before .before .before .args .grid in
     ap not (c .is-stable .ensures ∙ ap (λ z. stableIn (kind g) (z .q) (z .m)) (c .before .settings .ensures))

@@ -26,7 +26,8 @@ unfolding sheetCall
 returns c =
     let said = c .before .before in
     let a = said .before .before .args in
-    c .refused .ensures ∙ grid-refused (a .grid) (said .before .grid-refusal .ensures) (said .is-nothing .ensures) (a .sheet) _ (c .before .if1 .taken)
+    c .refused .ensures
+    ∙ grid-refused (a .grid) (said .before .grid-refusal .ensures) (said .is-nothing .ensures) (a .sheet) _ (c .before .if1 .taken)
 
 are-allowed-requires : tie.Need-are-allowed-requires
 are-allowed-requires c κs = search needs
@@ -49,7 +50,8 @@ of-sheet-requires c κs =
     let grid = c .before .before in
     let said = grid .before in
     let g = said .before .before .args .grid in
-    let size = sized (kind g) (g .columns) (g .rows) (grid-size g (said .before .grid-refusal .ensures) (said .is-nothing .ensures) (grid .if1 .left)) in
+    let passed = grid-size g (said .before .grid-refusal .ensures) (said .is-nothing .ensures) (grid .if1 .left) in
+    let size = sized (kind g) (g .columns) (g .rows) passed in
     (omega (arith, size .columns-low), size .columns-high)
 
 answer-requires : tie.Need-answer-requires

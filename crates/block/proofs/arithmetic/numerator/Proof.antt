@@ -1,15 +1,14 @@
 -- `numerator` meets its contract: its arithmetic, written once, fits at every step.
 use mathlib.Core.Path.{_≡_, sym, _∙_, subst}
-use Prim.Native.Nat.{_*_, _^_, _≤_}
+use Prim.Native.Nat.{_*_, _≤_}
 use native.Mathlib.Omega.{arith}
 use lib.IntN.{ℤ, pos, natAbs, _+ℤ_, _-ℤ_, _*ℤ_}
 use Rattle.bounded.proofs.Num as Num
 use Rattle.bounded.proofs.Num.{Num}
 use borrow.Author.Needs.{needs}
-use Rattle.bounded.proofs.Expr.{E, at, num, product, stored, _⊞_, _⊟_, _⊠_, fits, is, said, red, val}
+use Rattle.bounded.proofs.Expr.{E, at, num, product, stored, _⊞_, _⊟_, _⊠_, fits, is, red, val}
 use Rattle.scheme.specs.Instruments.{D, ceiling}
-use Rattle.scheme.specs.Step.{roundAway, numeratorOf, divisor}
-use Rattle.scheme.proofs.Laws.Ranges.{partial-sums}
+use Rattle.scheme.specs.Step.{numeratorOf}
 use Rattle.block.specs.Plan.{Planned, Updatable}
 use Rattle.block.proofs.PlanLaws.{q-low, m-low, kept-low}
 use Rattle.block.proofs.arithmetic.numerator.Statement.{statement}
@@ -20,7 +19,8 @@ module _ (s : tie.Start) where
   planned : Planned (s .args .plan)
   planned = s .pre .0
 
-  given : Updatable (s .args .plan .instrument .settings) (s .args .u) (s .args .sum) (s .args .count) (s .args .b) (s .args .p) (s .args .f)
+  given : Updatable (s .args .plan .instrument .settings) (s .args .u) (s .args .sum) (s .args .count) (s .args .b) (s .args .p)
+      (s .args .f)
   given = s .pre .1
 
   abbrev l : ℤ
@@ -46,10 +46,12 @@ module _ (s : tie.Start) where
 
   -- q × L and m × B: each at most 4·D·C, by the limits of stability
   pull : Num (red q# *ℤ red l#) (s .args .plan .q *ℤ l) (4 * (D * ceiling))
-  pull = product q# l# (4 * (D * ceiling)) tt tt (subst (λ (q : ℤ). natAbs (q *ℤ l) ≤ 4 * (D * ceiling)) (sym (planned .q-is)) (omega (arith, given .terms .neighbouring)))
+  pull = product q# l# (4 * (D * ceiling)) tt tt (subst (λ (q : ℤ). natAbs (q *ℤ l) ≤ 4 * (D * ceiling)) (sym (planned .q-is))
+      (omega (arith, given .terms .neighbouring)))
 
   bend : Num (red m# *ℤ red b#) (s .args .plan .m *ℤ s .args .b) (4 * (D * ceiling))
-  bend = product m# b# (4 * (D * ceiling)) tt tt (subst (λ (m : ℤ). natAbs (m *ℤ s .args .b) ≤ 4 * (D * ceiling)) (sym (planned .m-is)) (omega (arith, given .terms .neighbouring)))
+  bend = product m# b# (4 * (D * ceiling)) tt tt (subst (λ (m : ℤ). natAbs (m *ℤ s .args .b) ≤ 4 * (D * ceiling)) (sym (planned .m-is))
+      (omega (arith, given .terms .neighbouring)))
 
   abbrev own# : E
   own# = num 131072 ⊠ u#

@@ -1,9 +1,7 @@
 -- `laplacian_run` meets its contract: the points passed have L in their places.
-use mathlib.Core.Path.{_≡_}
 use Prim.Native.Nat.{ℕ, _+_, _-_, _≤_, _<_}
 use native.Mathlib.Omega.{arith}
 use borrow.Author.Needs.{needs}
-use lib.IntN.{ℤ}
 use lib.ListN.{length}
 use Rattle.bounded.proofs.Expr.{E, num, _⊟_, _⊠_, fits, is}
 use Rattle.scheme.specs.Lists.{point}
@@ -29,7 +27,8 @@ module _ (c : tie.In-loop Inv-loop μ-loop) where
   abbrev k : ℕ
   k = c .before .loop .at
 
-  abbrev inv : Filling (lineLaplacian (start .args .xs .now)) (start .args .base) (start .args .out .now) (start .args .from) (start .args .to) (c .before .loop .out) k
+  abbrev inv : Filling (lineLaplacian (start .args .xs .now)) (start .args .base) (start .args .out .now) (start .args .from)
+      (start .args .to) (c .before .loop .out) k
   inv = c .before .loop .inv
 
   first : 1 ≤ k

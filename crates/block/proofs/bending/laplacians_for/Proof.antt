@@ -23,7 +23,8 @@ module _ (c : tie.Else1) where
   few : start .args .to ≤ start .args .from + 64
   few = go (start .pre .0 .3)
     where
-      go : (start .args .plan .instrument .settings .m ≡ 0) ⊎ (start .args .to ≤ start .args .from + 64) → start .args .to ≤ start .args .from + 64
+      go : (start .args .plan .instrument .settings .m ≡ 0) ⊎ (start .args .to ≤ start .args .from + 64) → start .args .to
+          ≤ start .args .from + 64
       go (inl e) = absurd (counts e)
       go (inr h) = h
 

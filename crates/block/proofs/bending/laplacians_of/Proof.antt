@@ -87,7 +87,8 @@ returns c =
     let s = start l in
     laplacians-of (g s) (s .pre .0 .0) (on s .line) (on s) (s .pre .0 .2) (s .pre .0 .3) (s .args .newer .now) (ls l) _ (long l)
     (coe 0 1 (j. Filled (lineLaplacian (s .args .newer .now)) true (from l - 1) (set (set (ls l) 0 (pos 0)) (to l - (from l - 1)) (pos 0))
-    (c .laplacian-run .last .1 .1 .1 .1 .0) (l .before .before .clamped .ensures j) (l .before .clamped2 .ensures j)) (c .laplacian-run .ensures))
+    (c .laplacian-run .last .1 .1 .1 .1 .0) (l .before .before .clamped .ensures j) (l .before .clamped2 .ensures j))
+    (c .laplacian-run .ensures))
 
 pub laplacians-of-spec : {M : Type 1} → statement M
 laplacians-of-spec =

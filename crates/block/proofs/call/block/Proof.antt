@@ -28,7 +28,8 @@ module _ (c : tie.After-block-refusal) where
   refusal-is =
       let tested = c .before .before .before .wrong-length in
       c .block-refusal .ensures ∙
-      block-same (start .args .i) (start .args .older .now) (start .args .newer .now) (tested .result) wrong (start .args .pick) (start .args .hit)
+      block-same (start .args .i) (start .args .older .now) (start .args .newer .now) (tested .result) wrong (start .args .pick)
+      (start .args .hit)
       (λ size. tested .ensures ∙ long-is (start .args .i .grid) (length (start .args .work .now)) size)
 
 wrong-length-requires : tie.Need-wrong-length-requires
@@ -50,8 +51,10 @@ returns : tie.Need-returns
 returns c =
     let r = c .before .before in
     let a = start r .args in
-    let no : accepted (refuses r) ≡ false = ap accepted (sym (refusal-is r)) ∙ sym (c .before .is-nothing .ensures) ∙ not-true _ (c .if1 .taken) in
-    ap (λ (q : Refusal). blockLeft (record { steps = 0; refusal = q }) (a .older .now) (a .newer .now) (a .work .now) (a .samples .now)) (refusal-is r) ∙
+    let no : accepted (refuses r) ≡ false = ap accepted (sym (refusal-is r)) ∙ sym (c .before .is-nothing .ensures)
+    ∙ not-true _ (c .if1 .taken) in
+    ap (λ (q : Refusal). blockLeft (record { steps = 0; refusal = q }) (a .older .now) (a .newer .now) (a .work .now) (a .samples .now))
+    (refusal-is r) ∙
     sym (block-refused (a .i) (a .older .now) (a .newer .now) (a .work .now) (a .samples .now) (a .pick) (a .hit) no)
 
 carry-out-requires : tie.Need-carry-out-requires

@@ -1,9 +1,6 @@
 -- `carry_out` meets its contract: work begins and ends at 0, the steps are the paper's, and the levels are put back in their places.
-use mathlib.Core.Path.{_≡_, sym, _∙_}
-use mathlib.Core.List.{List}
-use Prim.Native.Nat.{ℕ}
+use mathlib.Core.Path.{_≡_, _∙_}
 use borrow.Author.Needs.{needs}
-use lib.IntN.{ℤ}
 use lib.ListN.{length}
 use Rattle.scheme.specs.declared.Refusal.the-variants.{Nothing}
 use Rattle.scheme.specs.Refusals.{wrongLength, blockRefusal}
@@ -31,7 +28,8 @@ module _ (c : tie.After-play-arg4) where
   plan = planned .make-plan .result
 
   -- no refusal applies
-  passes : blockRefusal (start .args .i) (start .args .older .now) (start .args .newer .now) (wrongLength (start .args .i .grid) (length (start .args .work .now)))
+  passes : blockRefusal (start .args .i) (start .args .older .now) (start .args .newer .now)
+      (wrongLength (start .args .i .grid) (length (start .args .work .now)))
       (start .args .pick) (start .args .hit) ≡ Nothing
   passes = start .pre
 
@@ -51,7 +49,8 @@ make-plan-requires : tie.Need-make-plan-requires
 make-plan-requires c κs =
     let a = c .args in
     instrument-passes (a .i)
-    (block-passes (a .i) (a .older .now) (a .newer .now) (wrongLength (a .i .grid) (length (a .work .now))) (a .pick) (a .hit) (c .pre) .instrument)
+    (block-passes (a .i) (a .older .now) (a .newer .now) (wrongLength (a .i .grid) (length (a .work .now))) (a .pick) (a .hit)
+    (c .pre) .instrument)
 
 slice-aggregate-row-edges : tie.Need-slice-aggregate-row-edges
 slice-aggregate-row-edges c = search needs
@@ -70,7 +69,8 @@ play-requires c κs =
     let a = start c .args in
     let m = planned c .make-plan in (
       (
-        first-steppable (a .i) (a .older .now) (a .newer .now) (a .work .now) (a .pick) (a .hit) (passes c) (plan c) (m .ensures .0) (m .ensures .1) _
+        first-steppable (a .i) (a .older .now) (a .newer .now) (a .work .now) (a .pick) (a .hit) (passes c) (plan c) (m .ensures .0)
+            (m .ensures .1) _
             (c .before .before .before .before .before .before .before .clear .ensures),
         pick-inside (a .i) (a .older .now) (a .newer .now) (a .work .now) (a .pick) (a .hit) (passes c) (plan c) (m .ensures .0),
       ),
@@ -82,7 +82,8 @@ settle-requires c κs =
     let p = begun c in
     let a = start p .args in
     let m = planned p .make-plan in
-    let newer = newer-as-older (a .i) (a .older .now) (a .newer .now) (a .work .now) (a .pick) (a .hit) (passes p) (plan p) (m .ensures .0) in
+    let newer = newer-as-older (a .i) (a .older .now) (a .newer .now) (a .work .now) (a .pick) (a .hit) (passes p) (plan p) (m .ensures .0)
+    in
     let work = work-as-older (a .i) (a .older .now) (a .newer .now) (a .work .now) (a .pick) (a .hit) (passes p) (plan p) (m .ensures .0) in
     search needs
 
@@ -111,8 +112,10 @@ returns c =
     let a = start p .args in
     let m = planned p .make-plan in
     let r = played (s .before) .play in
-    block-left (a .i) (a .older .now) (a .newer .now) (a .work .now) (a .pick) (a .hit) (passes p) (plan p) (m .ensures .0) (a .samples .now)
-    (coe 1 0 (j. Played (play (plan p .instrument) (a .pick) (a .hit) (a .older .now) (a .newer .now) (a .samples .now)) (length (a .samples .now)) (r .result .done)
+    block-left (a .i) (a .older .now) (a .newer .now) (a .work .now) (a .pick) (a .hit) (passes p) (plan p) (m .ensures .0)
+    (a .samples .now)
+    (coe 1 0 (j. Played (play (plan p .instrument) (a .pick) (a .hit) (a .older .now) (a .newer .now) (a .samples .now))
+    (length (a .samples .now)) (r .result .done)
     (s .settle .ensures .0 j) (s .settle .ensures .1 j) (r .last .1 .1 .1 .1 .1 .1 .0)) (r .ensures))
     (length (r .last .1 .1 .1 .1 .1 .0)) _ _ (work-kept (s .before)) (c .before .before .clear2 .ensures) (c .ending .ensures)
 

@@ -13,7 +13,8 @@ use Rattle.block.proofs.edges.row_edges.Tie as tie
 
 -- the rows passed have their moving columns
 abbrev Inv-loop : tie.InvT-loop
-Inv-loop g from₀ to₀ rows row₀ from to row = (row ≤ g .rows) × (length from ≡ length from₀) × (length to ≡ length to₀) × ((b : ℕ) → b < row → runAt from to b ≡ runOf g b)
+Inv-loop g from₀ to₀ rows row₀ from to row = (row ≤ g .rows) × (length from ≡ length from₀) × (length to ≡ length to₀)
+    × ((b : ℕ) → b < row → runAt from to b ≡ runOf g b)
 
 abbrev μ-loop : tie.MeasureT-loop
 μ-loop g from₀ to₀ rows row₀ from to row = g .rows - row
@@ -49,8 +50,10 @@ loop-again c =
       simp length-set (l .inv .1),
       simp length-set (l .inv .2),
       below-more _ (l .row)
-          (λ b h. ap₂ run (getD-set-other (l .from) (l .row) b _ 0 (λ e. omega arith)) (getD-set-other (l .to) (l .row) b _ 0 (λ e. omega arith)) ∙ l .inv .3 b h)
-          (ap₂ run (getD-set-same (l .from) (l .row) _ 0 (omega arith)) (getD-set-same (l .to) (l .row) _ 0 (omega arith)) ∙ c .movable-run .ensures),
+          (λ b h. ap₂ run (getD-set-other (l .from) (l .row) b _ 0 (λ e. omega arith))
+          (getD-set-other (l .to) (l .row) b _ 0 (λ e. omega arith)) ∙ l .inv .3 b h)
+          (ap₂ run (getD-set-same (l .from) (l .row) _ 0 (omega arith)) (getD-set-same (l .to) (l .row) _ 0 (omega arith))
+          ∙ c .movable-run .ensures),
     )
 
 same-length : tie.Need-same-length Inv-loop μ-loop

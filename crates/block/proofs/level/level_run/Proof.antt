@@ -1,11 +1,8 @@
 -- `level_run` meets its contract: the rows passed have their next values.
 use mathlib.Core.Path.{_≡_, _∙_}
-use mathlib.Core.Bool.{true}
 use Prim.Native.Nat.{_+_, _-_, _≤_, _<_, zero-le}
 use native.Mathlib.Omega.{arith}
-use borrow.Author.Needs.{needs}
 use borrow.Author.Tests.{not-true, not-false}
-use lib.ListN.{length}
 use Rattle.scheme.specs.declared.Grid.{Grid}
 use Rattle.scheme.specs.Instruments.{points}
 use Rattle.kinds.specs.declared.runs.Run.{Run}
@@ -14,7 +11,8 @@ use Rattle.block.specs.Edges.{runAt}
 use Rattle.block.specs.Roles.{Steppable}
 use Rattle.block.proofs.PlanLaws.{few-rows, few-points}
 use Rattle.block.proofs.FillLaws.{ran-fine}
-use Rattle.block.proofs.RowLaws.{RowRun, Rows, rows-start, rows-done, steppable-ready, run-here, row-room, run-moves, rows-stop, rows-more, stepped-all, stepped-not}
+use Rattle.block.proofs.RowLaws.{RowRun, Rows, rows-start, rows-done, steppable-ready, run-here, row-room, run-moves, rows-stop}
+use Rattle.block.proofs.RowLaws.{rows-more, stepped-all, stepped-not}
 use Rattle.block.proofs.level.level_run.Statement.{statement}
 use Rattle.block.proofs.level.level_run.Tie as tie
 
@@ -39,7 +37,8 @@ module _ (c : tie.In-loop Inv-loop μ-loop) where
   abbrev start : tie.Start Inv-loop μ-loop
   start = c .before .before
 
-  abbrev inv : Rows (start .args .plan .instrument) (start .args .hit) (start .args .older .now) (start .args .newer .now) (start .args .out .now)
+  abbrev inv : Rows (start .args .plan .instrument) (start .args .hit) (start .args .older .now) (start .args .newer .now)
+      (start .args .out .now)
       (c .before .loop .out) (c .before .loop .row) (c .before .loop .start)
   inv = c .before .loop .inv
 
@@ -113,7 +112,8 @@ returns : tie.Need-returns Inv-loop μ-loop
 returns c =
     let t = at-row (c .before) in
     let p = given (start t) in
-    stepped-not p (rows-stop p (inv t) (below t) (here t) (here-is t) (ran-fine (not-true _ (c .if1 .taken)) (c .before .before .row-run .ensures)))
+    stepped-not p (rows-stop p (inv t) (below t) (here t) (here-is t)
+    (ran-fine (not-true _ (c .if1 .taken)) (c .before .before .row-run .ensures)))
 
 add-row : tie.Need-add-row Inv-loop μ-loop
 add-row c = record { fits = omega (arith, few (at-row (c .before))) }
@@ -127,7 +127,8 @@ loop-less c = omega (arith, below (at-row (c .before)))
 loop-again : tie.Need-loop-again Inv-loop μ-loop
 loop-again c =
     let t = at-row (c .before) in
-    rows-more (given (start t)) (inv t) (below t) (here t) (here-is t) (ran-fine (not-false _ (c .if1 .left)) (c .before .before .row-run .ensures))
+    rows-more (given (start t)) (inv t) (below t) (here t) (here-is t)
+    (ran-fine (not-false _ (c .if1 .left)) (c .before .before .row-run .ensures))
 
 same-length-2 : tie.Need-same-length-2 Inv-loop μ-loop
 same-length-2 c = c .before .loop .inv .ran .long

@@ -1,8 +1,8 @@
 -- `row_run` meets its contract: stretch by stretch, one force on the points of each.
-use mathlib.Core.Path.{_≡_, refl, sym, ap, _∙_, subst}
-use mathlib.Core.Bool.{Bool, true, false}
+use mathlib.Core.Path.{_≡_, sym, _∙_, subst}
+use mathlib.Core.Bool.{Bool}
 use mathlib.Core.List.{List}
-use Prim.Native.Nat.{ℕ, _+_, _-_, _≤_, _<_}
+use Prim.Native.Nat.{ℕ, _-_, _≤_, _<_}
 use native.Mathlib.Omega.{arith}
 use borrow.Author.Needs.{needs}
 use borrow.Author.Tests.{not-true, not-false}
@@ -14,7 +14,6 @@ use Rattle.bounded.proofs.Num.{back}
 use Rattle.scheme.specs.declared.Grid.{Grid}
 use Rattle.scheme.specs.Instruments.{ceiling}
 use Rattle.scheme.specs.Step.{forceOf, nextAt}
-use Rattle.block.specs.declared.stretch.Stretch.{Stretch}
 use Rattle.block.specs.Plan.{Ready}
 use Rattle.block.specs.Run.{valueAt, Ran, Placed, Moves, Ends}
 use Rattle.block.proofs.FillLaws.{Running, running-start, running-on, running-stops, running-done, ran-fine, ran-same}
@@ -51,7 +50,8 @@ module _ (c : tie.Then1 Inv-loop μ-loop) where
   abbrev at : ℕ
   at = c .before .before .loop .at
 
-  abbrev inv : Running (nextAt (start .args .plan .instrument) (start .args .hit) (start .args .older .now) (start .args .newer .now)) (start .args .row .write)
+  abbrev inv : Running (nextAt (start .args .plan .instrument) (start .args .hit) (start .args .older .now) (start .args .newer .now))
+      (start .args .row .write)
       (start .args .row .base) (start .args .out .now) (start .args .row .from) (start .args .row .to) (c .before .before .loop .out) at
   inv = c .before .before .loop .inv
 
@@ -80,13 +80,16 @@ module _ (c : tie.After-stretch-end Inv-loop μ-loop) where
 
   -- the values with its force are the scheme's
   stretch-ran : {out : List ℤ} {r : Bool}
-      → Ran (valueAt (start turn .args .plan .instrument) f (start turn .args .older .now) (start turn .args .newer .now)) (start turn .args .row .write)
+      → Ran (valueAt (start turn .args .plan .instrument) f (start turn .args .older .now) (start turn .args .newer .now))
+      (start turn .args .row .write)
       (start turn .args .row .base) (turn .before .before .loop .out) out (at turn) end r
-      → Ran (nextAt (start turn .args .plan .instrument) (start turn .args .hit) (start turn .args .older .now) (start turn .args .newer .now))
+      → Ran (nextAt (start turn .args .plan .instrument) (start turn .args .hit) (start turn .args .older .now)
+      (start turn .args .newer .now))
       (start turn .args .row .write) (start turn .args .row .base) (turn .before .before .loop .out) out (at turn) end r
   stretch-ran q =
       ran-same
-      (λ k a b. next-value (start turn .args .plan .instrument) (start turn .args .hit) (start turn .args .older .now) (start turn .args .newer .now) f k
+      (λ k a b. next-value (start turn .args .plan .instrument) (start turn .args .hit) (start turn .args .older .now)
+      (start turn .args .newer .now) f k
       (stretch-moves .each k a b) (ends .one-force k a b)) q
 
 -- the force as it was stored
@@ -99,12 +102,16 @@ module _ (c : tie.After-out Inv-loop μ-loop) where
   at-end = c .before .before .before .before .before .before .before
 
   stretch-done : let s = start (turn at-end) in
-      Ran (valueAt (s .args .plan .instrument) (f at-end) (s .args .older .now) (s .args .newer .now)) (s .args .row .write) (s .args .row .base)
-      (turn at-end .before .before .loop .out) (c .before .points-run .last .1 .1 .1 .1 .1 .0) (at (turn at-end)) (end at-end) (c .before .points-run .result)
+      Ran (valueAt (s .args .plan .instrument) (f at-end) (s .args .older .now) (s .args .newer .now)) (s .args .row .write)
+      (s .args .row .base)
+      (turn at-end .before .before .loop .out) (c .before .points-run .last .1 .1 .1 .1 .1 .0) (at (turn at-end)) (end at-end)
+      (c .before .points-run .result)
   stretch-done =
       let s = start (turn at-end) in
-      subst (λ (f : ℤ). Ran (valueAt (s .args .plan .instrument) f (s .args .older .now) (s .args .newer .now)) (s .args .row .write) (s .args .row .base)
-      (turn at-end .before .before .loop .out) (c .before .points-run .last .1 .1 .1 .1 .1 .0) (at (turn at-end)) (end at-end) (c .before .points-run .result))
+      subst (λ (f : ℤ). Ran (valueAt (s .args .plan .instrument) f (s .args .older .now) (s .args .newer .now)) (s .args .row .write)
+      (s .args .row .base)
+      (turn at-end .before .before .loop .out) (c .before .points-run .last .1 .1 .1 .1 .1 .0) (at (turn at-end)) (end at-end)
+      (c .before .points-run .result))
       (force-is (c .before .before .before .before)) (c .before .points-run .ensures)
 
 loop-holds : tie.Need-loop-holds Inv-loop μ-loop
@@ -130,7 +137,8 @@ points-run-requires c κs =
     let s = start (turn e) in
     let p = placed s in (
       (
-        subst (λ (f : ℤ). Ready (s .args .plan) f (s .args .older .now) (s .args .newer .now)) (sym (force-is (c .before .before))) (ready-force (ready s) (f-low e)),
+        subst (λ (f : ℤ). Ready (s .args .plan) f (s .args .older .now) (s .args .newer .now)) (sym (force-is (c .before .before)))
+            (ready-force (ready s) (f-low e)),
         record {
           order = omega (arith, ends e .some);
           above = omega (arith, p .above, inv (turn e) .order);

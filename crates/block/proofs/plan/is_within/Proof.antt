@@ -1,16 +1,13 @@
 -- `is_within` meets its contract: by the limit that a numerator may not reach, on either side of zero.
-use mathlib.Core.Path.{_≡_, sym, ap, _∙_}
-use mathlib.Core.Bool.{Bool, not}
+use mathlib.Core.Path.{_≡_, sym, _∙_}
+use mathlib.Core.Bool.{Bool}
 use Prim.Native.Nat.{_^_}
-use native.Mathlib.Omega.{arith}
-use lib.IntN.{ℤ, pos, _-ℤ_}
 use lib.Signed.{ltZ}
 use mir.Syntax.{w64}
 use mir.Val.{toZ, ofZ}
 use Rattle.bounded.proofs.Num.{back}
 use Rattle.bounded.proofs.Expr.{E, at, num, _⊟_, fits, is}
-use Rattle.scheme.specs.Step.{divisor}
-use Rattle.block.specs.Plan.{Planned, limitOf}
+use Rattle.block.specs.Plan.{Planned}
 use Rattle.block.proofs.PlanLaws.{limit-low, within-limit, not-within}
 use Rattle.block.proofs.plan.is_within.Statement.{statement}
 use Rattle.block.proofs.plan.is_within.Tie as tie

@@ -3,7 +3,6 @@ use mathlib.Core.Path.{_≡_, sym, ap, _∙_, subst}
 use mathlib.Core.List.{List}
 use Prim.Native.Nat.{_+_, _-_, _^_, _<_}
 use native.Mathlib.Omega.{arith}
-use borrow.Author.Needs.{needs}
 use lib.IntN.{ℤ}
 use lib.ListN.{length}
 use mir.Syntax.{w16}
@@ -15,7 +14,8 @@ use Rattle.scheme.specs.Calls.{AfterSteps}
 use Rattle.scheme.specs.Claims.{LevelPasses}
 use Rattle.scheme.proofs.Laws.Refusals.{passes-low}
 use Rattle.block.specs.Roles.{Steppable, SteppedIn, olderOf, newerOf, outOf}
-use Rattle.block.proofs.PlayLaws.{Playing, playing-start, playing-steppable, samples-long, stepped-passes, playing-on, playing-ends, playing-done, playing-turned, played-kept, long-in-roles}
+use Rattle.block.proofs.PlayLaws.{Playing, playing-start, playing-steppable, samples-long, stepped-passes, playing-on, playing-ends}
+use Rattle.block.proofs.PlayLaws.{playing-done, playing-turned, played-kept, long-in-roles}
 use Rattle.block.proofs.play.play.Statement.{statement}
 use Rattle.block.proofs.play.play.Tie as tie
 
@@ -25,7 +25,8 @@ Inv-loop plan from to older₀ newer₀ work₀ samples₀ pick hit laplacians�
     (olderOf phase older newer work) (newerOf phase older newer work) (outOf phase older newer work) samples j
 
 abbrev μ-loop : tie.MeasureT-loop
-μ-loop plan from to older₀ newer₀ work₀ samples₀ pick hit laplacians₀ phase₀ j₀ older newer work samples laplacians phase j = length samples₀ - j
+μ-loop plan from to older₀ newer₀ work₀ samples₀ pick hit laplacians₀ phase₀ j₀ older newer work samples laplacians phase j =
+    length samples₀ - j
 
 -- what the caller showed
 module _ (s : tie.Start Inv-loop μ-loop) where
@@ -54,15 +55,18 @@ module _ (c : tie.At-loop Inv-loop μ-loop) where
   start = c .before
 
   abbrev whole : AfterSteps
-  whole = Calls.play (start .args .plan .instrument) (start .args .pick) (start .args .hit) (start .args .older .now) (start .args .newer .now) (start .args .samples .now)
+  whole = Calls.play (start .args .plan .instrument) (start .args .pick) (start .args .hit) (start .args .older .now)
+      (start .args .newer .now) (start .args .samples .now)
 
   abbrev inv : Playing (start .args .plan .instrument) (start .args .pick) (start .args .hit) whole (length (start .args .samples .now))
-      (olderOf (c .loop .phase) (c .loop .older) (c .loop .newer) (c .loop .work)) (newerOf (c .loop .phase) (c .loop .older) (c .loop .newer) (c .loop .work))
+      (olderOf (c .loop .phase) (c .loop .older) (c .loop .newer) (c .loop .work))
+      (newerOf (c .loop .phase) (c .loop .older) (c .loop .newer) (c .loop .work))
       (outOf (c .loop .phase) (c .loop .older) (c .loop .newer) (c .loop .work)) (c .loop .samples) (c .loop .j)
   inv = c .loop .inv
 
   loop-longs : Longs start (c .loop .older) (c .loop .newer) (c .loop .work)
-  loop-longs = longs start (long-in-roles (c .loop .phase) (points (g start)) _ _ _ (inv .older-passes .long) (inv .newer-passes .long) (inv .room .long))
+  loop-longs = longs start (long-in-roles (c .loop .phase) (points (g start)) _ _ _ (inv .older-passes .long) (inv .newer-passes .long)
+      (inv .room .long))
 
 -- a step
 module _ (c : tie.After-work Inv-loop μ-loop) where
@@ -84,7 +88,8 @@ module _ (c : tie.After-work Inv-loop μ-loop) where
   abbrev work : List ℤ
   work = stepped .step-in-roles .last .1 .1 .1 .1 .1 .1 .0
 
-  abbrev left : SteppedIn (at .loop .phase) (start at .args .plan .instrument) (struck .hit-of .result) (at .loop .older) (at .loop .newer) (at .loop .work)
+  abbrev left : SteppedIn (at .loop .phase) (start at .args .plan .instrument) (struck .hit-of .result) (at .loop .older) (at .loop .newer)
+      (at .loop .work)
       older newer work (stepped .step-in-roles .result)
   left = stepped .step-in-roles .ensures
 
@@ -93,12 +98,14 @@ module _ (c : tie.After-work Inv-loop μ-loop) where
 
   step-longs : Longs (start at) older newer work
   step-longs =
-      longs (start at) (long-in-roles (at .loop .phase) (points (g (start at))) older newer work (ap length (left .older-kept) ∙ inv at .older-passes .long)
+      longs (start at) (long-in-roles (at .loop .phase) (points (g (start at))) older newer work
+      (ap length (left .older-kept) ∙ inv at .older-passes .long)
       (ap length (left .newer-kept) ∙ inv at .newer-passes .long) (left .stepped .long))
 
 -- one that was done
 module _ (c : tie.Else1 Inv-loop μ-loop) where
-  passes : LevelPasses (g (start (at (c .before)))) (outOf (at (c .before) .loop .phase) (older (c .before)) (newer (c .before)) (work (c .before)))
+  passes : LevelPasses (g (start (at (c .before))))
+      (outOf (at (c .before) .loop .phase) (older (c .before)) (newer (c .before)) (work (c .before)))
   passes = let w = c .before in stepped-passes (inv (at w)) (place w) (struck w .hit-of .ensures) (left w .stepped) (c .if1 .left)
 
   place-low : at (c .before) .loop .j < 2 ^ 62

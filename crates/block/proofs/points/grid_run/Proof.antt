@@ -1,6 +1,5 @@
 -- `grid_run` meets its contract: each point has its four neighbours in the grid.
 use mathlib.Core.Path.{_≡_}
-use mathlib.Core.Bool.{true}
 use Prim.Native.Nat.{ℕ, _+_, _-_, _≤_, _<_}
 use native.Mathlib.Omega.{arith}
 use borrow.Author.Needs.{needs}
@@ -51,7 +50,8 @@ module _ (c : tie.Then1 Inv-loop μ-loop) where
   abbrev k : ℕ
   k = c .before .before .loop .at
 
-  abbrev inv : Running (value start) (start .args .s .write) (start .args .s .base) (start .args .out .now) (start .args .s .from) (start .args .s .to)
+  abbrev inv : Running (value start) (start .args .s .write) (start .args .s .base) (start .args .out .now) (start .args .s .from)
+      (start .args .s .to)
       (c .before .before .loop .out) k
   inv = c .before .before .loop .inv
 
@@ -62,7 +62,8 @@ module _ (c : tie.Then1 Inv-loop μ-loop) where
   last = c .if1 .taken
 
   -- where it stands
-  inner : (0 < column (g start) k) × (column (g start) k + 1 < g start .columns) × (0 < row (g start) k) × (row (g start) k + 1 < g start .rows)
+  inner : (0 < column (g start) k) × (column (g start) k + 1 < g start .columns) × (0 < row (g start) k)
+      × (row (g start) k + 1 < g start .rows)
   inner = grid-in (start .args .plan .instrument) (ready start .planned .passes) (grid start) k (moves start .each k first last)
 
   wide : 1 < g start .columns
@@ -90,7 +91,8 @@ module _ (c : tie.Then1 Inv-loop μ-loop) where
   beside : Neighbouring (start .args .plan .instrument) (start .args .newer .now) k (red sum#) (pos 4) (pos 0)
   beside =
       said (λ (z : ℤ). Neighbouring (start .args .plan .instrument) (start .args .newer .now) k z (pos 4) (pos 0)) sum# tt
-      (grid-beside (start .args .plan .instrument) (ready start .planned .passes) (grid start) (start .args .newer .now) k (moves start .each k first last))
+      (grid-beside (start .args .plan .instrument) (ready start .planned .passes) (grid start) (start .args .newer .now) k
+      (moves start .each k first last))
 
 -- the same, once the point is done
 abbrev turn : tie.After-out Inv-loop μ-loop → tie.Then1 Inv-loop μ-loop
@@ -156,7 +158,8 @@ same-length c = search needs
 returns : tie.Need-returns Inv-loop μ-loop
 returns c =
     let t = turn (c .before) in
-    running-stops (inv t) (omega arith) (omega (arith, last t)) (ran-fine (not-true _ (c .if2 .taken)) (c .before .before .next-point .ensures))
+    running-stops (inv t) (omega arith) (omega (arith, last t))
+    (ran-fine (not-true _ (c .if2 .taken)) (c .before .before .next-point .ensures))
 
 add-at : tie.Need-add-at Inv-loop μ-loop
 add-at c = let h = below (turn (c .before)) in search needs
@@ -167,7 +170,8 @@ loop-less c = omega (arith, last (turn (c .before)))
 loop-again : tie.Need-loop-again Inv-loop μ-loop
 loop-again c =
     let t = turn (c .before) in
-    running-on (inv t) (omega arith) (omega (arith, last t)) (ran-fine (not-false _ (c .if2 .left)) (c .before .before .next-point .ensures))
+    running-on (inv t) (omega arith) (omega (arith, last t))
+    (ran-fine (not-false _ (c .if2 .left)) (c .before .before .next-point .ensures))
 
 same-length-2 : tie.Need-same-length-2 Inv-loop μ-loop
 same-length-2 c = search needs

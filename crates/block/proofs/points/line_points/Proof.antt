@@ -1,6 +1,6 @@
 -- `line_points` meets its contract: the first point, the inner points, the last point.
 use mathlib.Core.Path.{_≡_, refl, sym, _∙_, subst}
-use mathlib.Core.Bool.{Bool, true, false}
+use mathlib.Core.Bool.{Bool}
 use mathlib.Core.List.{List}
 use mathlib.Core.Logic.{_⊎_}
 use Prim.Native.Nat.{ℕ, _-_, _≤_, _<_, zero-le}
@@ -15,7 +15,8 @@ use Rattle.block.specs.Plan.{Ready}
 use Rattle.block.specs.Run.{Advanced, Placed, Moves, OnLine, FreeEnd, LaplaciansOf, partOf}
 use Rattle.block.proofs.FillLaws.{placed-after, ran-fine}
 use Rattle.block.proofs.StretchLaws.{part-placed}
-use Rattle.block.proofs.LineLaws.{three, first-part, last-part, inner-line, inner-moves, inner-has, first-stops, inner-stops, all-parts}
+use Rattle.block.proofs.LineLaws.{three, first-part, last-part, inner-line, inner-moves, inner-has, first-stops, inner-stops}
+use Rattle.block.proofs.LineLaws.{all-parts}
 use Rattle.block.proofs.points.line_points.Statement.{statement}
 use Rattle.block.proofs.points.line_points.Tie as tie
 
@@ -60,7 +61,8 @@ module _ (c : tie.Start) where
     places : {m : ℕ} → a ≤ e → m ≡ length (c .args .out .now) → Placed q m
     places {m} h l = subst (λ (q : Stretch). Placed q m) (sym is) (placed-after (part-placed a e h placed) l)
 
-    advanced : {out₀ out : List ℤ} {r t : Bool} → r ≡ t → Advanced (c .args .plan) q (c .args .older .now) (c .args .newer .now) out₀ out (q .from) (q .to) r
+    advanced : {out₀ out : List ℤ} {r t : Bool} → r ≡ t
+        → Advanced (c .args .plan) q (c .args .older .now) (c .args .newer .now) out₀ out (q .from) (q .to) r
         → Advanced (c .args .plan) s (c .args .older .now) (c .args .newer .now) out₀ out (partOf s a e .from) (partOf s a e .to) t
     advanced {out₀} {out} {r} same p =
         ran-fine same
@@ -75,9 +77,6 @@ at-inner c = c .before .before .before .before .before
 
 -- the first point
 module _ (c : tie.After-out) where
-  abbrev first-done : Bool
-  first-done = c .before .free-end .result
-
   first-long : length (c .before .free-end .last .1 .1 .1 .1 .1 .0) ≡ length (at-first c .args .out .now)
   first-long = c .before .free-end .ensures .long
 
@@ -94,7 +93,8 @@ free-end-requires c κs =
     let s₀ = c .before .before in
     let is = c .before .part .ensures in (
       (part-ready s₀ 0 1 is, places s₀ 0 1 is zero-le refl),
-      subst (λ (q : Stretch). FreeEnd (s₀ .args .plan .instrument) 1 (q .from) (q .to)) (sym is) (first-part (s s₀) (ready s₀) (line s₀) (all s₀) (some s₀)),
+      subst (λ (q : Stretch). FreeEnd (s₀ .args .plan .instrument) 1 (q .from) (q .to)) (sym is)
+          (first-part (s s₀) (ready s₀) (line s₀) (all s₀) (some s₀)),
     )
 
 same-length : tie.Need-same-length
@@ -140,7 +140,8 @@ returns-2 c =
     let e = c .before .before .before .before .before in
     inner-stops (s s₀) (ready s₀) (line s₀) (all s₀) (some s₀) (placed s₀ .above)
     (advanced s₀ 0 1 (o .before .before .before .part .ensures) (not-false _ (e .if1 .left)) (o .before .free-end .ensures))
-    (advanced s₀ 1 (n s₀ - 1) (c .before .before .before .before .part2 .ensures) (not-true _ (c .if2 .taken)) (c .before .before .line-run .ensures))
+    (advanced s₀ 1 (n s₀ - 1) (c .before .before .before .before .part2 .ensures) (not-true _ (c .if2 .taken))
+    (c .before .before .line-run .ensures))
 
 sub-free-end : tie.Need-sub-free-end
 sub-free-end c = omega (arith, wide (at-first (at-inner (c .before))))
@@ -171,8 +172,10 @@ returns-3 c =
     let o = at-inner i in
     let s₀ = at-first o in
     all-parts (s s₀) (ready s₀) (line s₀) (all s₀) (some s₀) (placed s₀ .above)
-    (advanced s₀ 0 1 (o .before .before .before .part .ensures) (not-false _ (i .before .before .before .before .if1 .left)) (o .before .free-end .ensures))
-    (advanced s₀ 1 (n s₀ - 1) (i .before .before .before .part2 .ensures) (not-false _ (c .before .before .before .before .if2 .left)) (i .before .line-run .ensures))
+    (advanced s₀ 0 1 (o .before .before .before .part .ensures) (not-false _ (i .before .before .before .before .if1 .left))
+    (o .before .free-end .ensures))
+    (advanced s₀ 1 (n s₀ - 1) (i .before .before .before .part2 .ensures) (not-false _ (c .before .before .before .before .if2 .left))
+    (i .before .line-run .ensures))
     (advanced s₀ (n s₀ - 1) (n s₀) (c .before .before .before .part3 .ensures) refl (c .before .free-end2 .ensures))
 
 pub line-points-spec : {M : Type 1} → statement M

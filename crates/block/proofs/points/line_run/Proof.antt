@@ -1,8 +1,7 @@
 -- `line_run` meets its contract: each point has its two neighbours on the line, and L of L by three values of L.
-use mathlib.Core.Path.{_≡_, refl, sym, ap, _∙_, subst}
-use mathlib.Core.Bool.{true}
+use mathlib.Core.Path.{_≡_, sym, _∙_, subst}
 use mathlib.Core.Logic.{_⊎_}
-use Prim.Native.Nat.{ℕ, _+_, _-_, _*_, _≤_, _<_}
+use Prim.Native.Nat.{ℕ, _+_, _-_, _≤_, _<_}
 use native.Mathlib.Omega.{arith}
 use borrow.Author.Needs.{needs}
 use borrow.Author.Tests.{not-true, not-false}
@@ -12,13 +11,11 @@ use mir.Syntax.{w64}
 use mir.Val.{toZ, ofZ}
 use Rattle.bounded.proofs.Num.{back}
 use Rattle.bounded.proofs.Expr.{E, fits, said, red}
-use Rattle.scheme.specs.Instruments.{ceiling}
 use Rattle.block.specs.Plan.{Ready, Neighbouring}
 use Rattle.block.specs.Run.{valueAt, OnLine, LaplaciansOf, Bendable, bendingOf}
 use Rattle.block.proofs.KindLaws.{line-long}
 use Rattle.block.proofs.BesideLaws.{beside#, line-beside, bendable}
 use Rattle.block.proofs.FillLaws.{placed-after, Running, running-start, running-on, running-stops, running-done, ran-fine}
-use Rattle.block.proofs.Held.{held-below}
 use Rattle.block.proofs.points.line_run.Statement.{statement}
 use Rattle.block.proofs.points.line_run.Tie as tie
 
@@ -40,7 +37,8 @@ module _ (s : tie.Start Inv-loop μ-loop) where
   abbrev m : ℕ
   m = s .args .plan .instrument .settings .m
 
-  has : (m ≡ 0) ⊎ LaplaciansOf (s .args .plan .instrument .grid) (s .args .newer .now) (s .args .s .from) (s .args .s .to) (s .args .laplacians .now)
+  has : (m ≡ 0) ⊎ LaplaciansOf (s .args .plan .instrument .grid) (s .args .newer .now) (s .args .s .from) (s .args .s .to)
+      (s .args .laplacians .now)
   has = s .pre .1 .1
 
   abbrev value : ℕ → ℤ
@@ -58,7 +56,8 @@ module _ (c : tie.Then1 Inv-loop μ-loop) where
   abbrev k : ℕ
   k = c .before .before .loop .at
 
-  abbrev inv : Running (value start) (start .args .s .write) (start .args .s .base) (start .args .out .now) (start .args .s .from) (start .args .s .to)
+  abbrev inv : Running (value start) (start .args .s .write) (start .args .s .base) (start .args .out .now) (start .args .s .from)
+      (start .args .s .to)
       (c .before .before .loop .out) k
   inv = c .before .before .loop .inv
 
@@ -84,12 +83,14 @@ module _ (c : tie.Then1 Inv-loop μ-loop) where
   beside : Neighbouring (start .args .plan .instrument) (start .args .newer .now) k (red sum#) (pos 2) bending
   beside =
       said (λ (z : ℤ). Neighbouring (start .args .plan .instrument) (start .args .newer .now) k z (pos 2) bending) sum# tt
-      (line-beside (start .args .plan .instrument) (ready start .planned .passes) (on start) (start .args .newer .now) (start .args .laplacians .now)
+      (line-beside (start .args .plan .instrument) (ready start .planned .passes) (on start) (start .args .newer .now)
+      (start .args .laplacians .now)
       (ready start .newer-low) (has start) k first last)
 
   bends : Bendable (m start) (start .args .laplacians .now) (k - start .args .s .from)
   bends =
-      bendable (start .args .plan .instrument) (ready start .planned .passes) (on start) (start .args .newer .now) (start .args .laplacians .now)
+      bendable (start .args .plan .instrument) (ready start .planned .passes) (on start) (start .args .newer .now)
+      (start .args .laplacians .now)
       (ready start .newer-low) (has start) k first last
 
 -- the same, once the point is done
@@ -142,7 +143,8 @@ same-length c = search needs
 returns : tie.Need-returns Inv-loop μ-loop
 returns c =
     let t = turn (c .before) in
-    running-stops (inv t) (omega arith) (omega (arith, last t)) (ran-fine (not-true _ (c .if2 .taken)) (c .before .before .next-point .ensures))
+    running-stops (inv t) (omega arith) (omega (arith, last t))
+    (ran-fine (not-true _ (c .if2 .taken)) (c .before .before .next-point .ensures))
 
 add-at : tie.Need-add-at Inv-loop μ-loop
 add-at c = let h = inside (turn (c .before)) in search needs
@@ -153,7 +155,8 @@ loop-less c = omega (arith, last (turn (c .before)))
 loop-again : tie.Need-loop-again Inv-loop μ-loop
 loop-again c =
     let t = turn (c .before) in
-    running-on (inv t) (omega arith) (omega (arith, last t)) (ran-fine (not-false _ (c .if2 .left)) (c .before .before .next-point .ensures))
+    running-on (inv t) (omega arith) (omega (arith, last t))
+    (ran-fine (not-false _ (c .if2 .left)) (c .before .before .next-point .ensures))
 
 same-length-2 : tie.Need-same-length-2 Inv-loop μ-loop
 same-length-2 c = search needs

@@ -87,11 +87,13 @@ module _ (c : tie.After-numerator) where
   numerator-is =
       let s = start in
       back (c .numerator .result) (c .numerator .ok) ∙ c .numerator .ensures ∙
-      (λ j. numeratorOf (s .args .plan .instrument .settings) (u-is s j) (sum-is s j -ℤ count-is s j *ℤ u-is s j) (b-is s j) (p-is s j) (f-is s j))
+      (λ j. numeratorOf (s .args .plan .instrument .settings) (u-is s j) (sum-is s j -ℤ count-is s j *ℤ u-is s j) (b-is s j) (p-is s j)
+      (f-is s j))
 
   -- what it is rounded to is the point's value
   rounded : roundAway stored (divisor (start .args .plan .instrument .settings)) ≡ value start (start .args .at)
-  rounded = ap (λ (n : ℤ). roundAway n (divisor (start .args .plan .instrument .settings))) numerator-is ∙ value-is (ready start) (beside start)
+  rounded = ap (λ (n : ℤ). roundAway n (divisor (start .args .plan .instrument .settings))) numerator-is
+      ∙ value-is (ready start) (beside start)
 
   numerator-low : natAbs stored ≤ 2 ^ 62
   numerator-low = subst (λ (z : ℤ). natAbs z ≤ 2 ^ 62) (sym numerator-is) (partial-sums _ _ _ _ _ _ (given start .terms) .five)
@@ -121,7 +123,8 @@ numerator-requires : tie.Need-numerator-requires
 numerator-requires c κs =
     let s = c .before .before .before in (
       ready s .planned,
-      coe 1 0 (j. Updatable (s .args .plan .instrument .settings) (u-is s j) (sum-is s j) (count-is s j) (b-is s j) (p-is s j) (f-is s j)) (given s),
+      coe 1 0 (j. Updatable (s .args .plan .instrument .settings) (u-is s j) (sum-is s j) (count-is s j) (b-is s j) (p-is s j) (f-is s j))
+          (given s),
     )
 
 is-within-requires : tie.Need-is-within-requires

@@ -1,8 +1,7 @@
 -- `sample_in_roles` meets its contract: the slice that the next level was put into is read.
 use mathlib.Core.Path.{_≡_, sym, ap, _∙_, subst}
 use mathlib.Core.List.{List}
-use Prim.Native.Nat.{ℕ, _<_, _≤_}
-use native.Mathlib.Omega.{arith}
+use Prim.Native.Nat.{_<_, _≤_}
 use lib.IntN.{ℤ, natAbs}
 use lib.ListN.{length}
 use mir.Syntax.{w16, w64}
@@ -19,7 +18,8 @@ use Rattle.block.proofs.roles.sample_in_roles.Statement.{statement}
 use Rattle.block.proofs.roles.sample_in_roles.Tie as tie
 
 -- the slice xs has the role
-module _ (s : tie.Start) {xs : List ℤ} (role : outOf (s .args .phase) (s .args .older .now) (s .args .newer .now) (s .args .work .now) ≡ xs) where
+module _ (s : tie.Start) {xs : List ℤ} (role : outOf (s .args .phase) (s .args .older .now) (s .args .newer .now) (s .args .work .now)
+    ≡ xs) where
   inside : s .args .pick < length xs
   inside = subst (λ (xs : List ℤ). s .args .pick < length xs) role (s .pre .0)
 
@@ -37,7 +37,8 @@ module _ (s : tie.Start) {xs : List ℤ} (role : outOf (s .args .phase) (s .args
 first : (c : tie.At-match-keys1) → let a = c .before .args in outOf (a .phase) (a .older .now) (a .newer .now) (a .work .now) ≡ a .work .now
 first c = roles-0 _ _ _ _ (c .match .keys1) .out-is
 
-second : (c : tie.At-match-keys2) → let a = c .before .args in outOf (a .phase) (a .older .now) (a .newer .now) (a .work .now) ≡ a .older .now
+second : (c : tie.At-match-keys2) → let a = c .before .args in
+    outOf (a .phase) (a .older .now) (a .newer .now) (a .work .now) ≡ a .older .now
 second c = roles-1 _ _ _ _ (c .match .keys2) .out-is
 
 third : (c : tie.At-match-rest) → let a = c .before .args in outOf (a .phase) (a .older .now) (a .newer .now) (a .work .now) ≡ a .newer .now
@@ -71,13 +72,16 @@ sample-requires-3 : tie.Need-sample-requires-3
 sample-requires-3 c κs = low (c .before .before) (third (c .before))
 
 returns : tie.Need-returns
-returns c = sampled (c .before .before .before) (first (c .before .before)) _ (toZ-ofZ w16 (c .sample .result) (record { sfits = c .sample .ok }) ∙ c .sample .ensures)
+returns c = sampled (c .before .before .before) (first (c .before .before)) _
+    (toZ-ofZ w16 (c .sample .result) (record { sfits = c .sample .ok }) ∙ c .sample .ensures)
 
 returns-2 : tie.Need-returns-2
-returns-2 c = sampled (c .before .before .before) (second (c .before .before)) _ (toZ-ofZ w16 (c .sample2 .result) (record { sfits = c .sample2 .ok }) ∙ c .sample2 .ensures)
+returns-2 c = sampled (c .before .before .before) (second (c .before .before)) _
+    (toZ-ofZ w16 (c .sample2 .result) (record { sfits = c .sample2 .ok }) ∙ c .sample2 .ensures)
 
 returns-3 : tie.Need-returns-3
-returns-3 c = sampled (c .before .before .before) (third (c .before .before)) _ (toZ-ofZ w16 (c .sample3 .result) (record { sfits = c .sample3 .ok }) ∙ c .sample3 .ensures)
+returns-3 c = sampled (c .before .before .before) (third (c .before .before)) _
+    (toZ-ofZ w16 (c .sample3 .result) (record { sfits = c .sample3 .ok }) ∙ c .sample3 .ensures)
 
 pub sample-in-roles-spec : {M : Type 1} → statement M
 sample-in-roles-spec =

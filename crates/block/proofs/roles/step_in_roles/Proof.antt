@@ -34,7 +34,8 @@ same-length-3 : tie.Need-same-length-3
 same-length-3 c = search needs
 
 returns : tie.Need-returns
-returns c = let m = c .before .before .before .before .before .before in stepped-in (first m _ _ _) (first m _ _ _) (c .before .level-run .ensures)
+returns c = let m = c .before .before .before .before .before .before in
+    stepped-in (first m _ _ _) (first m _ _ _) (c .before .level-run .ensures)
 
 same-length-4 : tie.Need-same-length-4
 same-length-4 c = search needs
@@ -46,7 +47,8 @@ same-length-6 : tie.Need-same-length-6
 same-length-6 c = search needs
 
 returns-2 : tie.Need-returns-2
-returns-2 c = let m = c .before .before .before .before .before .before in stepped-in (second m _ _ _) (second m _ _ _) (c .before .level-run2 .ensures)
+returns-2 c = let m = c .before .before .before .before .before .before in
+    stepped-in (second m _ _ _) (second m _ _ _) (c .before .level-run2 .ensures)
 
 same-length-7 : tie.Need-same-length-7
 same-length-7 c = search needs
@@ -58,7 +60,8 @@ same-length-9 : tie.Need-same-length-9
 same-length-9 c = search needs
 
 returns-3 : tie.Need-returns-3
-returns-3 c = let m = c .before .before .before .before .before .before in stepped-in (third m _ _ _) (third m _ _ _) (c .before .level-run3 .ensures)
+returns-3 c = let m = c .before .before .before .before .before .before in
+    stepped-in (third m _ _ _) (third m _ _ _) (c .before .level-run3 .ensures)
 
 pub step-in-roles-spec : {M : Type 1} → statement M
 step-in-roles-spec =

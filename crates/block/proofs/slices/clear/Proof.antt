@@ -41,7 +41,8 @@ same-length c = search needs
 returns : tie.Need-returns Inv-loop μ-loop
 returns c =
     let g = c .before .loop .inv in
-    filled-all (replicate (length (c .before .before .args .xs .now)) (pos 0)) (omega arith) (length-replicate _ _) (λ j. sym (zeros (length (c .before .before .args .xs .now)) j))
+    filled-all (replicate (length (c .before .before .args .xs .now)) (pos 0)) (omega arith) (length-replicate _ _)
+    (λ j. sym (zeros (length (c .before .before .args .xs .now)) j))
     (filling-done g (omega (arith, g .filled .long)))
 
 pub clear-spec : {M : Type 1} → statement M

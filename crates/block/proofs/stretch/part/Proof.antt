@@ -1,9 +1,5 @@
 -- `part` meets its contract: both ends of the range are held to the stretch.
-use mathlib.Core.Path.{_≡_}
-use Prim.Native.Nat.{ℕ}
 use borrow.Author.Needs.{needs}
-use lib.IntN.{ℤ}
-use Rattle.block.specs.declared.stretch.Stretch.{Stretch}
 use Rattle.block.proofs.Held.{held}
 use Rattle.block.proofs.stretch.part.Statement.{statement}
 use Rattle.block.proofs.stretch.part.Tie as tie

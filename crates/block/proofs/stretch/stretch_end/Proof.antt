@@ -79,7 +79,8 @@ returns-4 : tie.Need-returns-4
 returns-4 c =
     let p = c .before .before .before in
     let later : start p .args .a < point p = omega (arith, c .before .before .if2 .left, c .before .if3 .left) in
-    subst (Stretched p (start p .args .hit)) (sym (c .clamped2 .ensures)) (struck p (ends-before (end-at (joined p)) (point p) (force p) later))
+    subst (Stretched p (start p .args .hit)) (sym (c .clamped2 .ensures))
+    (struck p (ends-before (end-at (joined p)) (point p) (force p) later))
 
 pub stretch-end-spec : {M : Type 1} → statement M
 stretch-end-spec =

@@ -1,6 +1,5 @@
 -- `first` meets its contract.
-use mathlib.Core.Path.{_≡_, sym, ap, _∙_}
-use mathlib.Core.Bool.{Bool, cond}
+use mathlib.Core.Path.{sym}
 use borrow.Author.Needs.{needs}
 use Rattle.checks.proofs.groups.first.Statement.{statement}
 use Rattle.checks.proofs.groups.first.Tie as tie

@@ -18,7 +18,8 @@ two-requires : tie.Need-two-requires
 two-requires c κs = search needs
 
 returns : tie.Need-returns
-returns c = c .two .ensures ∙ ap₂ (λ (x y : Bool). lowest (x ⇒ UnknownKind ∷ y ⇒ WrongSize ∷ [])) (ap not (c .before .before .is-within .ensures)) (ap not (c .before .has-size .ensures))
+returns c = c .two .ensures ∙ ap₂ (λ (x y : Bool). lowest (x ⇒ UnknownKind ∷ y ⇒ WrongSize ∷ []))
+    (ap not (c .before .before .is-within .ensures)) (ap not (c .before .has-size .ensures))
 
 pub grid-refusal-spec : {M : Type 1} → statement M
 grid-refusal-spec = tie.close (tie.spec is-within-requires has-size-requires two-requires returns)

@@ -18,7 +18,8 @@ two-requires : tie.Need-two-requires
 two-requires c κs = search needs
 
 returns : tie.Need-returns
-returns c = c .two .ensures ∙ ap₂ (λ (x y : Bool). lowest (x ⇒ NotMoving ∷ y ⇒ TooStrong ∷ [])) (c .before .before .not-moving .ensures) (c .before .too-strong .ensures)
+returns c = c .two .ensures ∙ ap₂ (λ (x y : Bool). lowest (x ⇒ NotMoving ∷ y ⇒ TooStrong ∷ [])) (c .before .before .not-moving .ensures)
+    (c .before .too-strong .ensures)
 
 pub hit-refusal-spec : {M : Type 1} → statement M
 hit-refusal-spec =

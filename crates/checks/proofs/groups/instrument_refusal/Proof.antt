@@ -19,7 +19,8 @@ returns : tie.Need-returns
 unfolding instrumentRefusal
 returns c =
     let i = c .before .before .before .args .i in
-    c .first .ensures ∙ append-is (gridChecks lastKind (i .grid)) (settingsChecks i) tt (c .before .before .grid-refusal .ensures) (c .before .settings-refusal .ensures)
+    c .first .ensures ∙ append-is (gridChecks lastKind (i .grid)) (settingsChecks i) tt (c .before .before .grid-refusal .ensures)
+    (c .before .settings-refusal .ensures)
 
 pub instrument-refusal-spec : {M : Type 1} → statement M
 instrument-refusal-spec =

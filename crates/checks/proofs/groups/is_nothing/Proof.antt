@@ -25,7 +25,8 @@ returns c = sym (ap accepted (c .enum-told .given .1))
 
 returns-2 : tie.Need-returns-2
 unfolding others
-returns-2 c = sym (not-so (λ e. miss others 0 tt (subst (λ (r : Refusal). OneOf others (tagOf the-type r)) (accepted-is (c .before .args .r) e) (c .match .keys2))))
+returns-2 c = sym (not-so (λ e. miss others 0 tt
+    (subst (λ (r : Refusal). OneOf others (tagOf the-type r)) (accepted-is (c .before .args .r) e) (c .match .keys2))))
 
 pub is-nothing-spec : {M : Type 1} → statement M
 is-nothing-spec = tie.close (tie.spec enum-told returns returns-2)

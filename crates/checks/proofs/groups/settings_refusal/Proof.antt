@@ -18,7 +18,8 @@ two-requires : tie.Need-two-requires
 two-requires c κs = search needs
 
 returns : tie.Need-returns
-returns c = c .two .ensures ∙ ap₂ (λ (x y : Bool). lowest (x ⇒ Coefficient ∷ y ⇒ Unstable ∷ [])) (c .before .before .wrong-coefficient .ensures) (ap not (c .before .is-stable .ensures))
+returns c = c .two .ensures ∙ ap₂ (λ (x y : Bool). lowest (x ⇒ Coefficient ∷ y ⇒ Unstable ∷ []))
+    (c .before .before .wrong-coefficient .ensures) (ap not (c .before .is-stable .ensures))
 
 pub settings-refusal-spec : {M : Type 1} → statement M
 settings-refusal-spec =

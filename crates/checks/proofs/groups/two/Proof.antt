@@ -1,8 +1,6 @@
 -- `two` meets its contract.
-use mathlib.Core.Path.{_≡_, sym, ap, _∙_}
-use mathlib.Core.Bool.{Bool}
-use mathlib.Core.List.{[], _∷_}
-use Rattle.scheme.specs.Refusals.{_⇒_, lowest}
+use mathlib.Core.Path.{_∙_}
+use mathlib.Core.List.{[]}
 use borrow.Author.Needs.{needs}
 use Rattle.checks.proofs.groups.two.Statement.{statement}
 use Rattle.checks.proofs.groups.two.Tie as tie

@@ -1,5 +1,5 @@
 -- `block_refusal` meets its contract: the input first, then the state of two levels that 6 let pass.
-use mathlib.Core.Path.{_≡_, sym, ap, ap₂, _∙_}
+use mathlib.Core.Path.{_≡_, ap, ap₂, _∙_}
 use mathlib.Core.Bool.{Bool, true, _||_}
 use mathlib.Core.List.{List}
 use borrow.Author.Tests.{not-false}
@@ -9,8 +9,7 @@ use Rattle.scheme.specs.Step.{someBeyond}
 use Rattle.scheme.specs.Refusals.{wrongLength, fixedNotZero, Check, lowest, stateChecks, inputChecks, blockRefusal}
 use Rattle.scheme.proofs.Laws.Bools.{or-neither}
 use Rattle.scheme.proofs.Laws.Refusals.{NoneApplies}
-use Rattle.checks.specs.Refused.{notLong}
-use Rattle.checks.proofs.RefusalLaws.{passed, refused-by, goes-on, instrument-in, long-is, input-same, state-is}
+use Rattle.checks.proofs.RefusalLaws.{passed, refused-by, goes-on, long-is, input-same, state-is}
 use borrow.Author.Needs.{needs}
 use Rattle.checks.proofs.refusals.block_refusal.Statement.{statement}
 use Rattle.checks.proofs.refusals.block_refusal.Tie as tie
@@ -27,17 +26,20 @@ module _ (c : tie.After-input-refusal) where
   input = inputChecks (s .args .i) (levels || s .args .wrong) (s .args .pick) (s .args .h)
 
   abbrev state : List Check
-  state = stateChecks (someBeyond (s .args .older .now) || someBeyond (s .args .newer .now)) (fixedNotZero (s .args .i .grid) (s .args .older .now) || fixedNotZero (s .args .i .grid) (s .args .newer .now))
+  state = stateChecks (someBeyond (s .args .older .now) || someBeyond (s .args .newer .now))
+      (fixedNotZero (s .args .i .grid) (s .args .older .now) || fixedNotZero (s .args .i .grid) (s .args .newer .now))
 
   test-is : inTable (s .args .i .grid) ≡ true → c .before .either2 .result ≡ (levels || s .args .wrong)
   test-is size =
       let e = c .before .before in
       c .before .either2 .ensures ∙ ap (λ (t : Bool). t || s .args .wrong)
-      (e .either .ensures ∙ ap₂ _||_ (e .before .before .wrong-length .ensures ∙ long-is (s .args .i .grid) (length (s .args .older .now)) size)
+      (e .either .ensures ∙ ap₂ _||_ (e .before .before .wrong-length .ensures
+      ∙ long-is (s .args .i .grid) (length (s .args .older .now)) size)
       (e .before .wrong-length2 .ensures ∙ long-is (s .args .i .grid) (length (s .args .newer .now)) size))
 
   input-is : c .input-refusal .result ≡ lowest input
-  input-is = c .input-refusal .ensures ∙ input-same (s .args .i) (c .before .either2 .result) (levels || s .args .wrong) (s .args .pick) (s .args .h) test-is
+  input-is = c .input-refusal .ensures ∙ input-same (s .args .i) (c .before .either2 .result) (levels || s .args .wrong) (s .args .pick)
+      (s .args .h) test-is
 
 wrong-length-requires : tie.Need-wrong-length-requires
 wrong-length-requires c κs = search needs

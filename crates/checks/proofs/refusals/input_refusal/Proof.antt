@@ -16,7 +16,8 @@ after s = let g = s .args .i .grid in lengthChecks (s .args .wrong) ++ (hitCheck
 size : (c : tie.Else1) → inTable (c .before .before .before .args .i .grid) ≡ true
 unfolding instrumentRefusal
 size c = let i = c .before .before .before .args .i in
-    instrument-in i (passed (instrumentChecks i) (instrumentChecks i) tt (c .before .before .instrument-refusal .ensures) (c .before .is-nothing .ensures) (c .if1 .left))
+    instrument-in i (passed (instrumentChecks i) (instrumentChecks i) tt (c .before .before .instrument-refusal .ensures)
+    (c .before .is-nothing .ensures) (c .if1 .left))
 
 instrument-refusal-requires : tie.Need-instrument-refusal-requires
 instrument-refusal-requires c κs = search needs
@@ -28,7 +29,8 @@ returns : tie.Need-returns
 unfolding instrumentRefusal
 returns c =
     let a = c .before .before .before .args in
-    refused-by (instrumentChecks (a .i)) (after (c .before .before .before)) tt (c .before .before .instrument-refusal .ensures) (c .before .is-nothing .ensures) (c .if1 .taken)
+    refused-by (instrumentChecks (a .i)) (after (c .before .before .before)) tt (c .before .before .instrument-refusal .ensures)
+    (c .before .is-nothing .ensures) (c .if1 .taken)
 
 length-refusal-requires : tie.Need-length-refusal-requires
 length-refusal-requires c κs = search needs
@@ -52,9 +54,12 @@ returns-2 c =
     let e = h .before .before .before in
     let s = e .before .before .before in
     let g = s .args .i .grid in
-    goes-on (instrumentChecks (s .args .i)) (after s) tt (e .before .before .instrument-refusal .ensures) (e .before .is-nothing .ensures) (e .if1 .left)
-    (c .first2 .ensures ∙ append-is (lengthChecks (s .args .wrong)) (hitChecks g (s .args .h) ++ pickChecks g (s .args .pick)) tt (h .before .length-refusal .ensures)
-    (c .before .first .ensures ∙ append-is (hitChecks g (s .args .h)) (pickChecks g (s .args .pick)) tt (h .hit-refusal .ensures) (c .before .before .pick-refusal .ensures)))
+    goes-on (instrumentChecks (s .args .i)) (after s) tt (e .before .before .instrument-refusal .ensures) (e .before .is-nothing .ensures)
+    (e .if1 .left)
+    (c .first2 .ensures ∙ append-is (lengthChecks (s .args .wrong)) (hitChecks g (s .args .h) ++ pickChecks g (s .args .pick)) tt
+    (h .before .length-refusal .ensures)
+    (c .before .first .ensures ∙ append-is (hitChecks g (s .args .h)) (pickChecks g (s .args .pick)) tt (h .hit-refusal .ensures)
+    (c .before .before .pick-refusal .ensures)))
 
 pub input-refusal-spec : {M : Type 1} → statement M
 input-refusal-spec =

@@ -2,7 +2,6 @@
 use mathlib.Core.Path.{_≡_, ap, _∙_}
 use mathlib.Core.Bool.{true}
 use mathlib.Core.List.{List, _++_}
-use Prim.Native.Nat.{ℕ}
 use lib.IntN.{ℤ}
 use Rattle.bounded.proofs.Num.{back}
 use Rattle.scheme.specs.declared.Hit.the-variants.{At}
@@ -15,11 +14,13 @@ use Rattle.checks.proofs.refusals.pluck_refusal.Tie as tie
 
 -- 6, 7, 8 and 10
 abbrev after : tie.Start → List Check
-after s = let a = s .args in lengthChecks (a .wrong) ++ (hitChecks (a .g) (At (a .centre) (a .height)) ++ widthChecks (a .g) (a .half-width))
+after s = let a = s .args in lengthChecks (a .wrong) ++
+    (hitChecks (a .g) (At (a .centre) (a .height)) ++ widthChecks (a .g) (a .half-width))
 
 size : (c : tie.Else1) → inTable (c .before .before .before .args .g) ≡ true
 size c = let g = c .before .before .before .args .g in
-    grid-in lastPlucked g (passed (gridChecks lastPlucked g) (gridChecks lastPlucked g) tt (c .before .before .grid-refusal .ensures) (c .before .is-nothing .ensures) (c .if1 .left))
+    grid-in lastPlucked g (passed (gridChecks lastPlucked g) (gridChecks lastPlucked g) tt (c .before .before .grid-refusal .ensures)
+    (c .before .is-nothing .ensures) (c .if1 .left))
 
 grid-refusal-requires : tie.Need-grid-refusal-requires
 grid-refusal-requires c κs = search needs
@@ -30,7 +31,8 @@ is-nothing-requires c κs = search needs
 returns : tie.Need-returns
 returns c =
     let s = c .before .before .before in
-    refused-by (gridChecks lastPlucked (s .args .g)) (after s) tt (c .before .before .grid-refusal .ensures) (c .before .is-nothing .ensures) (c .if1 .taken)
+    refused-by (gridChecks lastPlucked (s .args .g)) (after s) tt (c .before .before .grid-refusal .ensures)
+    (c .before .is-nothing .ensures) (c .if1 .taken)
 
 length-refusal-requires : tie.Need-length-refusal-requires
 length-refusal-requires c κs = search needs
@@ -54,9 +56,12 @@ returns-2 c =
     let s = e .before .before .before in
     let a = s .args in
     let checked = ap (λ (z : ℤ). lowest (hitChecks (a .g) (At (a .centre) z))) (back (a .height) (s .fits .height .sfits)) in
-    goes-on (gridChecks lastPlucked (a .g)) (after s) tt (e .before .before .grid-refusal .ensures) (e .before .is-nothing .ensures) (e .if1 .left)
-    (c .first2 .ensures ∙ append-is (lengthChecks (a .wrong)) (hitChecks (a .g) (At (a .centre) (a .height)) ++ widthChecks (a .g) (a .half-width)) tt (h .before .length-refusal .ensures)
-    (c .before .first .ensures ∙ append-is (hitChecks (a .g) (At (a .centre) (a .height))) (widthChecks (a .g) (a .half-width)) tt (h .hit-refusal .ensures ∙ checked) (c .before .before .width-refusal .ensures)))
+    goes-on (gridChecks lastPlucked (a .g)) (after s) tt (e .before .before .grid-refusal .ensures) (e .before .is-nothing .ensures)
+    (e .if1 .left)
+    (c .first2 .ensures ∙ append-is (lengthChecks (a .wrong))
+    (hitChecks (a .g) (At (a .centre) (a .height)) ++ widthChecks (a .g) (a .half-width)) tt (h .before .length-refusal .ensures)
+    (c .before .first .ensures ∙ append-is (hitChecks (a .g) (At (a .centre) (a .height))) (widthChecks (a .g) (a .half-width)) tt
+    (h .hit-refusal .ensures ∙ checked) (c .before .before .width-refusal .ensures)))
 
 pub pluck-refusal-spec : {M : Type 1} → statement M
 pluck-refusal-spec =

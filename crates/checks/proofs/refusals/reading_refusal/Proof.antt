@@ -5,7 +5,8 @@ use mathlib.Core.List.{List, _++_}
 use lib.ListN.{length}
 use Rattle.scheme.specs.Instruments.{inTable}
 use Rattle.scheme.specs.Step.{someBeyond}
-use Rattle.scheme.specs.Refusals.{lastKind, wrongLength, fixedNotZero, Check, lowest, gridChecks, lengthChecks, pickChecks, stateChecks, readingRefusal}
+use Rattle.scheme.specs.Refusals.{lastKind, wrongLength, fixedNotZero, Check, lowest, gridChecks, lengthChecks, pickChecks, stateChecks}
+use Rattle.scheme.specs.Refusals.{readingRefusal}
 use Rattle.scheme.proofs.Laws.Refusals.{NoneApplies}
 use Rattle.checks.proofs.RefusalLaws.{append-is, passed, refused-by, goes-on, grid-in, long-is, state-is}
 use borrow.Author.Needs.{needs}
@@ -25,7 +26,8 @@ once false = refl
 
 size : (c : tie.Else1) → inTable (c .before .before .before .args .g) ≡ true
 size c = let g = c .before .before .before .args .g in
-    grid-in lastKind g (passed (gridChecks lastKind g) (gridChecks lastKind g) tt (c .before .before .grid-refusal .ensures) (c .before .is-nothing .ensures) (c .if1 .left))
+    grid-in lastKind g (passed (gridChecks lastKind g) (gridChecks lastKind g) tt (c .before .before .grid-refusal .ensures)
+    (c .before .is-nothing .ensures) (c .if1 .left))
 
 lent-is : (c : tie.After-first) → c .first .result ≡ lowest (lent (c .before .before .before .before .before .before .before))
 lent-is c =
@@ -34,7 +36,8 @@ lent-is c =
     let s = e .before .before .before in
     let n = length (s .args .newer .now) in
     c .first .ensures ∙ append-is (lengthChecks (wrongLength (s .args .g) n)) (pickChecks (s .args .g) (s .args .pick)) tt
-    (l .length-refusal .ensures ∙ ap (λ (w : Bool). lowest (lengthChecks w)) (l .before .wrong-length .ensures ∙ long-is (s .args .g) n (size e))) (c .before .pick-refusal .ensures)
+    (l .length-refusal .ensures ∙ ap (λ (w : Bool). lowest (lengthChecks w))
+    (l .before .wrong-length .ensures ∙ long-is (s .args .g) n (size e))) (c .before .pick-refusal .ensures)
 
 grid-refusal-requires : tie.Need-grid-refusal-requires
 grid-refusal-requires c κs = search needs
@@ -46,7 +49,8 @@ returns : tie.Need-returns
 unfolding readingRefusal
 returns c =
     let s = c .before .before .before in
-    refused-by (gridChecks lastKind (s .args .g)) (lent s ++ state s) tt (c .before .before .grid-refusal .ensures) (c .before .is-nothing .ensures) (c .if1 .taken)
+    refused-by (gridChecks lastKind (s .args .g)) (lent s ++ state s) tt (c .before .before .grid-refusal .ensures)
+    (c .before .is-nothing .ensures) (c .if1 .taken)
 
 wrong-length-requires : tie.Need-wrong-length-requires
 wrong-length-requires c κs = search needs
@@ -69,7 +73,8 @@ returns-2 c =
     let f = c .before .before in
     let e = f .before .before .before .before in
     let s = e .before .before .before in
-    goes-on (gridChecks lastKind (s .args .g)) (lent s ++ state s) tt (e .before .before .grid-refusal .ensures) (e .before .is-nothing .ensures) (e .if1 .left)
+    goes-on (gridChecks lastKind (s .args .g)) (lent s ++ state s) tt (e .before .before .grid-refusal .ensures)
+    (e .before .is-nothing .ensures) (e .if1 .left)
     (refused-by (lent s) (state s) tt (lent-is f) (c .before .is-nothing2 .ensures) (c .if2 .taken))
 
 state-refusal-requires : tie.Need-state-refusal-requires
@@ -83,8 +88,10 @@ returns-3 c =
     let s = e .before .before .before in
     let newer = s .args .newer .now in
     let g = s .args .g in
-    let none : NoneApplies (lent s) = passed (lent s) (lent s) tt (lent-is f) (c .before .before .is-nothing2 .ensures) (c .before .if2 .left) in
-    goes-on (gridChecks lastKind g) (lent s ++ state s) tt (e .before .before .grid-refusal .ensures) (e .before .is-nothing .ensures) (e .if1 .left)
+    let none : NoneApplies (lent s) = passed (lent s) (lent s) tt (lent-is f) (c .before .before .is-nothing2 .ensures)
+    (c .before .if2 .left) in
+    goes-on (gridChecks lastKind g) (lent s ++ state s) tt (e .before .before .grid-refusal .ensures) (e .before .is-nothing .ensures)
+    (e .if1 .left)
     (goes-on (lent s) (state s) tt (lent-is f) (c .before .before .is-nothing2 .ensures) (c .before .if2 .left)
     (c .state-refusal .ensures ∙ state-is g newer newer (size e) (none .0) (none .0) ∙
     ap₂ (λ (x y : Bool). lowest (stateChecks x y)) (once (someBeyond newer)) (once (fixedNotZero g newer))))

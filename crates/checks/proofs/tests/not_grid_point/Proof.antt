@@ -1,5 +1,4 @@
 -- `not_grid_point` meets its contract.
-use mathlib.Core.Path.{_≡_, ap, _∙_}
 use borrow.Author.Needs.{needs}
 use Rattle.checks.proofs.tests.not_grid_point.Statement.{statement}
 use Rattle.checks.proofs.tests.not_grid_point.Tie as tie

@@ -14,7 +14,8 @@ either-requires-2 : tie.Need-either-requires-2
 either-requires-2 c κs = search needs
 
 returns : tie.Need-returns
-returns c = c .either2 .ensures ∙ ap (λ (t : Bool). t || ltb D (c .before .before .before .before .before .args .c .s)) (c .before .before .either .ensures)
+returns c = c .either2 .ensures ∙ ap (λ (t : Bool). t || ltb D (c .before .before .before .before .before .args .c .s))
+    (c .before .before .either .ensures)
 
 pub wrong-coefficient-spec : {M : Type 1} → statement M
 wrong-coefficient-spec = tie.close (tie.spec either-requires either-requires-2 returns)

@@ -1,5 +1,4 @@
 -- `wrong_length` meets its contract.
-use mathlib.Core.Path.{_≡_, ap, _∙_}
 use borrow.Author.Needs.{needs}
 use Rattle.checks.proofs.tests.wrong_length.Statement.{statement}
 use Rattle.checks.proofs.tests.wrong_length.Tie as tie

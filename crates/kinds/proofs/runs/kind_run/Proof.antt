@@ -20,7 +20,8 @@ inner-run-requires c κs = omega (arith, sized _ _ _ (c .before .pre .0) .column
 round-run-requires : tie.Need-round-run-requires
 round-run-requires c κs =
     let a = c .before .args in
-    let s = round-size _ _ (subst (λ (K : Kind). sizeIn K (a .c) (a .r) ≡ true) (kind-is roundMembrane (c .match .keys5)) (c .before .pre .0)) in
+    let s = round-size _ _ (subst (λ (K : Kind). sizeIn K (a .c) (a .r) ≡ true) (kind-is roundMembrane (c .match .keys5))
+    (c .before .pre .0)) in
     omega arith
 
 returns : tie.Need-returns

@@ -18,7 +18,9 @@ kind-run-requires : tie.Need-kind-run-requires
 kind-run-requires c κs = (sym (c .before .before .before .has-size .ensures) ∙ not-false _ (c .before .before .if1 .left), c .if2 .left)
 
 returns-3 : tie.Need-returns-3
-returns-3 c = c .kind-run .ensures ∙ sym (run-is _ _ (sym (c .before .before .before .before .has-size .ensures) ∙ not-false _ (c .before .before .before .if1 .left)) (c .before .if2 .left))
+returns-3 c = c .kind-run .ensures ∙ sym (run-is _ _
+    (sym (c .before .before .before .before .has-size .ensures) ∙ not-false _ (c .before .before .before .if1 .left))
+    (c .before .if2 .left))
 
 pub movable-run-spec : {M : Type 1} → statement M
 movable-run-spec =

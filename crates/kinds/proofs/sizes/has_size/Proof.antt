@@ -25,7 +25,8 @@ returns-2 : tie.Need-returns-2
 unfolding sizeIn
 returns-2 c =
     let g = c .before .before .args .g in
-    simp (kind-is roundMembrane (c .before .match .keys2)) (c .is-sized2 .ensures ∙ ap (λ (b : Bool). within 3 64 (g .columns) && b) (within-one (g .columns) (g .rows)))
+    simp (kind-is roundMembrane (c .before .match .keys2))
+    (c .is-sized2 .ensures ∙ ap (λ (b : Bool). within 3 64 (g .columns) && b) (within-one (g .columns) (g .rows)))
 
 returns-3 : tie.Need-returns-3
 returns-3 c = c .is-sized3 .ensures ∙ sym (line-size _ _ _ (omega arith) (omega arith))

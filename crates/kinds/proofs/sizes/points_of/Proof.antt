@@ -2,7 +2,6 @@
 use mathlib.Core.Path.{sym, ap, _∙_}
 use mathlib.Core.Bool.{Bool, cond}
 use native.Mathlib.Omega.{arith}
-use borrow.Author.Needs.{needs}
 use Rattle.scheme.specs.Instruments.{points}
 use Rattle.scheme.proofs.Laws.Kinds.{sized}
 use Rattle.kinds.proofs.sizes.points_of.Statement.{statement}
@@ -15,7 +14,8 @@ mul-result : tie.Need-mul-result
 mul-result c = omega (arith, sized _ _ _ (sym (c .before .before .has-size .ensures) ∙ c .before .if1 .taken) .points-high)
 
 returns : tie.Need-returns
-returns c = sym (ap (λ (t : Bool). cond t (points (c .before .before .before .args .g)) 0) (sym (c .before .before .has-size .ensures) ∙ c .before .if1 .taken))
+returns c = sym (ap (λ (t : Bool). cond t (points (c .before .before .before .args .g)) 0)
+    (sym (c .before .before .has-size .ensures) ∙ c .before .if1 .taken))
 
 returns-2 : tie.Need-returns-2
 returns-2 c = sym (ap (λ (t : Bool). cond t (points (c .before .before .args .g)) 0) (sym (c .before .has-size .ensures) ∙ c .if1 .left))

@@ -15,14 +15,16 @@ sub-if1 : tie.Need-sub-if1
 sub-if1 c = search needs
 
 -- the test below zero, of the number itself
-below : (c : tie.Start) {b : Bool} → ltZ (toZ w64 (ofZ w64 (c .args .v))) (negsuc 8795824586751) ≡ b → ltZ (c .args .v) (negsuc 8795824586751) ≡ b
+below : (c : tie.Start) {b : Bool} → ltZ (toZ w64 (ofZ w64 (c .args .v))) (negsuc 8795824586751) ≡ b
+    → ltZ (c .args .v) (negsuc 8795824586751) ≡ b
 below c t = ap (λ (z : ℤ). ltZ z (negsuc 8795824586751)) (sym (back (c .args .v) (c .fits .v .sfits))) ∙ t
 
 returns : tie.Need-returns
 returns c = beyond-below (c .before .args .v) (below (c .before) (c .if1 .taken))
 
 returns-2 : tie.Need-returns-2
-returns-2 c = ap (λ (z : ℤ). ltZ (pos 8795824586752) z) (back (c .before .args .v) (c .before .fits .v .sfits)) ∙ beyond-above (c .before .args .v) (below (c .before) (c .if1 .left))
+returns-2 c = ap (λ (z : ℤ). ltZ (pos 8795824586752) z) (back (c .before .args .v) (c .before .fits .v .sfits))
+    ∙ beyond-above (c .before .args .v) (below (c .before) (c .if1 .left))
 
 pub is-beyond-spec : {M : Type 1} → statement M
 is-beyond-spec = tie.close (tie.spec sub-if1 returns returns-2)

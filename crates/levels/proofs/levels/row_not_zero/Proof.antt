@@ -21,7 +21,8 @@ some-not-zero-requires-2 : tie.Need-some-not-zero-requires-2
 some-not-zero-requires-2 c κs = search needs
 
 returns-2 : tie.Need-returns-2
-returns-2 c = c .some-not-zero2 .ensures ∙ sym (or-no (sym (c .before .before .before .before .some-not-zero .ensures) ∙ c .before .before .before .if1 .left))
+returns-2 c = c .some-not-zero2 .ensures ∙ sym (or-no
+    (sym (c .before .before .before .before .some-not-zero .ensures) ∙ c .before .before .before .if1 .left))
 
 pub row-not-zero-spec : {M : Type 1} → statement M
 row-not-zero-spec =

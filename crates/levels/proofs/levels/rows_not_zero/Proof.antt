@@ -19,16 +19,23 @@ use Rattle.levels.proofs.levels.rows_not_zero.Tie as tie
 
 -- the fixed points of the rows passed are 0, and the row begins at start
 abbrev Inv-loop : tie.InvT-loop
-Inv-loop g xs columns rows row₀ start₀ row start = (start ≡ row * g .columns) × Passed (g .rows) (λ b. not (rowNotZero xs (b * g .columns) (g .columns) (runOf g b))) row
+Inv-loop g xs columns rows row₀ start₀ row start =
+    (start ≡ row * g .columns) × Passed (g .rows) (λ b. not (rowNotZero xs (b * g .columns) (g .columns) (runOf g b))) row
 
 abbrev μ-loop : tie.MeasureT-loop
 μ-loop g xs columns rows row₀ start₀ row start = g .rows - row
 
 -- the row lies in the level
-room : (c : tie.After-movable-run Inv-loop μ-loop) → c .before .before .loop .start + c .before .before .before .args .g .columns ≤ length (c .before .before .before .args .xs .now)
+room : (c : tie.After-movable-run Inv-loop μ-loop) → c .before .before .loop .start + c .before .before .before .args .g .columns
+    ≤ length (c .before .before .before .args .xs .now)
 room c =
     let g = c .before .before .before .args .g in
-    omega (arith, c .before .before .loop .inv .0, c .before .before .before .pre .1, row-inside (c .before .before .loop .row) (g .rows) (g .columns) (c .before .loop-test .taken))
+    omega (
+      arith,
+      c .before .before .loop .inv .0,
+      c .before .before .before .pre .1,
+      row-inside (c .before .before .loop .row) (g .rows) (g .columns) (c .before .loop-test .taken),
+    )
 
 -- what row_not_zero answered of the row
 found : (c : tie.After-row-not-zero Inv-loop μ-loop) → c .row-not-zero .result ≡
@@ -37,7 +44,8 @@ found : (c : tie.After-row-not-zero Inv-loop μ-loop) → c .row-not-zero .resul
     rowNotZero (c .before .before .before .before .args .xs .now) (b * g .columns) (g .columns) (runOf g b))
 found c =
     c .row-not-zero .ensures ∙
-    ap₂ (λ (n : ℕ) (r : Run). rowNotZero (c .before .before .before .before .args .xs .now) n (c .before .before .before .before .args .g .columns) r)
+    ap₂ (λ (n : ℕ) (r : Run). rowNotZero (c .before .before .before .before .args .xs .now) n
+    (c .before .before .before .before .args .g .columns) r)
     (c .before .before .before .loop .inv .0) (c .before .movable-run .ensures)
 
 loop-holds : tie.Need-loop-holds Inv-loop μ-loop
@@ -54,7 +62,8 @@ row-not-zero-requires c κs =
 returns : tie.Need-returns Inv-loop μ-loop
 returns c =
     let s = c .before .before .before .before .before in
-    sym (rows-test _ _ (s .pre .0) (s .pre .1) ∙ some-at _ _ (c .before .before .before .before .loop .row) (omega arith) (sym (found (c .before)) ∙ c .if1 .taken))
+    sym (rows-test _ _ (s .pre .0) (s .pre .1) ∙ some-at _ _ (c .before .before .before .before .loop .row) (omega arith)
+    (sym (found (c .before)) ∙ c .if1 .taken))
 
 add-row : tie.Need-add-row Inv-loop μ-loop
 add-row c = omega (arith, sized _ _ _ (c .before .before .before .before .before .pre .0) .rows-high)
@@ -74,7 +83,8 @@ loop-again c =
     )
 
 returns-2 : tie.Need-returns-2 Inv-loop μ-loop
-returns-2 c = sym (rows-test _ _ (c .before .before .pre .0) (c .before .before .pre .1) ∙ some-none _ _ (c .before .loop .inv .1) (omega arith))
+returns-2 c = sym (rows-test _ _ (c .before .before .pre .0) (c .before .before .pre .1)
+    ∙ some-none _ _ (c .before .loop .inv .1) (omega arith))
 
 pub rows-not-zero-spec : {M : Type 1} → statement M
 rows-not-zero-spec =

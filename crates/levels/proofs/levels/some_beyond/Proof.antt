@@ -23,8 +23,10 @@ abbrev μ-loop : tie.MeasureT-loop
 μ-loop xs k₀ k = length xs - k
 
 -- what is_beyond answered of the point that was read
-found : (c : tie.After-is-beyond Inv-loop μ-loop) → beyond (point (c .before .before .before .before .args .xs .now) (c .before .before .before .loop .point)) ≡ c .is-beyond .result
-found c = ap beyond (sym (back (point (c .before .before .before .before .args .xs .now) (c .before .before .before .loop .point)) (c .before .is-beyond-arg .given))) ∙ sym (c .is-beyond .ensures)
+found : (c : tie.After-is-beyond Inv-loop μ-loop)
+    → beyond (point (c .before .before .before .before .args .xs .now) (c .before .before .before .loop .point)) ≡ c .is-beyond .result
+found c = ap beyond (sym (back (point (c .before .before .before .before .args .xs .now) (c .before .before .before .loop .point))
+    (c .before .is-beyond-arg .given))) ∙ sym (c .is-beyond .ensures)
 
 loop-holds : tie.Need-loop-holds Inv-loop μ-loop
 loop-holds c = passed-none _ _

@@ -48,7 +48,8 @@ loop-less : tie.Need-loop-less Inv-loop μ-loop
 loop-less c = search needs
 
 loop-again : tie.Need-loop-again Inv-loop μ-loop
-loop-again c = passed-more _ _ (omega arith) (c .before .before .before .loop .inv) (ap not (bits-zero (read (c .before)) (c .before .if12 .given) (c .if1 .left)))
+loop-again c = passed-more _ _ (omega arith) (c .before .before .before .loop .inv)
+    (ap not (bits-zero (read (c .before)) (c .before .if12 .given) (c .if1 .left)))
 
 returns-2 : tie.Need-returns-2 Inv-loop μ-loop
 unfolding someNotZero

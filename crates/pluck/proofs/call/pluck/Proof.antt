@@ -13,7 +13,7 @@ use Rattle.scheme.specs.declared.Refusal.the-variants.{Nothing}
 use Rattle.scheme.specs.Table.{table}
 use Rattle.scheme.specs.Pluck.{pluckLevel}
 use Rattle.scheme.specs.Refusals.{pluckRefusal}
-use Rattle.scheme.specs.Calls.{accepted, overwritten, pluckLeft}
+use Rattle.scheme.specs.Calls.{accepted, pluckLeft}
 use Rattle.scheme.proofs.Laws.Table.{table-rule}
 use Rattle.scheme.proofs.Laws.Refusals.{accepted-is}
 use Rattle.scheme.proofs.Laws.Calls.{pluck-done, pluck-refused}

@@ -28,7 +28,8 @@ returns c =
     let bending = speed .before in
     let length = bending .before in
     let rate = length .before in
-    ap₂ _&&_ (ap₂ _&&_ (ap₂ _&&_ (ap₂ _&&_ (rate .is-positive .ensures) (length .is-positive2 .ensures)) (bending .is-non-negative .ensures)) (speed .speed-allowed .ensures)) (c .loss-allowed .ensures)
+    let places = ap₂ _&&_ (ap₂ _&&_ (rate .is-positive .ensures) (length .is-positive2 .ensures)) (bending .is-non-negative .ensures) in
+    ap₂ _&&_ (ap₂ _&&_ places (speed .speed-allowed .ensures)) (c .loss-allowed .ensures)
 
 pub are-allowed-spec : {M : Type 1} → statement M
 are-allowed-spec =

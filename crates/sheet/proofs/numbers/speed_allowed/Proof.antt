@@ -25,10 +25,12 @@ is-positive-requires : tie.Need-is-positive-requires
 is-positive-requires c κs = search needs
 
 returns : tie.Need-returns
-returns c = ap₂ _&&_ (c .before .is-pitched .ensures) (c .is-non-negative .ensures) ∙ sym (ap (speedAllowed _) (c .before .before .before .speed .given .1))
+returns c = ap₂ _&&_ (c .before .is-pitched .ensures) (c .is-non-negative .ensures)
+    ∙ sym (ap (speedAllowed _) (c .before .before .before .speed .given .1))
 
 returns-2 : tie.Need-returns-2
-returns-2 c = ap₂ _&&_ (c .before .is-non-negative2 .ensures) (c .is-positive .ensures) ∙ sym (ap (speedAllowed _) (c .before .before .before .speed2 .given .1))
+returns-2 c = ap₂ _&&_ (c .before .is-non-negative2 .ensures) (c .is-positive .ensures)
+    ∙ sym (ap (speedAllowed _) (c .before .before .before .speed2 .given .1))
 
 pub speed-allowed-spec : {M : Type 1} → statement M
 speed-allowed-spec =

@@ -24,14 +24,27 @@ part-length : (c : tie.After-play) → c .play .result .steps ≡ length (take (
 part-length c = sym (length-take-le _ _ (done-low c))
 
 -- the lines of the part are those of the steps done
-lines : (c : tie.After-play) → let done = take (c .play .result .steps) (c .play .last .1 .0) in stepLines (length done) done ≡ stepLines (c .play .result .steps) (c .play .last .1 .0)
+lines : (c : tie.After-play) → let k = c .play .result .steps in
+    let l = c .play .last .1 .0 in
+    stepLines (length (take k l)) (take k l) ≡ stepLines k l
 lines c =
     let k = c .play .result .steps in
     let l = c .play .last .1 .0 in
     ap (λ (j : ℕ). stepLines j (take k l)) (sym (part-length c)) ∙ lines-of-part k k l (omega arith)
 
-refusal-low : (c : tie.After-number) → c .number .result < 100
-refusal-low c = omega (arith, c .number .ensures, number-low (c .before .before .before .before .before .before .before .before .play .result .refusal))
+-- the last line, after the others
+module _ (c : tie.After-number) where
+  abbrev stepped : tie.After-put-steps
+  stepped = c .before .before .before .before
+
+  abbrev played : tie.After-play
+  played = stepped .before .before .before .before
+
+  refusal-low : c .number .result < 100
+  refusal-low = omega (arith, c .number .ensures, number-low (played .play .result .refusal))
+
+  last-length : length (doneLine (played .play .result .steps) (c .number .result)) ≤ 13
+  last-length = done-length (played .play .result .steps) (c .number .result) (omega (arith, done-low played)) refusal-low
 
 play-requires : tie.Need-play-requires
 play-requires c κs = search needs
@@ -40,17 +53,16 @@ slice-reshare-prefix-put-steps : tie.Need-slice-reshare-prefix-put-steps
 slice-reshare-prefix-put-steps c = done-low (c .before .before)
 
 slice-aggregate-put-steps : tie.Need-slice-aggregate-put-steps
-slice-aggregate-put-steps c = part-length (c .before .before .before)
+slice-aggregate-put-steps c = let p = c .before .before .before in part-length p
 
 put-steps-requires : tie.Need-put-steps-requires
-put-steps-requires c κs = (omega (arith, part-length (c .before .before .before), done-low (c .before .before .before)), omega arith)
+put-steps-requires c κs = let p = c .before .before .before in (omega (arith, part-length p, done-low p), omega arith)
 
 number-requires : tie.Need-number-requires
 number-requires c κs = search needs
 
 put-done-requires : tie.Need-put-done-requires
-put-done-requires c κs = let p = c .before .before .before .before .before .before .before .before in
-    (refusal-low c, omega (arith, done-length (p .play .result .steps) (c .number .result) (omega (arith, done-low p)) (refusal-low c), c .before .before .before .before .put-steps .ensures .0))
+put-done-requires c κs = (refusal-low c, omega (arith, last-length c, stepped c .put-steps .ensures .0))
 
 same-length : tie.Need-same-length
 same-length c = search needs
@@ -62,12 +74,12 @@ returns : tie.Need-returns
 returns c =
     let d = c .before .before in
     let e = d .before in
-    let l = e .before .before .before .before in
-    let p = l .before .before .before .before in
-    let end = done-length (p .play .result .steps) (e .number .result) (omega (arith, done-low p)) (refusal-low e) in (
-      omega (arith, d .put-done .ensures .ends, l .put-steps .ensures .0, end),
-      put-put (put-same (lines p) (l .put-steps .ensures .1)) (put-same (ap (doneLine (p .play .result .steps)) (e .number .ensures)) (d .put-done .ensures)) .holds
-          ∙ ap playedText (p .play .ensures),
+    let l = stepped e in
+    let p = played e in (
+      omega (arith, d .put-done .ensures .ends, l .put-steps .ensures .0, last-length e),
+      put-same (ap playedText (p .play .ensures))
+          (put-put (put-same (lines p) (l .put-steps .ensures .1))
+          (put-same (ap (doneLine (p .play .result .steps)) (e .number .ensures)) (d .put-done .ensures))),
     )
 
 pub put-played-spec : {M : Type 1} → statement M

@@ -9,6 +9,7 @@ use lib.Seq.{length-take-le}
 use Rattle.shell.specs.Play.{played}
 use Rattle.shell.specs.Answer.{playedText, runText}
 use Rattle.shell.proofs.PlayLaws.{take-replicate}
+use Rattle.shell.proofs.TextLaws.{put-same}
 use Rattle.shell.proofs.output.put_run.Statement.{statement}
 use Rattle.shell.proofs.output.put_run.Tie as tie
 
@@ -38,10 +39,10 @@ unfolding runText
 returns c =
     let p = c .before .before .before in
     let s = p .before .before .before in
-    let n = s .before .before .args .n in (
+    let n = s .before .before .args .n in
+    let silent = ap (take (n .steps)) (s .silence .ensures) ∙ take-replicate (n .steps) 8192 (pos 0) (omega arith) in (
       p .put-played .ensures .0,
-      p .put-played .ensures .1
-          ∙ ap (λ (l : List ℤ). playedText (played n l)) (ap (take (n .steps)) (s .silence .ensures) ∙ take-replicate (n .steps) 8192 (pos 0) (omega arith)),
+      put-same (ap (λ (l : List ℤ). playedText (played n l)) silent) (p .put-played .ensures .1),
     )
 
 pub put-run-spec : {M : Type 1} → statement M

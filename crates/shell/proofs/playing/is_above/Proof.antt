@@ -15,7 +15,7 @@ div-result : tie.Need-div-result
 div-result c = search needs
 
 returns-2 : tie.Need-returns-2
-returns-2 c = above-is (c .before .args .columns) (c .before .args .rows) (c .if1 .left)
+returns-2 c = above-is _ (c .before .args .columns) (c .before .args .rows) (c .if1 .left)
 
 pub is-above-spec : {M : Type 1} → statement M
 is-above-spec = tie.close (tie.spec returns div-result returns-2)

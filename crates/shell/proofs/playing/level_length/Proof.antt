@@ -11,9 +11,12 @@ is-above-requires : tie.Need-is-above-requires
 is-above-requires c κs = search needs
 
 returns : tie.Need-returns
-returns c = let g = c .before .before .args .g in (omega arith, λ l. absurd (omega (arith, ltb-true 1024 (g .columns * g .rows) (sym (c .before .is-above .ensures) ∙ c .if1 .taken))))
+returns c =
+    let g = c .before .before .args .g in
+    let above = ltb-true 1024 (g .columns * g .rows) (sym (c .before .is-above .ensures) ∙ c .if1 .taken) in
+    (omega arith, λ l. absurd (omega (arith, above)))
 
-low : (c : tie.After-struct-known) → c .before .before .before .args .g .columns * c .before .before .before .args .g .rows ≤ 1024
+low : (c : tie.After-struct-known) → let g = c .before .before .before .args .g in g .columns * g .rows ≤ 1024
 low c = ltb-false _ _ (sym (c .before .before .is-above .ensures) ∙ c .before .if1 .left)
 
 mul-result : tie.Need-mul-result

@@ -21,7 +21,7 @@ is-too-large-requires : tie.Need-is-too-large-requires
 is-too-large-requires c κs = search needs
 
 -- the test of the size
-size-is : (c : tie.After-is-too-large) → isTooLarge (gridOf (c .before .before .before .args .n)) ≡ c .is-too-large .result
+size-is : (c : tie.After-is-too-large) → let s = c .before .before .before in isTooLarge (gridOf (s .args .n)) ≡ c .is-too-large .result
 size-is c = sym (c .is-too-large .ensures ∙ ap (λ (i : Instrument). isTooLarge (i .grid)) (c .before .before .instrument-of .ensures))
 
 prefix-length : (l : List ℤ) (k : ℕ) → l ≡ replicate 1024 (pos 0) → k ≤ 1024 → k ≡ length (take k l)
@@ -46,19 +46,24 @@ array-borrow-prefix-older : tie.Need-array-borrow-prefix-older
 array-borrow-prefix-older c = search needs
 
 slice-aggregate-block : tie.Need-slice-aggregate-block
-slice-aggregate-block c = prefix-length _ _ (c .before .before .before .at-rest .ensures) (c .before .before .before .before .level-length .ensures .0)
+slice-aggregate-block c = let l = c .before .before .before in prefix-length _ _ (l .at-rest .ensures) (l .before .level-length .ensures .0)
 
 array-borrow-prefix-newer : tie.Need-array-borrow-prefix-newer
 array-borrow-prefix-newer c = search needs
 
 slice-aggregate-block-2 : tie.Need-slice-aggregate-block-2
-slice-aggregate-block-2 c = prefix-length _ _ (c .before .before .before .at-rest2 .ensures) (c .before .before .before .before .before .level-length .ensures .0)
+slice-aggregate-block-2 c =
+    let l = c .before .before .before in
+    prefix-length _ _ (l .at-rest2 .ensures) (l .before .before .level-length .ensures .0)
 
 array-borrow-prefix-work : tie.Need-array-borrow-prefix-work
 array-borrow-prefix-work c = search needs
 
 slice-aggregate-block-3 : tie.Need-slice-aggregate-block-3
-slice-aggregate-block-3 c = prefix-length _ _ (c .before .before .before .at-rest3 .ensures) (c .before .before .before .before .before .before .level-length .ensures .0)
+slice-aggregate-block-3 c =
+    let l = c .before .before .before in
+    let size = l .before .before .before in
+    prefix-length _ _ (l .at-rest3 .ensures) (size .level-length .ensures .0)
 
 hit-of-requires : tie.Need-hit-of-requires
 hit-of-requires c κs = search needs
@@ -74,9 +79,10 @@ returns-2 c =
     let called = c .before .before .before .before in
     let levels = called .before .before .before .before .before .before in
     let sized = levels .before .before .before in
+    let asked = sized .before .before .before .before in
     ap heardOf (called .block .ensures)
     ∙ plays _ _ _ _ _ _ _ _
-    (sized .before .before .before .before .instrument-of .ensures)
+    (asked .instrument-of .ensures)
     (called .before .hit-of .ensures)
     (levels .before .before .at-rest .ensures)
     (levels .before .at-rest2 .ensures)

@@ -5,8 +5,8 @@ use Prim.Native.Nat.{ℕ, _+_, _-_, _≤_}
 use native.Mathlib.Numerals.{add-one}
 use native.Mathlib.Omega.{arith}
 use borrow.Author.Needs.{needs}
-use lib.ListN.{length, take, getD, set}
-use lib.Seq.{paste, paste-zero, paste-suc, take-paste, take-all}
+use lib.ListN.{length, take, drop, getD, set}
+use lib.Seq.{paste, paste-zero, paste-suc, take-paste, drop-paste, take-all}
 use Rattle.shell.proofs.text.put_bytes.Statement.{statement}
 use Rattle.shell.proofs.text.put_bytes.Tie as tie
 
@@ -61,6 +61,9 @@ returns c =
           ap (take (a .at + l .i)) (l .inv .1)
           ∙ take-paste (a .out .now) (a .at) (a .bytes .now) (l .i) (omega arith) (omega arith)
           ∙ ap (λ (l : List ℕ). take (a .at) (a .out .now) ++ l) (take-all (l .i) (a .bytes .now) (omega arith));
+      kept =
+          ap (drop (a .at + l .i)) (l .inv .1)
+          ∙ drop-paste (a .out .now) (a .at) (a .bytes .now) (l .i) (omega arith) (omega arith);
     }
 
 pub put-bytes-spec : {M : Type 1} → statement M

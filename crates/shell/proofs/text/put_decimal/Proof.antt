@@ -8,7 +8,8 @@ use Rattle.shell.proofs.TextLaws.{put-same, spelled}
 use Rattle.shell.proofs.text.put_decimal.Statement.{statement}
 use Rattle.shell.proofs.text.put_decimal.Tie as tie
 
-text-is : (c : tie.After-decimal) → take (c .decimal .result) (c .decimal .last .1 .0) ≡ decimal (c .before .before .before .args .n)
+text-is : (c : tie.After-decimal) → let s = c .before .before .before in
+    take (c .decimal .result) (c .decimal .last .1 .0) ≡ decimal (s .args .n)
 text-is c = c .decimal .ensures .1 .1 ∙ spelled _ _ (c .decimal .ensures .1 .0)
 
 decimal-requires : tie.Need-decimal-requires
@@ -21,7 +22,10 @@ slice-aggregate-put-bytes : tie.Need-slice-aggregate-put-bytes
 slice-aggregate-put-bytes c = search needs
 
 put-bytes-requires : tie.Need-put-bytes-requires
-put-bytes-requires c κs = omega (arith, ap length (text-is (c .before .before)), c .before .before .before .before .before .pre)
+put-bytes-requires c κs =
+    let d = c .before .before in
+    let s = d .before .before .before in
+    omega (arith, ap length (text-is d), s .pre)
 
 same-length : tie.Need-same-length
 same-length c = search needs

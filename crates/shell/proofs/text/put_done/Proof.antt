@@ -39,7 +39,8 @@ unfolding doneLine text
 returns c =
     let q = c .before .before in
     let p = q .before .before .before .before in
-    put-put (p .put-bytes .ensures) (put-same (pair-is (p .before .before .before .before)) (q .put-pair .ensures))
+    let s = p .before .before .before .before in
+    put-put (p .put-bytes .ensures) (put-same (pair-is s) (q .put-pair .ensures))
 
 pub put-done-spec : {M : Type 1} → statement M
 put-done-spec =

@@ -1,5 +1,6 @@
 -- `put_pair` meets its contract: four texts, one after the other.
 use mathlib.Core.Path.{_≡_, refl, ap}
+use Prim.Native.Nat.{_+_}
 use native.Mathlib.Omega.{arith}
 use borrow.Author.Needs.{needs}
 use lib.ListN.{length}
@@ -7,13 +8,17 @@ use mir.Syntax.{w16}
 use mir.Val.{toZ, ofZ}
 use mir.ValLaws.{toZ-ofZ}
 use Rattle.line.specs.Lists.{text}
-use Rattle.shell.specs.Text.{signed, pairLine}
+use Rattle.shell.specs.Text.{decimal, signedDecimal, pairLine}
 use Rattle.shell.proofs.TextLaws.{put-put, put-same, pair-parts}
 use Rattle.shell.proofs.text.put_pair.Statement.{statement}
 use Rattle.shell.proofs.text.put_pair.Tie as tie
 
-value-is : (c : tie.Start) → signed (toZ w16 (ofZ w16 (c .args .value))) ≡ signed (c .args .value)
-value-is c = ap signed (toZ-ofZ w16 (c .args .value) (c .fits .value))
+value-is : (c : tie.Start) → signedDecimal (toZ w16 (ofZ w16 (c .args .value))) ≡ signedDecimal (c .args .value)
+value-is c = ap signedDecimal (toZ-ofZ w16 (c .args .value) (c .fits .value))
+
+parts : (c : tie.Start) → length (pairLine (c .args .number) (c .args .value))
+    ≡ length (decimal (c .args .number)) + 1 + length (signedDecimal (toZ w16 (ofZ w16 (c .args .value)))) + 1
+parts c = omega (arith, pair-parts (c .args .number) (c .args .value), ap length (value-is c))
 
 -- the texts before each
 abbrev first : tie.After-put-bytes-arg2 → tie.After-put-decimal
@@ -25,41 +30,46 @@ second c = c .before .before .before
 abbrev third : tie.After-put-bytes-arg4 → tie.After-put-signed
 third c = c .before .before .before .before
 
+abbrev start : tie.After-put-decimal → tie.Start
+start c = c .before .before .before
+
 put-decimal-requires : tie.Need-put-decimal-requires
-put-decimal-requires c κs = let s = c .before .before in omega (arith, pair-parts (s .args .number) (s .args .value))
+put-decimal-requires c κs = omega (arith, parts (c .before .before))
 
 slice-aggregate-put-bytes : tie.Need-slice-aggregate-put-bytes
 slice-aggregate-put-bytes c = refl
 
 put-bytes-requires : tie.Need-put-bytes-requires
-put-bytes-requires c κs = let p = first c in let s = p .before .before .before in omega (arith, pair-parts (s .args .number) (s .args .value), p .put-decimal .ensures .ends)
+put-bytes-requires c κs = let p = first c in omega (arith, parts (start p), p .put-decimal .ensures .ends)
 
 put-signed-requires : tie.Need-put-signed-requires
-put-signed-requires c κs = let q = second c in
+put-signed-requires c κs =
+    let q = second c in
     let p = first (q .before) in
-    let s = p .before .before .before in
-    omega (arith, pair-parts (s .args .number) (s .args .value), ap length (value-is s), p .put-decimal .ensures .ends, q .put-bytes .ensures .ends)
+    omega (arith, parts (start p), p .put-decimal .ensures .ends, q .put-bytes .ensures .ends)
 
 slice-aggregate-put-bytes-2 : tie.Need-slice-aggregate-put-bytes-2
 slice-aggregate-put-bytes-2 c = refl
 
 put-bytes-requires-2 : tie.Need-put-bytes-requires-2
-put-bytes-requires-2 c κs = let r = third c in
+put-bytes-requires-2 c κs =
+    let r = third c in
     let q = second (r .before) in
     let p = first (q .before) in
-    let s = p .before .before .before in
-    omega (arith, pair-parts (s .args .number) (s .args .value), ap length (value-is s), p .put-decimal .ensures .ends, q .put-bytes .ensures .ends, r .put-signed .ensures .ends)
+    omega (arith, parts (start p), p .put-decimal .ensures .ends, q .put-bytes .ensures .ends, r .put-signed .ensures .ends)
 
 same-length : tie.Need-same-length
 same-length c = search needs
 
 returns : tie.Need-returns
 unfolding pairLine text
-returns c = let e = c .before .before in
+returns c =
+    let e = c .before .before in
     let r = third (e .before) in
     let q = second (r .before) in
     let p = first (q .before) in
-    put-put (p .put-decimal .ensures) (put-put (q .put-bytes .ensures) (put-put (put-same (value-is (p .before .before .before)) (r .put-signed .ensures)) (e .put-bytes2 .ensures)))
+    let end = put-put (put-same (value-is (start p)) (r .put-signed .ensures)) (e .put-bytes2 .ensures) in
+    put-put (p .put-decimal .ensures) (put-put (q .put-bytes .ensures) end)
 
 pub put-pair-spec : {M : Type 1} → statement M
 put-pair-spec =

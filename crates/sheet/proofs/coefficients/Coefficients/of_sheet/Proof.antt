@@ -41,7 +41,14 @@ returns c =
     let bending = m .before in
     let q = bending .before in
     let courant = q .before in
-    simp (q .nearest-whole .ensures, courant .courant-squared .ensures, m .nearest-whole2 .ensures, bending .stiffness .ensures, c .nearest-whole3 .ensures, loss .loss-per-step .ensures)
+    simp (
+      q .nearest-whole .ensures,
+      courant .courant-squared .ensures,
+      m .nearest-whole2 .ensures,
+      bending .stiffness .ensures,
+      c .nearest-whole3 .ensures,
+      loss .loss-per-step .ensures,
+    )
 
 pub of-sheet-spec : {M : Type 1} → statement M
 of-sheet-spec =
