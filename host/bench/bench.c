@@ -1,122 +1,218 @@
-/* Nanoseconds a point and step: the proved engine through the C library, the same integer scheme in plain C, and the scheme in double
- * precision, on the same input, one after the other; the least of ROUNDS. With `bench count WHICH KIND SIZE BLOCKS` only that one
- * runs, for a tool that counts its instructions. */
+/* The calls of the C library, of plain C by each compiler, and the block in double precision, on the same input in turn. Prints a line for
+ * each row and table.py makes the tables of them:
+ *     what;grid;units of a call;the levels and results are the same;nanoseconds of a call by each
+ * where the nanoseconds are the least of ROUNDS of processor time. `bench count` runs each row once by each, in `counted`, for callgrind. */
 #include "buvcsolta.h"
-#include "plain.h"
+#include "doubles.h"
 #include <stdio.h>
 #include <stdlib.h>
 #include <string.h>
 #include <time.h>
 
-enum { POINTS = 4096, PLACES = 64, ROUNDS = 7, WORK = 12000000 };
+/* A level has room to spare, so that point k of one does not lie a multiple of 4 KB from point k of another. */
+enum { ROOM = 4096 + 40, PLACES = 64, ROUNDS = 25, ENGINES = 4, CALLS_COUNTED = 20 };
 
-struct voice {
-    struct instrument i;
-    size_t points, pick_up, hit;
-    int64_t force;
+extern __typeof__(buvcsolta_block) gcc_block, clang_block, reciprocal_block;
+extern __typeof__(buvcsolta_pluck) gcc_pluck, clang_pluck;
+extern __typeof__(buvcsolta_reading) gcc_reading, clang_reading;
+extern __typeof__(buvcsolta_sheet) gcc_sheet, clang_sheet;
+
+struct engine {
+    const char *name;
+    __typeof__(buvcsolta_block) *block;
+    __typeof__(buvcsolta_pluck) *pluck;
+    __typeof__(buvcsolta_reading) *reading;
+    __typeof__(buvcsolta_sheet) *sheet;
 };
 
-static int64_t proved_levels[3][POINTS], plain_levels[3][POINTS], *plain[3];
-static double double_levels[3][POINTS], *doubles[3];
-static int16_t proved_samples[PLACES], plain_samples[PLACES];
+static const struct engine engines[ENGINES] = {
+    {"proved", buvcsolta_block, buvcsolta_pluck, buvcsolta_reading, buvcsolta_sheet},
+    {"gcc", gcc_block, gcc_pluck, gcc_reading, gcc_sheet},
+#ifdef WITH_CLANG
+    {"clang", clang_block, clang_pluck, clang_reading, clang_sheet},
+#else
+    {0},
+#endif
+    {"reciprocal", reciprocal_block, 0, 0, 0},
+};
+
+/* What an engine is lent and what it leaves. */
+struct state {
+    int64_t older[ROOM], newer[ROOM], work[ROOM];
+    int16_t samples[PLACES];
+    size_t steps;
+    uint64_t refusal, q, m, s;
+    double value;
+};
+
+static struct state states[ENGINES];
+static double double_levels[3][ROOM], *doubles[3];
 static float double_samples[PLACES];
 
-static struct voice voice_of(uint64_t kind, size_t size)
+struct row {
+    const char *what;
+    void (*call)(const struct engine *, struct state *, const struct row *, int64_t force);
+    uint64_t kind;
+    size_t size;
+};
+
+static struct buvcsolta_instrument instrument_of(const struct row *r)
 {
-    int64_t q = kind >= 5 ? 30000 : kind == 4 ? 20000 : 60000;
-    struct voice v = {{kind, size, kind >= 5 ? size : 1, q, kind == 4 ? 9000 : 0, 3}, 0, 0, 0, INT64_C(1) << 34};
-    v.points = v.i.columns * v.i.rows;
-    v.hit = kind >= 5 ? v.points / 2 + size / 2 : size / 2;
-    v.pick_up = v.hit + 1;
-    return v;
+    struct buvcsolta_instrument i = {r->kind, r->size, r->kind >= 5 ? r->size : 1, r->kind >= 5 ? 30000 : r->kind == 4 ? 20000 : 60000,
+                                     r->kind == 4 ? 9000 : 0, 3};
+    return i;
+}
+
+static size_t middle(const struct buvcsolta_instrument *i)
+{
+    return i->rows / 2 * i->columns + i->columns / 2;
+}
+
+static void some_steps(const struct engine *e, struct state *x, const struct row *r, size_t places, int64_t force)
+{
+    struct buvcsolta_instrument i = instrument_of(r);
+    size_t n = i.columns * i.rows, at = middle(&i);
+    x->refusal |= e->block(i.kind, i.columns, i.rows, i.q, i.m, i.s, x->older, n, x->newer, n, x->work, n, x->samples, places, at + 1, 1, at,
+                           force, &x->steps);
+}
+
+static void long_block(const struct engine *e, struct state *x, const struct row *r, int64_t force)
+{
+    some_steps(e, x, r, PLACES, force);
+}
+
+static void short_block(const struct engine *e, struct state *x, const struct row *r, int64_t force)
+{
+    some_steps(e, x, r, 1, force);
+}
+
+static void pluck(const struct engine *e, struct state *x, const struct row *r, int64_t force)
+{
+    x->refusal |= e->pluck(r->kind, r->size, 1, x->older, r->size, x->newer, r->size, r->size / 2, r->size / 4, force);
+}
+
+static void reading(const struct engine *e, struct state *x, const struct row *r, int64_t force)
+{
+    struct buvcsolta_instrument i = instrument_of(r);
+    x->newer[middle(&i)] = force;
+    x->refusal |= e->reading(i.kind, i.columns, i.rows, x->newer, i.columns * i.rows, middle(&i), &x->value);
+}
+
+static void sheet(const struct engine *e, struct state *x, const struct row *r, int64_t force)
+{
+    struct buvcsolta_instrument i = instrument_of(r);
+    double speed = force < 0 ? 100 : 101;
+    x->refusal |= e->sheet(i.kind, i.columns, i.rows, 48000, 1, 0, i.kind >= 5, speed, 1, i.kind >= 5, 6, &x->q, &x->m, &x->s);
+}
+
+static const struct row rows[] = {
+    {"string, fixed", long_block, 1, 32}, {"string, fixed", long_block, 1, 1024},
+    {"string, one end free", long_block, 2, 32}, {"string, one end free", long_block, 2, 1024},
+    {"string, free", long_block, 3, 32}, {"string, free", long_block, 3, 1024},
+    {"bar", long_block, 4, 32}, {"bar", long_block, 4, 1024},
+    {"membrane", long_block, 5, 8}, {"membrane", long_block, 5, 64},
+    {"round membrane", long_block, 6, 8}, {"round membrane", long_block, 6, 64},
+    {"block of one step, string", short_block, 1, 32}, {"block of one step, string", short_block, 1, 1024},
+    {"block of one step, bar", short_block, 4, 1024},
+    {"block of one step, membrane", short_block, 5, 8}, {"block of one step, membrane", short_block, 5, 64},
+    {"block of one step, round membrane", short_block, 6, 8}, {"block of one step, round membrane", short_block, 6, 64},
+    {"pluck", pluck, 1, 32}, {"pluck", pluck, 1, 1024},
+    {"reading, string", reading, 1, 32}, {"reading, string", reading, 1, 1024}, {"reading, round membrane", reading, 6, 64},
+    {"sheet in hertz", sheet, 1, 101}, {"sheet by tension", sheet, 5, 64},
+};
+
+enum { ROW_COUNT = sizeof rows / sizeof *rows };
+
+static int is_there(const struct row *r, int which)
+{
+    int is_block = r->call == long_block || r->call == short_block;
+    return which == ENGINES ? r->call == long_block : is_block ? engines[which].block != NULL : engines[which].pluck != NULL;
+}
+
+/* Points times steps of a block of 64; other calls are counted whole. */
+static size_t units(const struct row *r)
+{
+    return r->call != long_block ? 1 : PLACES * r->size * (r->kind >= 5 ? r->size : 1);
 }
 
 static void rest(void)
 {
-    memset(proved_levels, 0, sizeof proved_levels);
-    memset(plain_levels, 0, sizeof plain_levels);
+    memset(states, 0, sizeof states);
     memset(double_levels, 0, sizeof double_levels);
-    for (int k = 0; k < 3; k++) {
-        plain[k] = plain_levels[k];
+    for (int k = 0; k < 3; k++)
         doubles[k] = double_levels[k];
+}
+
+/* Calls of one row by one engine. The force changes its sign from call to call, so that a free string stays in its place. */
+__attribute__((noinline, noclone)) void counted(const struct row *r, int which, size_t calls)
+{
+    struct buvcsolta_instrument i = instrument_of(r);
+    int64_t force = INT64_C(1) << 34;
+    for (size_t k = 0; k < calls; k++, force = -force) {
+        if (which == ENGINES)
+            double_block(&i, doubles, double_samples, PLACES, middle(&i) + 1, middle(&i), (double)force);
+        else
+            r->call(&engines[which], &states[which], r, force);
     }
 }
 
-static void proved_block(const struct voice *v)
-{
-    size_t steps;
-    uint64_t refusal = buvcsolta_block(v->i.kind, v->i.columns, v->i.rows, (uint64_t)v->i.q, (uint64_t)v->i.m, (uint64_t)v->i.s,
-                                       proved_levels[0], v->points, proved_levels[1], v->points, proved_levels[2], v->points,
-                                       proved_samples, PLACES, v->pick_up, 1, v->hit, v->force, &steps);
-    if (refusal != 0 || steps != PLACES) {
-        printf("kind %llu: refusal %llu after %zu steps\n", (unsigned long long)v->i.kind, (unsigned long long)refusal, steps);
-        exit(1);
-    }
-}
-
-static void one_block(const struct voice *v, int which)
-{
-    if (which == 0)
-        proved_block(v);
-    else if (which == 1)
-        plain_block(&v->i, plain, plain_samples, PLACES, v->pick_up, v->hit, v->force);
-    else
-        double_block(&v->i, doubles, double_samples, PLACES, v->pick_up, v->hit, (double)v->force);
-}
-
-/* The function whose instructions are counted. The force changes its sign from block to block, so that a free string stays in its place. */
-__attribute__((noinline)) void bench_blocks(struct voice v, int which, size_t blocks)
-{
-    for (size_t k = 0; k < blocks; k++) {
-        one_block(&v, which);
-        v.force = -v.force;
-    }
-}
-
-static double seconds(const struct voice *v, int which, size_t blocks)
+static double nanoseconds(const struct row *r, int which, size_t calls)
 {
     struct timespec a, b;
     clock_gettime(CLOCK_PROCESS_CPUTIME_ID, &a);
-    bench_blocks(*v, which, blocks);
+    counted(r, which, calls);
     clock_gettime(CLOCK_PROCESS_CPUTIME_ID, &b);
-    return (double)(b.tv_sec - a.tv_sec) + 1e-9 * (double)(b.tv_nsec - a.tv_nsec);
+    return (1e9 * (double)(b.tv_sec - a.tv_sec) + (double)(b.tv_nsec - a.tv_nsec)) / (double)calls;
 }
 
-static int are_same(const struct voice *v)
+static int are_same(const struct row *r)
 {
-    return memcmp(proved_levels[0], plain[0], v->points * sizeof(int64_t)) == 0
-        && memcmp(proved_levels[1], plain[1], v->points * sizeof(int64_t)) == 0
-        && memcmp(proved_samples, plain_samples, sizeof plain_samples) == 0;
+    for (int which = 1; which < ENGINES; which++)
+        if (is_there(r, which) && memcmp(&states[0], &states[which], sizeof *states) != 0)
+            return 0;
+    return states[0].refusal == 0;
 }
 
-/* One row of the table. */
-static void measure(uint64_t kind, size_t size)
+/* One row; whether all did the same. */
+static int measure(const struct row *r)
 {
-    struct voice v = voice_of(kind, size);
-    size_t blocks = WORK / (v.points * PLACES * 2) * 2 + 2;
-    double least[3] = {1e9, 1e9, 1e9}, scale = 1e9 / (double)(v.points * PLACES * blocks);
+    double least[ENGINES + 1];
+    size_t calls = 2;
+    int same;
+    rest();
+    while (nanoseconds(r, 0, calls) * (double)calls < 2e6)
+        calls *= 2;
     rest();
     for (int round = 0; round < ROUNDS; round++)
-        for (int which = 0; which < 3; which++) {
-            double t = seconds(&v, which, blocks);
-            least[which] = t < least[which] ? t : least[which];
-        }
-    printf("| %llu | %zu × %zu | %.2f | %.2f | %.2f | %.2f | %.2f | %s |\n", (unsigned long long)kind, v.i.columns, v.i.rows, least[0] * scale,
-           least[1] * scale, least[2] * scale, least[0] / least[1], least[0] / least[2], are_same(&v) ? "yes" : "NO");
+        for (int which = 0; which <= ENGINES; which++)
+            if (is_there(r, which)) {
+                double t = nanoseconds(r, which, calls);
+                least[which] = round == 0 || t < least[which] ? t : least[which];
+            }
+    same = are_same(r);
+    printf("%s;%zu × %zu;%zu;%s", r->what, r->size, r->kind >= 5 ? r->size : 1, units(r), same ? "yes" : "NO");
+    for (int which = 0; which <= ENGINES; which++)
+        if (is_there(r, which))
+            printf(";%s %.3f", which == ENGINES ? "double" : engines[which].name, least[which]);
+    puts("");
+    return same;
 }
 
 int main(int argc, char **argv)
 {
-    if (argc == 6 && strcmp(argv[1], "count") == 0) {
-        struct voice v = voice_of(strtoull(argv[3], 0, 10), strtoull(argv[4], 0, 10));
-        rest();
-        bench_blocks(v, atoi(argv[2]), strtoull(argv[5], 0, 10));
-        return 0;
+    int same = 1;
+    if (argc > 2 || (argc == 2 && strcmp(argv[1], "count") != 0)) {
+        fputs("usage: bench [count]\n", stderr);
+        return 2;
     }
-    printf("| kind | grid | proved, ns | plain C, ns | double, ns | proved / plain | proved / double | same as plain |\n|---|---|---|---|---|---|---|---|\n");
-    for (uint64_t kind = 1; kind <= 6; kind++) {
-        measure(kind, kind >= 5 ? 8 : 32);
-        measure(kind, kind >= 5 ? 64 : 1024);
-    }
-    return 0;
+    for (int k = 0; k < ROW_COUNT && argc == 1; k++)
+        same &= measure(&rows[k]);
+    for (int k = 0; k < ROW_COUNT && argc == 2; k++)
+        for (int which = 0; which <= ENGINES; which++)
+            if (is_there(&rows[k], which)) {
+                if (which == 0)
+                    rest();
+                counted(&rows[k], which, CALLS_COUNTED);
+            }
+    return !same;
 }

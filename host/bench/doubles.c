@@ -1,5 +1,5 @@
+#include "doubles.h"
 #include "plain.h"
-#include "edges.h"
 
 struct factors {
     double q, m, keep, lose;
@@ -10,12 +10,12 @@ static void put(const struct factors *x, const double *p, const double *u, doubl
     next[k] = (2 * u[k] + x->q * l - x->m * b - x->keep * p[k] + f) * x->lose;
 }
 
-static double supported(const struct instrument *i, const double *u, size_t k)
+static double supported(const struct buvcsolta_instrument *i, const double *u, size_t k)
 {
     return k == 0 || k + 1 == i->columns ? 0 : u[k - 1] + u[k + 1] - 2 * u[k];
 }
 
-static double laplacian(const struct instrument *i, const double *u, size_t k)
+static double laplacian(const struct buvcsolta_instrument *i, const double *u, size_t k)
 {
     size_t c = i->columns;
     if (i->rows > 1)
@@ -27,7 +27,7 @@ static double laplacian(const struct instrument *i, const double *u, size_t k)
     return u[k - 1] + u[k + 1] - 2 * u[k];
 }
 
-static double biharmonic(const struct instrument *i, const double *u, size_t k)
+static double biharmonic(const struct buvcsolta_instrument *i, const double *u, size_t k)
 {
     return i->kind == 4 ? supported(i, u, k - 1) + supported(i, u, k + 1) - 2 * supported(i, u, k) : 0;
 }
@@ -50,13 +50,14 @@ static void membrane_points(const struct factors *x, const double *p, const doub
         put(x, p, u, next, k, u[k - 1] + u[k + 1] + u[k - c] + u[k + c] - 4 * u[k], 0, 0);
 }
 
-static void point(const struct instrument *i, const struct factors *x, const double *p, const double *u, double *next, size_t k, double f)
+static void point(const struct buvcsolta_instrument *i, const struct factors *x, const double *p, const double *u, double *next, size_t k,
+                  double f)
 {
     put(x, p, u, next, k, laplacian(i, u, k), biharmonic(i, u, k), f);
 }
 
 /* The points whose neighbours are not all on the grid, then the others. */
-static void line_step(const struct instrument *i, const struct factors *x, const double *p, const double *u, double *next)
+static void line_step(const struct buvcsolta_instrument *i, const struct factors *x, const double *p, const double *u, double *next)
 {
     size_t c = i->columns;
     if (i->kind == 3)
@@ -72,25 +73,26 @@ static void line_step(const struct instrument *i, const struct factors *x, const
     bar_points(x, p, u, next, 2, c - 2);
 }
 
-static void grid_step(const struct instrument *i, const struct factors *x, const double *p, const double *u, double *next, const size_t first[64])
+static void grid_step(const struct buvcsolta_instrument *i, const struct factors *x, const struct edges *e, const double *p, const double *u,
+                      double *next)
 {
     size_t c = i->columns;
     for (size_t row = 1; row + 1 < i->rows; row++)
-        membrane_points(x, p, u, next, row * c + first[row], row * c + c - first[row], c);
+        membrane_points(x, p, u, next, row * c + e->from[row], row * c + e->to[row], c);
 }
 
-void double_block(const struct instrument *i, double *levels[3], float *samples, size_t places, size_t pick_up,
+void double_block(const struct buvcsolta_instrument *i, double *levels[3], float *samples, size_t places, size_t pick_up,
                   size_t hit, double force)
 {
-    struct factors x = {i->q / 65536.0, i->m / 65536.0, 1 - i->s / 65536.0, 1 / (1 + i->s / 65536.0)};
-    size_t first[64];
-    first_moving(i, first);
+    struct factors x = {(double)i->q / 65536, (double)i->m / 65536, 1 - (double)i->s / 65536, 1 / (1 + (double)i->s / 65536)};
+    struct edges e;
+    find_edges(i->kind, i->columns, i->rows, &e);
     for (size_t n = 0; n < places; n++) {
         double *next = levels[2];
         if (i->rows == 1)
             line_step(i, &x, levels[0], levels[1], next);
         else
-            grid_step(i, &x, levels[0], levels[1], next, first);
+            grid_step(i, &x, &e, levels[0], levels[1], next);
         if (n == 0)
             point(i, &x, levels[0], levels[1], next, hit, force);
         levels[2] = levels[0];

@@ -1,0 +1,215 @@
+/* A block. The three levels change their roles from step to step. With RECIPROCAL the division of a point is a multiplication by a
+ * number that is worked out once a block; it is exact, since no numerator reaches 2^62 and no divisor 2^17 + 1. */
+#include "plain.h"
+#include <string.h>
+
+struct plan {
+    uint64_t kind;
+    size_t columns, rows;
+    int64_t q, m, kept, divisor, half, limit;
+    uint64_t reciprocal; /* above 2^79 / divisor */
+    struct edges edges;
+};
+
+/* n over the divisor to the nearest whole number, halves away from zero. */
+static inline int64_t round_away(const struct plan *x, int64_t n)
+{
+    int64_t sign = n >> 63;
+#ifdef RECIPROCAL
+    uint64_t size = (uint64_t)((n ^ sign) - sign + x->half);
+    uint64_t high = (uint64_t)((__extension__(unsigned __int128) size * x->reciprocal) >> 64);
+    return ((int64_t)(high >> 15) ^ sign) - sign;
+#else
+    return (n + ((x->half ^ sign) - sign)) / x->divisor;
+#endif
+}
+
+/* The next value at a point from its newer and older values, L, B and the force. sign becomes negative where it is beyond the ceiling. */
+static inline int64_t next_value(const struct plan *x, int64_t u, int64_t p, int64_t l, int64_t b, int64_t f, int64_t *sign)
+{
+    int64_t n = 2 * D * u + x->q * l - x->m * b - x->kept * p + D * f;
+    *sign |= passes(n, x->limit);
+    return round_away(x, n);
+}
+
+/* Inner points a..e - 1 of a string. */
+static int64_t string_run(const struct plan *x, const int64_t *restrict p, const int64_t *restrict u, int64_t *restrict next, size_t a,
+                          size_t e)
+{
+    int64_t sign = 0;
+    for (size_t k = a; k < e; k++)
+        next[k] = next_value(x, u[k], p[k], u[k - 1] + u[k + 1] - 2 * u[k], 0, 0, &sign);
+    return sign;
+}
+
+/* L along a line, 0 at the supported ends. */
+static inline int64_t supported(const struct plan *x, const int64_t *u, size_t k)
+{
+    return k == 0 || k + 1 == x->columns ? 0 : u[k - 1] + u[k + 1] - 2 * u[k];
+}
+
+/* Points a..e - 1 of a bar, all of them inner ones. */
+static int64_t bar_run(const struct plan *x, const int64_t *restrict p, const int64_t *restrict u, int64_t *restrict next, size_t a,
+                       size_t e)
+{
+    int64_t sign = 0, before = supported(x, u, a - 1), l = supported(x, u, a);
+    size_t end = e + 1 == x->columns ? e - 1 : e;
+    for (size_t k = a; k < end; k++) {
+        int64_t after = u[k] + u[k + 2] - 2 * u[k + 1];
+        next[k] = next_value(x, u[k], p[k], l, before + after - 2 * l, 0, &sign);
+        before = l;
+        l = after;
+    }
+    if (end < e)
+        next[end] = next_value(x, u[end], p[end], l, before - 2 * l, 0, &sign);
+    return sign;
+}
+
+/* Points a..e - 1 of a row of a membrane. */
+static int64_t membrane_run(const struct plan *x, const int64_t *restrict p, const int64_t *restrict u, int64_t *restrict next, size_t a,
+                            size_t e)
+{
+    int64_t sign = 0;
+    size_t c = x->columns;
+    for (size_t k = a; k < e; k++)
+        next[k] = next_value(x, u[k], p[k], u[k - 1] + u[k + 1] + u[k - c] + u[k + c] - 4 * u[k], 0, 0, &sign);
+    return sign;
+}
+
+/* One point, with its force. */
+static int64_t point_run(const struct plan *x, const int64_t *p, const int64_t *u, int64_t *next, size_t k, int64_t f)
+{
+    int64_t sign = 0, l, b = 0;
+    size_t c = x->columns;
+    if (x->rows > 1)
+        l = u[k - 1] + u[k + 1] + u[k - c] + u[k + c] - 4 * u[k];
+    else if (k == 0 || k + 1 == c)
+        l = 2 * (u[k == 0 ? 1 : k - 1] - u[k]);
+    else
+        l = u[k - 1] + u[k + 1] - 2 * u[k];
+    if (x->kind == 4)
+        b = supported(x, u, k - 1) + supported(x, u, k + 1) - 2 * l;
+    next[k] = next_value(x, u[k], p[k], l, b, f, &sign);
+    return sign;
+}
+
+/* Points a..e - 1 of a row, none of them hit. */
+static int64_t run(const struct plan *x, const int64_t *p, const int64_t *u, int64_t *next, size_t a, size_t e)
+{
+    int64_t sign = 0;
+    if (a >= e)
+        return 0;
+    if (x->kind >= 5)
+        return membrane_run(x, p, u, next, a, e);
+    if (x->kind == 4)
+        return bar_run(x, p, u, next, a, e);
+    if (a == 0)
+        sign |= point_run(x, p, u, next, a++, 0);
+    if (e == x->columns && a < e)
+        sign |= point_run(x, p, u, next, --e, 0);
+    return sign | string_run(x, p, u, next, a, e);
+}
+
+/* One step; negative where some point is beyond the ceiling. */
+static int64_t step(const struct plan *x, const int64_t *p, const int64_t *u, int64_t *next)
+{
+    int64_t sign = 0;
+    for (size_t row = 0; row < x->rows; row++)
+        sign |= run(x, p, u, next, row * x->columns + x->edges.from[row], row * x->columns + x->edges.to[row]);
+    return sign;
+}
+
+/* The same with a hit at a moving point. */
+static int64_t struck_step(const struct plan *x, const int64_t *p, const int64_t *u, int64_t *next, size_t point, int64_t force)
+{
+    int64_t sign = point_run(x, p, u, next, point, force);
+    for (size_t row = 0; row < x->rows; row++) {
+        size_t a = row * x->columns + x->edges.from[row], e = row * x->columns + x->edges.to[row];
+        size_t middle = point < a || point > e ? e : point;
+        sign |= run(x, p, u, next, a, middle);
+        sign |= run(x, p, u, next, middle + 1, e);
+    }
+    return sign;
+}
+
+static size_t play(const struct plan *x, int64_t *levels[3], int16_t *samples, size_t places, size_t pick_up, int is_hit,
+                   size_t point, int64_t force)
+{
+    for (size_t n = 0; n < places; n++) {
+        int64_t *next = levels[2];
+        int64_t sign = n == 0 && is_hit ? struck_step(x, levels[0], levels[1], next, point, force) : step(x, levels[0], levels[1], next);
+        if (sign < 0)
+            return n;
+        levels[2] = levels[0];
+        levels[0] = levels[1];
+        levels[1] = next;
+        samples[n] = (int16_t)(next[pick_up] >> 28);
+    }
+    return places;
+}
+
+/* The levels back in their places. */
+static void settle(int64_t *levels[3], int64_t *older, int64_t *newer, int64_t *work, size_t bytes)
+{
+    if (levels[1] == work) {
+        memcpy(older, newer, bytes);
+        memcpy(newer, work, bytes);
+    } else if (levels[0] == work) {
+        memcpy(newer, older, bytes);
+        memcpy(older, work, bytes);
+    }
+    memset(work, 0, bytes);
+}
+
+static void make_plan(struct plan *x, uint64_t kind, size_t columns, size_t rows, int64_t q, int64_t m, int64_t s)
+{
+    x->kind = kind, x->columns = columns, x->rows = rows;
+    x->q = q, x->m = m, x->kept = D - s, x->divisor = D + s, x->half = (D + s) / 2;
+    x->limit = (CEILING + 1) * x->divisor - x->half - 1;
+#ifdef RECIPROCAL
+    x->reciprocal = (uint64_t)(((__extension__(unsigned __int128) 1) << 79) / (uint64_t)x->divisor + 1);
+#endif
+    find_edges(kind, columns, rows, &x->edges);
+}
+
+static uint64_t settings_refusal(uint64_t kind, uint64_t q, uint64_t m, uint64_t s)
+{
+    if (q > 65536 || m > 65536 || s > 65536)
+        return 4;
+    if (kind == 4 ? q + 4 * m > 65536 : m > 0 || (kind >= 5 && q > 32768))
+        return 5;
+    return 0;
+}
+
+uint64_t PLAIN(block)(uint64_t kind, size_t columns, size_t rows, uint64_t q, uint64_t m, uint64_t s,
+                      int64_t *older, size_t older_length, int64_t *newer, size_t newer_length,
+                      int64_t *work, size_t work_length, int16_t *samples, size_t samples_length,
+                      size_t pick_up, uint64_t hit, size_t point, int64_t force, size_t *steps)
+{
+    int64_t *levels[3] = {older, newer, work};
+    size_t points = columns * rows;
+    struct plan x;
+    uint64_t refusal = grid_refusal(kind, 6, columns, rows);
+    *steps = 0;
+    if (!refusal)
+        refusal = settings_refusal(kind, q, m, s);
+    if (refusal)
+        return refusal;
+    make_plan(&x, kind, columns, rows, (int64_t)q, (int64_t)m, (int64_t)s);
+    if (older_length != points || newer_length != points || work_length != points)
+        return 6;
+    if (hit && !is_moving(&x.edges, columns, rows, point))
+        return 7;
+    if (hit && passes(force, CEILING) < 0)
+        return 8;
+    if (pick_up >= points)
+        return 9;
+    if (some_beyond(older, points) || some_beyond(newer, points))
+        return 11;
+    if (some_fixed_not_zero(&x.edges, columns, rows, older) || some_fixed_not_zero(&x.edges, columns, rows, newer))
+        return 12;
+    memset(work, 0, points * sizeof *work);
+    *steps = play(&x, levels, samples, samples_length, pick_up, hit != 0, point, force);
+    settle(levels, older, newer, work, points * sizeof *work);
+    return *steps < samples_length ? 13 : 0;
+}
