@@ -1,6 +1,5 @@
 // The file's numbers as the types that the calls take.
 ghost use Prim.Native.Nat.{_≤_, _<_, _^_};
-ghost use lib.ListN.{length};
 use crate::reader::Fault;
 use crate::reader::Reader;
 use crate::reader::Word;
