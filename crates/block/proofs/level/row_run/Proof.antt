@@ -17,7 +17,7 @@ use Rattle.scheme.specs.Step.{forceOf, nextAt}
 use Rattle.block.specs.Plan.{Ready}
 use Rattle.block.specs.Run.{valueAt, Ran, Placed, Moves, Ends}
 use Rattle.block.proofs.FillLaws.{Running, running-start, running-on, running-stops, running-done, ran-fine, ran-same}
-use Rattle.block.proofs.HitLaws.{force-low, ready-force, some-move, moves-inside, next-value}
+use Rattle.block.proofs.HitLaws.{force-low, ready-force, some-move, next-value}
 use Rattle.block.proofs.level.row_run.Statement.{statement}
 use Rattle.block.proofs.level.row_run.Tie as tie
 

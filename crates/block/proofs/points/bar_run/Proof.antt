@@ -15,7 +15,7 @@ use Rattle.block.specs.Plan.{Ready, Neighbouring}
 use Rattle.block.specs.Run.{valueAt, OnLine, barLaplacian}
 use Rattle.block.proofs.KindLaws.{line-long}
 use Rattle.block.proofs.BesideLaws.{beside#}
-use Rattle.block.proofs.BendLaws.{bar#, bendingOf, bar-beside}
+use Rattle.block.proofs.BendLaws.{bar#, bar-beside}
 use Rattle.block.proofs.FillLaws.{placed-after, Running, running-start, running-on, running-stops, running-done, ran-fine}
 use Rattle.block.proofs.points.bar_run.Statement.{statement}
 use Rattle.block.proofs.points.bar_run.Tie as tie
@@ -102,7 +102,8 @@ module _ (c : tie.After-laplacian-at3 Inv-loop μ-loop) where
 
   beside : Neighbouring (s .args .plan .instrument) (s .args .newer .now) (k turn) (red sum#) (pos 2) (red (outer# ⊟ twice#))
   beside =
-      coe 1 0 (j. Neighbouring (s .args .plan .instrument) (s .args .newer .now) (k turn) (is sum# tt j) (pos 2) (is (outer# ⊟ twice#) tt j))
+      coe 1 0 (j. Neighbouring (s .args .plan .instrument) (s .args .newer .now) (k turn) (is sum# tt j) (pos 2)
+      (is (outer# ⊟ twice#) tt j))
       (bar-beside (s .args .plan .instrument) (is-bar s) (s .args .newer .now) (ready s .newer-long) (ready s .newer-low) (on s) (k turn)
       (first turn) (last turn))
 

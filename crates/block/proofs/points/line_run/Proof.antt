@@ -1,15 +1,11 @@
 -- `line_run` meets its contract: each point has its two neighbours on the line.
-use mathlib.Core.Path.{_≡_, sym, _∙_, subst}
-use mathlib.Core.Logic.{_⊎_}
+use mathlib.Core.Path.{_≡_}
 use Prim.Native.Nat.{ℕ, _+_, _-_, _≤_, _<_}
 use native.Mathlib.Omega.{arith}
 use borrow.Author.Needs.{needs}
 use borrow.Author.Tests.{not-true, not-false}
 use lib.IntN.{ℤ, pos}
 use lib.ListN.{length}
-use mir.Syntax.{w64}
-use mir.Val.{toZ, ofZ}
-use Rattle.bounded.proofs.Num.{back}
 use Rattle.bounded.proofs.Expr.{E, fits, said, red}
 use Rattle.block.specs.Plan.{Ready, Neighbouring}
 use Rattle.block.specs.Run.{valueAt, OnLine}
@@ -76,7 +72,8 @@ module _ (c : tie.Then1 Inv-loop μ-loop) where
   beside : Neighbouring (start .args .plan .instrument) (start .args .newer .now) k (red sum#) (pos 2) (pos 0)
   beside =
       said (λ (z : ℤ). Neighbouring (start .args .plan .instrument) (start .args .newer .now) k z (pos 2) (pos 0)) sum# tt
-      (line-beside (start .args .plan .instrument) (ready start .planned .passes) (on start) (soft start) (start .args .newer .now) k first last)
+      (line-beside (start .args .plan .instrument) (ready start .planned .passes) (on start) (soft start) (start .args .newer .now) k first
+      last)
 
 -- the same, once the point is done
 abbrev turn : tie.After-out Inv-loop μ-loop → tie.Then1 Inv-loop μ-loop
