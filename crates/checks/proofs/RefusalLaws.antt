@@ -98,7 +98,7 @@ pluck-same g wrong wrong′ c w a same =
     second-same (gridChecks lastPlucked g) (after wrong) (after wrong′) tt
     (λ n. ap (λ (x : Bool). lowest (after x)) (same (grid-in lastPlucked g n)))
 
-unfixed-is : (g : Grid) (xs : List ℤ) → inTable g ≡ true → length xs ≡ points g → unfixed g xs ≡ fixedNotZero g xs
+pub unfixed-is : (g : Grid) (xs : List ℤ) → inTable g ≡ true → length xs ≡ points g → unfixed g xs ≡ fixedNotZero g xs
 unfolding unfixed
 unfixed-is g xs size e = and-yes size ∙ and-yes (eq-eqb (length xs) (points g) e)
 

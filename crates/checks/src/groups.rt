@@ -4,8 +4,10 @@ ghost use mathlib.Core.Bool.{true};
 ghost use mathlib.Core.List.{[], _∷_};
 ghost use Rattle.scheme.specs.Instruments.{inTable};
 ghost use Rattle.scheme.specs.Refusals.{_⇒_, lowest, gridChecks, settingsChecks, lengthChecks, hitChecks, pickChecks, widthChecks};
-ghost use Rattle.scheme.specs.Refusals.{instrumentRefusal};
+ghost use Rattle.scheme.specs.Step.{someBeyond};
+ghost use Rattle.scheme.specs.Refusals.{stateChecks, instrumentRefusal};
 ghost use Rattle.scheme.specs.Calls.{accepted};
+ghost use Rattle.levels.specs.Levels.{unfixed};
 ghost use Rattle.checks.specs.Refused.{firstOf, stateRefusal};
 use crate::tests::either;
 use crate::tests::not_grid_point;
@@ -122,6 +124,18 @@ pub(crate) fn width_refusal(g: Grid, half_width: usize) -> Refusal
     ensures { λ r. ⌜ r ≡ lowest (widthChecks g «half_width») ⌝ }
 {
     one(wrong_width(g, half_width), Refusal::HalfWidth)
+}
+
+// 11 and 12 of one level.
+pub(crate) fn level_refusal(g: Grid, xs: &[i64]) -> Refusal
+    ensures { λ r. ⌜ r ≡ lowest (stateChecks (someBeyond (now (xs .entry))) (unfixed g (now (xs .entry)))) ⌝ }
+{
+    two(
+        some_beyond(xs),
+        Refusal::PointBeyond,
+        is_unfixed(g, xs),
+        Refusal::FixedNotZero,
+    )
 }
 
 // 11 and 12 of two levels. Ruled out: 11 not asked of older; 12 not asked of older.

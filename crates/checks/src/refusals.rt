@@ -7,6 +7,7 @@ use crate::groups::hit_refusal;
 use crate::groups::instrument_refusal;
 use crate::groups::is_nothing;
 use crate::groups::length_refusal;
+use crate::groups::level_refusal;
 use crate::groups::pick_refusal;
 use crate::groups::state_refusal;
 use crate::groups::width_refusal;
@@ -86,5 +87,5 @@ pub fn reading_refusal(g: Grid, newer: &[i64], pick: usize) -> Refusal
     if !is_nothing(r) {
         return r;
     }
-    state_refusal(g, newer, newer)
+    level_refusal(g, newer)
 }

@@ -1,15 +1,24 @@
--- Points of a level that are not 0. Vocabulary between the engine's crates: no call that a maker embeds cites it.
+-- Signs by bits, and points of a level that are not 0. Vocabulary between the engine's crates: no call that a maker embeds cites it.
 use mathlib.Core.Bool.{Bool, _&&_, _||_}
 use mathlib.Core.List.{List}
-use Prim.Native.Nat.{ℕ, _+_, _-_}
-use lib.Dec.{ltb, eqb}
-use lib.IntN.{ℤ, natAbs}
+use Prim.Native.Nat.{ℕ, suc, _+_, _-_, _^_}
+use lib.Dec.{leb, ltb, eqb}
+use lib.IntN.{ℤ, pos, negsuc, natAbs}
 use lib.ListN.{length}
 use Rattle.scheme.specs.declared.Grid.{Grid}
 use Rattle.scheme.specs.Lists.{point, someBelow}
 use Rattle.scheme.specs.Instruments.{points, inTable}
 use Rattle.scheme.specs.Refusals.{fixedNotZero}
 use Rattle.kinds.specs.declared.runs.Run.{Run}
+
+-- a number's bits, in two's complement of 64
+abbrev pub bitsOf : ℤ → ℕ
+bitsOf (pos n) = n
+bitsOf (negsuc n) = 2 ^ 64 - suc n
+
+-- bits with the sign bit
+abbrev pub signed : ℕ → Bool
+signed n = leb (2 ^ 63) n
 
 -- point k is not 0
 abbrev pub notZero : List ℤ → ℕ → Bool

@@ -7,13 +7,15 @@ ghost use Rattle.scheme.specs.Instruments.{points, beyond};
 ghost use Rattle.scheme.specs.Step.{someBeyond};
 ghost use Rattle.scheme.specs.Refusals.{fixedNotZero};
 ghost use Rattle.scheme.specs.Instruments.{inTable};
-ghost use Rattle.levels.specs.Levels.{someNotZero, rowNotZero, unfixed};
+ghost use Rattle.levels.specs.Levels.{bitsOf, signed, someNotZero, rowNotZero, unfixed};
 use kinds::Run;
 use kinds::has_size;
 use kinds::movable_run;
 use kinds::points_of;
 use scheme::Grid;
 use scheme::Settings;
+use std::num::wrapping_add_u64;
+use std::num::wrapping_sub_u64;
 
 // Ruled out: the ceiling itself taken as beyond; below zero, all but the points beyond.
 pub fn is_beyond(v: i64) -> bool
@@ -25,18 +27,39 @@ pub fn is_beyond(v: i64) -> bool
     Settings::CEILING < v
 }
 
-// Ruled out: point 0 left out; every other point left out.
+// What a number with the sign bit has at least.
+const SIGN: u64 = 9223372036854775808;
+
+// Two's complement.
+fn bits(v: i64) -> u64
+    ensures { λ r. ⌜ r ≡ bitsOf v ⌝ }
+{
+    if v < 0 {
+        return u64::MAX - (-1 - v) as u64;
+    }
+    v as u64
+}
+
+// A number with the sign bit where v lies beyond the ceiling: that of v + ceiling or of ceiling − v. It takes no branch.
+fn excess(v: i64) -> u64
+    ensures { λ r. ⌜ signed r ≡ beyond v ⌝ }
+{
+    let b = bits(v);
+    let c = Settings::CEILING as u64;
+    wrapping_add_u64(b, c) | wrapping_sub_u64(c, b)
+}
+
+// All points are looked at, so that the loop has no branch. Ruled out: point 0 left out; every other point left out.
 pub fn some_beyond(xs: &[i64]) -> bool
     ensures { λ r. ⌜ r ≡ someBeyond (now (xs .entry)) ⌝ }
 {
+    let mut signs = 0;
     let mut point = 0;
     while point < xs.len() {
-        if is_beyond(xs[point]) {
-            return true;
-        }
+        signs = signs | excess(xs[point]);
         point += 1;
     }
-    false
+    SIGN <= signs
 }
 
 // Whether some of the n points from start on is not 0.

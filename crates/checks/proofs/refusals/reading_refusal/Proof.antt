@@ -1,14 +1,14 @@
 -- `reading_refusal` meets its contract: 1 and 2 first, then 6 and 9, then 11 and 12.
-use mathlib.Core.Path.{_≡_, refl, ap, ap₂, _∙_}
-use mathlib.Core.Bool.{Bool, true, false, _||_}
+use mathlib.Core.Path.{_≡_, ap, _∙_}
+use mathlib.Core.Bool.{Bool, true}
 use mathlib.Core.List.{List, _++_}
 use lib.ListN.{length}
 use Rattle.scheme.specs.Instruments.{inTable}
 use Rattle.scheme.specs.Step.{someBeyond}
 use Rattle.scheme.specs.Refusals.{lastKind, wrongLength, fixedNotZero, Check, lowest, gridChecks, lengthChecks, pickChecks, stateChecks}
 use Rattle.scheme.specs.Refusals.{readingRefusal}
-use Rattle.scheme.proofs.Laws.Refusals.{NoneApplies}
-use Rattle.checks.proofs.RefusalLaws.{append-is, passed, refused-by, goes-on, grid-in, long-is, state-is}
+use Rattle.scheme.proofs.Laws.Refusals.{NoneApplies, right-length}
+use Rattle.checks.proofs.RefusalLaws.{append-is, passed, refused-by, goes-on, grid-in, long-is, unfixed-is}
 use borrow.Author.Needs.{needs}
 use Rattle.checks.proofs.refusals.reading_refusal.Statement.{statement}
 use Rattle.checks.proofs.refusals.reading_refusal.Tie as tie
@@ -19,10 +19,6 @@ lent s = lengthChecks (wrongLength (s .args .g) (length (s .args .newer .now))) 
 
 abbrev state : tie.Start → List Check
 state s = stateChecks (someBeyond (s .args .newer .now)) (fixedNotZero (s .args .g) (s .args .newer .now))
-
-once : (b : Bool) → (b || b) ≡ b
-once true = refl
-once false = refl
 
 size : (c : tie.Else1) → inTable (c .before .before .before .args .g) ≡ true
 size c = let g = c .before .before .before .args .g in
@@ -77,8 +73,8 @@ returns-2 c =
     (e .before .is-nothing .ensures) (e .if1 .left)
     (refused-by (lent s) (state s) tt (lent-is f) (c .before .is-nothing2 .ensures) (c .if2 .taken))
 
-state-refusal-requires : tie.Need-state-refusal-requires
-state-refusal-requires c κs = search needs
+level-refusal-requires : tie.Need-level-refusal-requires
+level-refusal-requires c κs = search needs
 
 returns-3 : tie.Need-returns-3
 unfolding readingRefusal
@@ -93,8 +89,8 @@ returns-3 c =
     goes-on (gridChecks lastKind g) (lent s ++ state s) tt (e .before .before .grid-refusal .ensures) (e .before .is-nothing .ensures)
     (e .if1 .left)
     (goes-on (lent s) (state s) tt (lent-is f) (c .before .before .is-nothing2 .ensures) (c .before .if2 .left)
-    (c .state-refusal .ensures ∙ state-is g newer newer (size e) (none .0) (none .0) ∙
-    ap₂ (λ (x y : Bool). lowest (stateChecks x y)) (once (someBeyond newer)) (once (fixedNotZero g newer))))
+    (c .level-refusal .ensures ∙ ap (λ (x : Bool). lowest (stateChecks (someBeyond newer) x))
+    (unfixed-is g newer (size e) (right-length g (length newer) (none .0)))))
 
 pub reading-refusal-spec : {M : Type 1} → statement M
 reading-refusal-spec =
@@ -109,5 +105,5 @@ reading-refusal-spec =
     first-requires
     is-nothing-requires-2
     returns-2
-    state-refusal-requires
+    level-refusal-requires
     returns-3)

@@ -1,48 +1,39 @@
--- `some_beyond` meets its contract: the points passed are not beyond.
-use mathlib.Core.Path.{_≡_, sym, ap, _∙_}
-use mathlib.Core.Bool.{not}
-use Prim.Native.Nat.{_-_}
+-- `some_beyond` meets its contract: the signs so far tell whether some point passed is beyond.
+use mathlib.Core.Path.{_≡_, refl, sym, ap, ap₂, _∙_}
+use mathlib.Core.Bool.{_||_}
+use Prim.Native.Nat.{ℕ, _-_, _≤_}
+use native.Mathlib.Numerals.{add-one}
 use native.Mathlib.Omega.{arith}
 use borrow.Author.Needs.{needs}
 use lib.ListN.{length}
 use Rattle.bounded.proofs.Num.{back}
-use Rattle.scheme.specs.Lists.{point}
+use Rattle.scheme.specs.Lists.{point, someBelow}
 use Rattle.scheme.specs.Instruments.{beyond}
 use Rattle.scheme.specs.Step.{someBeyond}
-use Rattle.scheme.proofs.Laws.Lists.{some-at}
-use Rattle.kinds.specs.Search.{Passed}
-use Rattle.kinds.proofs.SearchLaws.{passed-none, passed-more, some-none}
+use Rattle.levels.specs.Levels.{signed}
+use Rattle.levels.proofs.SignLaws.{signed-or}
 use Rattle.levels.proofs.levels.some_beyond.Statement.{statement}
 use Rattle.levels.proofs.levels.some_beyond.Tie as tie
 
--- the points passed are not beyond
+-- the signs of the points passed
 abbrev Inv-loop : tie.InvT-loop
-Inv-loop xs k₀ k = Passed (length xs) (λ i. not (beyond (point xs i))) k
+Inv-loop xs signs₀ k₀ signs k = (k ≤ length xs) × (signed signs ≡ someBelow k (λ i. beyond (point xs i)))
 
 abbrev μ-loop : tie.MeasureT-loop
-μ-loop xs k₀ k = length xs - k
-
--- what is_beyond answered of the point that was read
-found : (c : tie.After-is-beyond Inv-loop μ-loop)
-    → beyond (point (c .before .before .before .before .args .xs .now) (c .before .before .before .loop .point)) ≡ c .is-beyond .result
-found c = ap beyond (sym (back (point (c .before .before .before .before .args .xs .now) (c .before .before .before .loop .point))
-    (c .before .is-beyond-arg .given))) ∙ sym (c .is-beyond .ensures)
+μ-loop xs signs₀ k₀ signs k = length xs - k
 
 loop-holds : tie.Need-loop-holds Inv-loop μ-loop
-loop-holds c = passed-none _ _
+unfolding someBelow
+loop-holds c = (omega arith, refl)
 
-mul-is-beyond : tie.Need-mul-is-beyond Inv-loop μ-loop
-mul-is-beyond c = search needs
+mul-excess : tie.Need-mul-excess Inv-loop μ-loop
+mul-excess c = search needs
 
-shared-slice-copy-out-is-beyond : tie.Need-shared-slice-copy-out-is-beyond Inv-loop μ-loop
-shared-slice-copy-out-is-beyond c = search needs
+shared-slice-copy-out-excess : tie.Need-shared-slice-copy-out-excess Inv-loop μ-loop
+shared-slice-copy-out-excess c = search needs
 
-is-beyond-requires : tie.Need-is-beyond-requires Inv-loop μ-loop
-is-beyond-requires c κs = tt
-
-returns : tie.Need-returns Inv-loop μ-loop
-unfolding someBeyond
-returns c = sym (some-at _ _ (c .before .before .before .before .loop .point) (search needs) (found (c .before) ∙ c .if1 .taken))
+excess-requires : tie.Need-excess-requires Inv-loop μ-loop
+excess-requires c κs = tt
 
 add-point : tie.Need-add-point Inv-loop μ-loop
 add-point c = search needs
@@ -51,13 +42,19 @@ loop-less : tie.Need-loop-less Inv-loop μ-loop
 loop-less c = search needs
 
 loop-again : tie.Need-loop-again Inv-loop μ-loop
+unfolding someBelow
 loop-again c =
-    let l = c .before .before .before .before .loop in
-    passed-more _ _ (omega arith) (l .inv) (ap not (found (c .before) ∙ c .if1 .left))
+    let l = c .before .before .before .loop in
+    let xs = c .before .before .before .before .args .xs .now in
+    let found = c .excess .ensures ∙ ap beyond (back (point xs (l .point)) (c .before .excess-arg .given)) in (
+      omega arith,
+      signed-or (l .signs) (c .excess .result) ∙ ap₂ _||_ (l .inv .1) found
+          ∙ ap (λ (n : ℕ). someBelow n (λ i. beyond (point xs i))) (sym (add-one (l .point))),
+    )
 
-returns-2 : tie.Need-returns-2 Inv-loop μ-loop
+returns : tie.Need-returns Inv-loop μ-loop
 unfolding someBeyond
-returns-2 c = sym (some-none _ _ (c .before .loop .inv) (omega arith))
+returns c = c .before .loop .inv .1 ∙ ap (λ (n : ℕ). someBelow n (λ i. beyond (point (c .before .before .args .xs .now) i))) (omega arith)
 
 pub some-beyond-spec : {M : Type 1} → statement M
 some-beyond-spec =
@@ -66,11 +63,10 @@ some-beyond-spec =
     Inv-loop
     μ-loop
     loop-holds
-    mul-is-beyond
-    shared-slice-copy-out-is-beyond
-    is-beyond-requires
-    returns
+    mul-excess
+    shared-slice-copy-out-excess
+    excess-requires
     add-point
     loop-less
     loop-again
-    returns-2)
+    returns)
