@@ -11,6 +11,7 @@ ghost use Rattle.scheme.specs.Calls as Calls;
 ghost use Rattle.checks.specs.Refused.{notLong};
 use crate::shape::Shape;
 use crate::shape::fill;
+use crate::slices::copy;
 use crate::table::TABLE;
 use checks::is_nothing;
 use checks::pluck_refusal;
@@ -67,7 +68,7 @@ fn carry_out(
         height,
     };
     fill(shape, table, older);
-    fill(shape, table, newer);
+    copy(older, newer);
 }
 
 // Both levels overwritten with the shape of the pluck; or what refuses it, and both as they were.

@@ -1,6 +1,7 @@
 // A pluck: both levels of a line get the shape that its rule gives.
 mod call;
 mod shape;
+mod slices;
 mod table;
 
 pub use call::pluck;

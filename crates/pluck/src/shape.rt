@@ -4,9 +4,13 @@ ghost use Prim.Native.Nat.{_≤_};
 ghost use lib.ListN.{length};
 ghost use Rattle.scheme.specs.Lists.{tabulate};
 ghost use Rattle.scheme.specs.Table.{ShapeRule};
-ghost use Rattle.scheme.specs.Pluck.{distanceFrom, pluckValue};
-ghost use Rattle.pluck.specs.Shapes.{Shaped, shapeAt};
+ghost use Rattle.scheme.specs.Pluck.{pluckValue};
+ghost use Rattle.pluck.specs.Shapes.{Shaped, stepOf, putBoth, shapeAt};
+use crate::slices::clear;
 use kinds::Run;
+
+// The parts of 1 in which the place in the table is counted.
+const PARTS: usize = 4294967296;
 
 // The moving points of a line, and a pluck's centre, half width and height.
 pub(crate) struct Shape {
@@ -16,53 +20,48 @@ pub(crate) struct Shape {
     pub height: i64,
 }
 
-fn distance(centre: usize, point: usize) -> usize
-    ensures { λ r. ⌜ r ≡ distanceFrom centre point ⌝ }
+// How far the place in the table moves from one distance to the next, in parts, rounded up.
+fn step_of(width: usize) -> usize
+    requires { ⌜ 1 ≤ width ⌝ }
+    ensures { λ r. ⌜ r ≡ stepOf width ⌝ }
 {
-    if point < centre {
-        centre - point
-    } else {
-        point - centre
-    }
+    1024 * (PARTS / width + 1)
 }
 
 // A moving point at distance d.
-fn value(shape: Shape, table: &[u32], d: usize) -> i64
-    requires { ⌜ Shaped shape × ShapeRule (now table) × (d ≤ shape .width) ⌝ }
+fn value(shape: Shape, table: &[u32], step: usize, d: usize) -> i64
+    requires { ⌜ Shaped shape × ShapeRule (now table) × (step ≡ stepOf (shape .width)) × (d ≤ shape .width) ⌝ }
     ensures { λ r. ⌜ r ≡ pluckValue (now (table .entry)) (shape .width) (shape .height) d ⌝ }
 {
-    let j = 1024 * (shape.width - d) / shape.width;
+    let j = (shape.width - d) * step / PARTS;
     let t = table[j] as i64;
     shape.height * t / 65536
 }
 
-// A point of the line: 0 where it does not move, or is not within the half width.
-fn value_at(shape: Shape, table: &[u32], point: usize) -> i64
-    requires { ⌜ Shaped shape × ShapeRule (now table) ⌝ }
-    ensures { λ r. ⌜ r ≡ shapeAt (now (table .entry)) shape point ⌝ }
+// The two points at distance d, where they move.
+fn put(shape: Shape, d: usize, v: i64, level: &mut [i64])
+    requires { ⌜ Shaped shape × (shape .run .to ≤ length (now level)) ⌝ }
+    ensures { λ _. ⌜ now (level .exit) ≡ putBoth shape d v (now (level .entry)) ⌝ }
 {
-    if point < shape.run.from {
-        return 0;
+    if d <= shape.centre - shape.run.from {
+        level[shape.centre - d] = v;
     }
-    if shape.run.to <= point {
-        return 0;
-    }
-    let d = distance(shape.centre, point);
-    if shape.width < d {
-        0
-    } else {
-        value(shape, table, d)
+    if d < shape.run.to - shape.centre {
+        level[shape.centre + d] = v;
     }
 }
 
-// A level of the line, overwritten.
+// A level of the line, overwritten: each distance is worked out once.
 pub(crate) fn fill(shape: Shape, table: &[u32], level: &mut [i64])
-    requires { ⌜ Shaped shape × ShapeRule (now table) ⌝ }
+    requires { ⌜ Shaped shape × ShapeRule (now table) × (shape .run .to ≤ length (now level)) ⌝ }
     ensures { λ _. ⌜ now (level .exit) ≡ tabulate (length (now (level .entry))) (shapeAt (now (table .entry)) shape) ⌝ }
 {
-    let mut point = 0;
-    while point < level.len() {
-        level[point] = value_at(shape, table, point);
-        point += 1;
+    clear(level);
+    let step = step_of(shape.width);
+    let mut d = 0;
+    while d <= shape.width {
+        let v = value(shape, table, step, d);
+        put(shape, d, v, level);
+        d += 1;
     }
 }

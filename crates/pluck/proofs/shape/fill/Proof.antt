@@ -1,48 +1,57 @@
--- `fill` meets its contract: the points passed have the shape.
-use mathlib.Core.Path.{refl, _∙_}
-use Prim.Native.Nat.{_-_}
-use native.Mathlib.Omega.{arith}
-use borrow.Author.Needs.{needs}
-use lib.ListN.{length}
-use Rattle.bounded.proofs.Num.{back}
-use Rattle.pluck.specs.Shapes.{shapeAt, Filled}
-use Rattle.pluck.proofs.ShapeLaws.{filled-none, filled-more, filled-all}
 use Rattle.pluck.proofs.shape.fill.Statement.{statement}
 use Rattle.pluck.proofs.shape.fill.Tie as tie
+use Rattle.pluck.proofs.shape.fill.Reads as reads
+use Rattle.pluck.proofs.shape.fill.Lts as lts
+use Rattle.pluck.proofs.shape.put.Reads as put-reads
+use Rattle.pluck.proofs.shape.step_of.Reads as step-of-reads
+use Rattle.pluck.proofs.shape.value.Reads as value-reads
+use Rattle.pluck.proofs.slices.clear.Reads as clear-reads
 
 abbrev Inv-loop : tie.InvT-loop
-Inv-loop shape table level₀ k₀ level k = Filled (length level₀) (shapeAt table shape) level k
+Inv-loop shape table level₀ step d₀ level d = ?
 
 abbrev μ-loop : tie.MeasureT-loop
-μ-loop shape table level₀ k₀ level k = length level₀ - k
+μ-loop shape table level₀ step d₀ level d = ?
 
+-- src/shape.rt:59:5
+clear-requires : tie.Need-clear-requires Inv-loop μ-loop
+clear-requires c κs = ?
+
+-- src/shape.rt:60:9
+step-of-requires : tie.Need-step-of-requires Inv-loop μ-loop
+step-of-requires c κs = ?
+
+-- src/shape.rt:62:5
 loop-holds : tie.Need-loop-holds Inv-loop μ-loop
-loop-holds c = filled-none _ _ refl
+loop-holds c = ?
 
-value-at-requires : tie.Need-value-at-requires Inv-loop μ-loop
-value-at-requires c κs = search needs
+-- src/shape.rt:63:13
+value-requires : tie.Need-value-requires Inv-loop μ-loop
+value-requires c κs = ?
 
-mul-t5 : tie.Need-mul-t5 Inv-loop μ-loop
-mul-t5 c = search needs
+-- src/shape.rt:64:9
+put-requires : tie.Need-put-requires Inv-loop μ-loop
+put-requires c κs = ?
 
-slice-set-from-level : tie.Need-slice-set-from-level Inv-loop μ-loop
-slice-set-from-level c = search needs
+-- src/shape.rt:65:9
+add-d : tie.Need-add-d Inv-loop μ-loop
+add-d c = ?
 
-add-point : tie.Need-add-point Inv-loop μ-loop
-add-point c = search needs
-
+-- src/shape.rt:62:5
 loop-less : tie.Need-loop-less Inv-loop μ-loop
-loop-less c = search needs
+loop-less c = ?
 
+-- src/shape.rt:62:5
 loop-again : tie.Need-loop-again Inv-loop μ-loop
-loop-again c =
-    filled-more _ _ (omega arith) (c .before .before .loop .inv) (back (c .value-at .result) (c .value-at .ok) ∙ c .value-at .ensures)
+loop-again c = ?
 
+-- src/shape.rt:55:1
 same-length : tie.Need-same-length Inv-loop μ-loop
-same-length c = search needs
+same-length c = ?
 
+-- src/shape.rt:55:1
 returns : tie.Need-returns Inv-loop μ-loop
-returns c = filled-all _ _ (omega arith) (c .before .loop .inv)
+returns c = ?
 
 pub fill-spec : {M : Type 1} → statement M
 fill-spec =
@@ -50,11 +59,12 @@ fill-spec =
     (tie.spec
     Inv-loop
     μ-loop
+    clear-requires
+    step-of-requires
     loop-holds
-    value-at-requires
-    mul-t5
-    slice-set-from-level
-    add-point
+    value-requires
+    put-requires
+    add-d
     loop-less
     loop-again
     same-length
