@@ -128,7 +128,15 @@ copied n xs l h m = filled-all n (point xs) h m ∙ sym (is-tabulate n (point xs
 
 -- ---- a level, distance by distance
 
-length-put : (t : Bool) (j : ℕ) (v : ℤ) (xs : List ℤ) → length (putAt t j v xs) ≡ length xs
+pub put-yes : (t : Bool) (j : ℕ) (v : ℤ) (xs : List ℤ) → t ≡ true → set xs j v ≡ putAt t j v xs
+unfolding putAt
+put-yes t j v xs e = ap (λ (b : Bool). cond b (set xs j v) xs) (sym e)
+
+pub put-no : (t : Bool) (j : ℕ) (v : ℤ) (xs : List ℤ) → t ≡ false → xs ≡ putAt t j v xs
+unfolding putAt
+put-no t j v xs e = ap (λ (b : Bool). cond b (set xs j v) xs) (sym e)
+
+pub length-put : (t : Bool) (j : ℕ) (v : ℤ) (xs : List ℤ) → length (putAt t j v xs) ≡ length xs
 unfolding putAt
 length-put true j v xs = length-set xs j v
 length-put false j v xs = refl
@@ -152,11 +160,11 @@ module _ (table : List ℕ) (s : Shape) (shaped : Shaped s) (n : ℕ) where
   abbrev Rising : List ℤ → ℕ → Type 0
   Rising xs k = Raised n (s .centre) (shapeAt table s) xs k
 
-  pub raised-none : {xs : List ℤ} → xs ≡ tabulate n (λ i. pos 0) → Rising xs 0
-  raised-none {xs} e = record {
-    long = ap length e ∙ length-tabulate n (λ i. pos 0);
+  pub raised-none : {xs : List ℤ} (m : ℕ) → length xs ≡ n → xs ≡ tabulate m (λ i. pos 0) → Rising xs 0
+  raised-none {xs} m l e = record {
+    long = l;
     near = λ i l h. absurd (omega arith);
-    far = λ i h. ap (λ (ys : List ℤ). point ys i) e ∙ point-tabulate (λ z. z ≡ pos 0) n (λ i. pos 0) i (λ l. refl) refl;
+    far = λ i h. ap (λ (ys : List ℤ). point ys i) e ∙ point-tabulate (λ z. z ≡ pos 0) m (λ i. pos 0) i (λ l. refl) refl;
   }
 
   pub raised-all : {xs : List ℤ} {k : ℕ} → s .width < k → Rising xs k → xs ≡ tabulate n (shapeAt table s)

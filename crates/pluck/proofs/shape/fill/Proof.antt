@@ -1,57 +1,75 @@
+-- `fill` meets its contract: the points nearer than the distance reached have the shape, the others 0.
+use mathlib.Core.Path.{_≡_, refl, sym, ap, _∙_, subst}
+use mathlib.Core.List.{List}
+use Prim.Native.Nat.{ℕ, _+_, _-_}
+use native.Mathlib.Omega.{arith}
+use borrow.Author.Needs.{needs}
+use lib.IntN.{ℤ}
+use lib.ListN.{length}
+use Rattle.bounded.proofs.Num.{back}
+use Rattle.scheme.specs.Lists.{tabulate}
+use Rattle.scheme.proofs.Laws.Lists.{length-tabulate}
+use Rattle.pluck.specs.Shapes.{shapeAt, Raised}
+use Rattle.pluck.proofs.ShapeLaws.{raised-none, raised-more, raised-all}
 use Rattle.pluck.proofs.shape.fill.Statement.{statement}
 use Rattle.pluck.proofs.shape.fill.Tie as tie
-use Rattle.pluck.proofs.shape.fill.Reads as reads
-use Rattle.pluck.proofs.shape.fill.Lts as lts
-use Rattle.pluck.proofs.shape.put.Reads as put-reads
-use Rattle.pluck.proofs.shape.step_of.Reads as step-of-reads
-use Rattle.pluck.proofs.shape.value.Reads as value-reads
-use Rattle.pluck.proofs.slices.clear.Reads as clear-reads
 
 abbrev Inv-loop : tie.InvT-loop
-Inv-loop shape table level₀ step d₀ level d = ?
+Inv-loop shape table level₀ step d₀ level d = Raised (length level₀) (shape .centre) (shapeAt table shape) level d
 
 abbrev μ-loop : tie.MeasureT-loop
-μ-loop shape table level₀ step d₀ level d = ?
+μ-loop shape table level₀ step d₀ level d = shape .width + 1 - d
 
--- src/shape.rt:59:5
+module _ (c : tie.At-loop Inv-loop μ-loop) where
+  abbrev s : tie.Start Inv-loop μ-loop
+  s = c .before .before .before .before .before .before
+
+  abbrev cleared : List ℤ
+  cleared = c .before .before .before .clear .last .0
+
+  as-long : length cleared ≡ length (s .args .level .now)
+  as-long = ap length (c .before .before .before .clear .ensures) ∙ length-tabulate _ _
+
 clear-requires : tie.Need-clear-requires Inv-loop μ-loop
-clear-requires c κs = ?
+clear-requires c κs = search needs
 
--- src/shape.rt:60:9
 step-of-requires : tie.Need-step-of-requires Inv-loop μ-loop
-step-of-requires c κs = ?
+step-of-requires c κs = search needs
 
--- src/shape.rt:62:5
 loop-holds : tie.Need-loop-holds Inv-loop μ-loop
-loop-holds c = ?
+loop-holds c = raised-none _ _ (c .before .before .before .before .before .pre .0) _ _ refl (c .before .before .clear .ensures)
 
--- src/shape.rt:63:13
 value-requires : tie.Need-value-requires Inv-loop μ-loop
-value-requires c κs = ?
+value-requires c κs = let l = c .before .before in (s l .pre .0, s l .pre .1, l .before .step-of .ensures, c .if1 .taken)
 
--- src/shape.rt:64:9
 put-requires : tie.Need-put-requires Inv-loop μ-loop
-put-requires c κs = ?
+put-requires c κs =
+    let l = c .before .before .before .before in
+    (s l .pre .0, omega (arith, s l .pre .2, l .loop .inv .long, as-long l))
 
--- src/shape.rt:65:9
 add-d : tie.Need-add-d Inv-loop μ-loop
-add-d c = ?
+add-d c = omega (arith, c .before .before .before .before .if1 .taken, s (c .before .before .before .before .before .before) .pre .0 .narrow)
 
--- src/shape.rt:62:5
 loop-less : tie.Need-loop-less Inv-loop μ-loop
-loop-less c = ?
+loop-less c = omega (arith, c .before .before .before .before .if1 .taken)
 
--- src/shape.rt:62:5
 loop-again : tie.Need-loop-again Inv-loop μ-loop
-loop-again c = ?
+loop-again c =
+    let l = c .before .before .before .before .before .before in
+    let v = c .before .before .before .value in
+    let a = s l .args in
+    subst (λ (xs : List ℤ). Raised (length (cleared l)) (a .shape .centre) (shapeAt (a .table .now) (a .shape)) xs (l .loop .d + 1))
+    (sym (c .before .put .ensures))
+    (raised-more _ _ (s l .pre .0) _ _ _ _ (l .loop .inv) (c .before .before .before .before .if1 .taken) (back (v .result) (v .ok) ∙ v .ensures))
 
--- src/shape.rt:55:1
 same-length : tie.Need-same-length Inv-loop μ-loop
-same-length c = ?
+same-length c = let l = c .before .before in l .loop .inv .long ∙ as-long l
 
--- src/shape.rt:55:1
 returns : tie.Need-returns Inv-loop μ-loop
-returns c = ?
+returns c =
+    let l = c .before .before in
+    let a = s l .args in
+    raised-all _ _ (s l .pre .0) _ (c .if1 .left) (l .loop .inv) ∙ ap (λ (n : ℕ). tabulate n (shapeAt (a .table .now) (a .shape))) (as-long l)
 
 pub fill-spec : {M : Type 1} → statement M
 fill-spec =
