@@ -212,18 +212,18 @@ module _ (table : List ℕ) (s : Shape) (shaped : Shaped s) (n : ℕ) where
       put-in a b =
           either (s .centre) i
           (λ p. put-here to-right (s .centre + k) v left i (omega (arith, apart-is))
-              (lt-ltb k (s .run .to - s .centre) (omega (arith, apart-is)))
-              (omega (arith, length-put to-left (s .centre - k) v xs, m .long)))
+          (lt-ltb k (s .run .to - s .centre) (omega (arith, apart-is)))
+          (omega (arith, length-put to-left (s .centre - k) v xs, m .long)))
           (λ p. put-other to-right (s .centre + k) v left i (λ t q. omega (arith, apart-is)) ∙
-              put-here to-left (s .centre - k) v xs i (omega (arith, apart-is))
-              (le-leb k (s .centre - s .run .from) (omega (arith, apart-is))) (omega (arith, m .long)))
+          put-here to-left (s .centre - k) v xs i (omega (arith, apart-is))
+          (le-leb k (s .centre - s .run .from) (omega (arith, apart-is))) (omega (arith, m .long)))
 
       at-distance : k ≤ s .width → v ≡ pluckValue table (s .width) (s .height) k → point both i ≡ shapeAt table s i
       at-distance w g =
           either (s .run .from) i
           (λ a. either (s .run .to) i
-              (λ b. out (λ p. b) ∙ after-run table s i b)
-              (λ b. put-in a b ∙ g ∙ ap (λ (d : ℕ). pluckValue table (s .width) (s .height) d) (sym e) ∙ in-shape table s i a b (omega (arith, e))))
+          (λ b. out (λ p. b) ∙ after-run table s i b)
+          (λ b. put-in a b ∙ g ∙ ap (λ (d : ℕ). pluckValue table (s .width) (s .height) d) (sym e) ∙ in-shape table s i a b (omega (arith, e))))
           (λ a. out (λ p. absurd (omega arith)) ∙ before-run table s i a)
 
     pub raised-more : k ≤ s .width → v ≡ pluckValue table (s .width) (s .height) k → Rising both (k + 1)
