@@ -1,79 +1,23 @@
 -- Laws of the shape of a pluck.
-use mathlib.Core.Path.{_≡_, refl, sym, ap, ap₂, _∙_}
-use mathlib.Core.Bool.{Bool, true, false, true≢false, _&&_, _||_, cond, and-false}
+use mathlib.Core.Path.{_≡_, refl, sym, ap, _∙_}
+use mathlib.Core.Bool.{Bool, true, false, true≢false, _&&_, cond, and-false}
 use mathlib.Core.List.{List}
-use Prim.Native.Nat.{ℕ, suc, _+_, _-_, _*_, _/_, _≤_, _<_}
-use native.Mathlib.Nat.{mul-one, mul-comm, mul-assoc, mul-add, suc-mul, zero-mul, zero-add, lt-of-le-of-lt, sub-le}
-use native.Mathlib.Nat.{mul-le-mul, mul-le-mul-left, mul-le-mul-right}
-use native.Mathlib.Nat.{div-lt-iff-lt-mul, le-div-iff-mul-le, div-le-of-le-mul, mul-div-le, lt-mul-div-succ, div-eq-of-lt-le}
+use Prim.Native.Nat.{ℕ, _+_, _-_, _≤_, _<_}
 use native.Mathlib.Omega.{arith}
 use borrow.Author.Count.{below-none, below-more}
-use borrow.Author.Tests.{ltb-true, ltb-false, leb-true, leb-false, lt-ltb, le-ltb, le-leb, lt-leb, not-false}
+use borrow.Author.Tests.{ltb-true, leb-true, leb-false, lt-ltb, le-ltb, le-leb, lt-leb}
 use lib.Dec.{leb, ltb}
-use lib.IntN.{ℤ, pos, natAbs}
+use lib.IntN.{ℤ, pos}
 use lib.ListN.{length, set, length-set}
 use lib.Seq.{getD-set-same, getD-set-other}
-use Rattle.scheme.specs.declared.Grid.{Grid}
 use Rattle.scheme.specs.Lists.{tabulate, point}
-use Rattle.scheme.specs.Instruments.{ceiling, points, moving}
-use Rattle.scheme.specs.Pluck.{distanceFrom, pluckValue, pluckAt, pluckLevel}
-use Rattle.scheme.specs.Refusals.{lastPlucked, wrongLength, lowest, pluckChecks, pluckRefusal}
-use Rattle.scheme.specs.declared.Refusal.the-variants.{Nothing}
-use Rattle.scheme.specs.Passing.{PluckPasses}
-use Rattle.scheme.proofs.Laws.Bools.{cases, and-both, and-yes, and-no}
-use Rattle.scheme.proofs.Laws.Kinds.{within-is}
-use Rattle.scheme.proofs.Laws.Lists.{length-tabulate, getD-tabulate, is-tabulate, point-tabulate}
-use Rattle.scheme.proofs.Laws.Refusals.{pluck-passes}
-use Rattle.kinds.specs.declared.runs.Run.{Run}
-use Rattle.kinds.specs.Runs.{inRun, runOf, apart}
-use Rattle.kinds.proofs.KindLaws.{line-size}
+use Rattle.scheme.specs.Pluck.{distanceFrom, pluckValue}
+use Rattle.scheme.proofs.Laws.Bools.{cases, and-yes, and-no}
+use Rattle.scheme.proofs.Laws.Lists.{is-tabulate, point-tabulate}
+use Rattle.kinds.specs.Runs.{inRun, apart}
 use Rattle.kinds.proofs.RoundLaws.{gap}
-use Rattle.kinds.proofs.RunLaws.{moving-run, run-bounds}
-use Rattle.checks.specs.Refused.{notLong}
-use Rattle.checks.proofs.RefusalLaws.{long-is, pluck-same}
 use Rattle.pluck.specs.declared.shape.Shape.{Shape}
 use Rattle.pluck.specs.Shapes.{Shaped, shapeAt, putAt, putBoth, Filled, Raised}
-
--- ---- the place in the table
-
--- the entry that is looked up is there
-pub place-inside : (w d : ℕ) → 1 ≤ w → 1024 * (w - d) / w < 1025
-place-inside w d h = div-lt-iff-lt-mul h .1 (lt-of-le-of-lt (mul-le-mul-left 1024 (sub-le w d)) (omega arith))
-
--- k steps, each a little too long, stay in the part of the quotient: p is 2³²
-module _ (p w k : ℕ) (some : 1 ≤ w) (narrow : w ≤ 1024) (in-width : k ≤ w) (fine : 1049600 * w ≤ p) where
-  abbrev one : ℕ
-  one = p / w + 1
-
-  abbrev quotient : ℕ
-  quotient = 1024 * k / w
-
-  steps : k * (1024 * one) ≡ 1024 * k * one
-  steps = sym (mul-assoc k 1024 one) ∙ ap (λ (n : ℕ). n * one) (mul-comm k 1024)
-
-  -- quotient + 1 times the width, and times a whole in place of w steps
-  reach : (n : ℕ) → w * n * one ≡ n * (w * one)
-  reach n = ap (λ (m : ℕ). m * one) (mul-comm w n) ∙ mul-assoc n w one
-
-  low : quotient * p ≤ k * (1024 * one)
-  low =
-      let a : quotient * p ≤ quotient * (w * one) = mul-le-mul-left quotient (omega (arith, lt-mul-div-succ p some)) in
-      let b : w * quotient * one ≤ 1024 * k * one = mul-le-mul-right one (mul-div-le (1024 * k) w) in
-      omega (arith, a, b, reach quotient, steps)
-
-  high : k * (1024 * one) < (quotient + 1) * p
-  high =
-      let n = quotient + 1 in
-      let most : 1024 * k ≤ w * 1024 = omega (arith, mul-comm w 1024) in
-      let few : n ≤ 1025 = omega (arith, div-le-of-le-mul w most) in
-      let wide : 1049600 ≤ p / w = le-div-iff-mul-le some .1 fine in
-      let a : suc (1024 * k) * one ≤ w * n * one = mul-le-mul-right one (lt-mul-div-succ (1024 * k) some) in
-      let b : n * (w * one) ≤ n * (p + w) = mul-le-mul-left n (omega (arith, mul-add w (p / w) 1, mul-one w, mul-div-le p w)) in
-      let c : n * w ≤ 1025 * 1024 = mul-le-mul few narrow in
-      omega (arith, a, b, c, wide, reach n, steps, suc-mul (1024 * k) one, mul-add n p w)
-
-  pub place-is : k * (1024 * one) / p ≡ quotient
-  place-is = div-eq-of-lt-le p low high
 
 -- ---- a point
 
@@ -233,74 +177,3 @@ module _ (table : List ℕ) (s : Shape) (shaped : Shaped s) (n : ℕ) where
           (λ p. other i (λ q. omega arith) ∙ m .near i l p);
       far = λ i h. other i (λ q. omega arith) ∙ m .far i (omega arith);
     }
-
--- ---- what refuses a pluck, by the lengths as the code tests them
-
-pub refusal-is : (g : Grid) (older newer c w : ℕ) (a : ℤ)
-    → lowest (pluckChecks g (notLong g older || notLong g newer) c w a) ≡ pluckRefusal g older newer c w a
-unfolding pluckRefusal
-refusal-is g older newer c w a =
-    pluck-same g (notLong g older || notLong g newer) (wrongLength g older || wrongLength g newer) c w a
-    (λ size. ap₂ _||_ (long-is g older size) (long-is g newer size))
-
--- ---- a pluck that nothing refuses
-
-abbrev pub shapeOf : Grid → ℕ → ℕ → ℤ → Shape
-shapeOf g c w a = record { run = runOf g 0; centre = c; width = w; height = a }
-
-module _ (g : Grid) (older newer c w : ℕ) (a : ℤ) (none : pluckRefusal g older newer c w a ≡ Nothing) where
-  passes : PluckPasses g older newer c w a
-  passes = pluck-passes g older newer c w a none
-
-  -- plucked kinds are lines
-  of-line : (g .columns ≤ 1024) × (g .rows ≡ 1)
-  of-line =
-      let k = within-is 1 lastPlucked (g .kind) (passes .kind-in) in
-      let p = and-both _ _ (sym (line-size (g .columns) (g .rows) (g .kind) (k .0) (k .1)) ∙ passes .size) in
-      let r = within-is 1 1 (g .rows) (p .1) in
-      (within-is 3 1024 (g .columns) (p .0) .1, omega arith)
-
-  columns-is : points g ≡ g .columns
-  columns-is = ap (λ (r : ℕ). g .columns * r) (of-line .1) ∙ mul-one (g .columns)
-
-  -- the moving points of a line are one run
-  moving-is : (i : ℕ) → i < points g → inRun (runOf g 0) i ≡ moving g i
-  moving-is i h =
-      let first = ap (λ (k : ℕ). k + i) (zero-mul (g .columns)) ∙ zero-add i in
-      sym (moving-run g 0 i (passes .size) (omega (arith, of-line .1)) (omega (arith, columns-is))) ∙ ap (moving g) first
-
-  -- and the run of its moving points has the centre
-  pub shaped : Shaped (shapeOf g c w a)
-  unfolding moving
-  shaped =
-      let b = within-is 1 (g .columns - 1) w (not-false _ (passes .width-in)) in
-      let m = and-both _ _ (moving-is c (ltb-true c (points g) (and-both _ _ (passes .centre-moving) .0)) ∙ passes .centre-moving) in
-      record {
-        some = b .0;
-        narrow = omega (arith, b .1, of-line .0);
-        low = ltb-false ceiling (natAbs a) (passes .height-low);
-        starts = leb-true _ _ (m .0);
-        ends = ltb-true _ _ (m .1);
-      }
-
-  pub as-long : older ≡ newer
-  as-long = passes .older-long ∙ sym (passes .newer-long)
-
-  -- the run ends in the level
-  pub run-in : runOf g 0 .to ≤ older
-  run-in = omega (arith, run-bounds g 0 .inside, columns-is, passes .older-long)
-
-  module _ (table : List ℕ) where
-    shape-is : (i : ℕ) → i < points g → shapeAt table (shapeOf g c w a) i ≡ pluckAt table g c w a i
-    unfolding shapeAt pluckAt
-    shape-is i h =
-        let d = distanceFrom c i in
-        ap (λ (t : Bool). cond (t && leb d w) (pluckValue table w a d) (pos 0)) (moving-is i h)
-
-    -- a level of the grid with the shape
-    pub level-is : tabulate older (shapeAt table (shapeOf g c w a)) ≡ pluckLevel table g c w a
-    unfolding pluckLevel
-    level-is =
-        let shape = shapeAt table (shapeOf g c w a) in
-        is-tabulate (points g) (pluckAt table g c w a) (pos 0) (tabulate older shape) (length-tabulate older shape ∙ passes .older-long)
-        (λ i h. getD-tabulate older shape i (pos 0) (omega (arith, passes .older-long)) ∙ shape-is i h)

@@ -11,7 +11,6 @@ ghost use Rattle.scheme.specs.Calls as Calls;
 ghost use Rattle.checks.specs.Refused.{notLong};
 use crate::shape::Shape;
 use crate::shape::fill;
-use crate::slices::copy;
 use crate::table::TABLE;
 use checks::is_nothing;
 use checks::pluck_refusal;
@@ -44,6 +43,18 @@ fn refusal_of(
 {
     let wrong = wrong_levels(g, older, newer);
     pluck_refusal(g, wrong, centre, half_width, height)
+}
+
+// Copies a level to another of its length.
+fn copy(from: &[i64], to: &mut [i64])
+    requires { ⌜ length (now from) ≡ length (now to) ⌝ }
+    ensures { λ _. ⌜ now (to .exit) ≡ now (from .entry) ⌝ }
+{
+    let mut point = 0;
+    while point < to.len() {
+        to[point] = from[point];
+        point += 1;
+    }
 }
 
 // A pluck that nothing refuses, by any table that keeps the rule of a shape.

@@ -1,7 +1,6 @@
 // A pluck: both levels of a line get the shape that its rule gives.
 mod call;
 mod shape;
-mod slices;
 mod table;
 
 pub use call::pluck;

@@ -1,15 +1,15 @@
 // The shape of a pluck: what its rule gives at each point of a line, by any table that keeps the rule of a shape.
 ghost use mathlib.Core.Path.{_≡_};
 ghost use Prim.Native.Nat.{_≤_};
+ghost use lib.IntN.{pos};
 ghost use lib.ListN.{length};
 ghost use Rattle.scheme.specs.Lists.{tabulate};
 ghost use Rattle.scheme.specs.Table.{ShapeRule};
 ghost use Rattle.scheme.specs.Pluck.{pluckValue};
 ghost use Rattle.pluck.specs.Shapes.{Shaped, stepOf, putBoth, shapeAt};
-use crate::slices::clear;
 use kinds::Run;
 
-// The parts of 1 in which the place in the table is counted.
+// A place in the table is counted in parts of an entry.
 const PARTS: usize = 4294967296;
 
 // The moving points of a line, and a pluck's centre, half width and height.
@@ -20,7 +20,7 @@ pub(crate) struct Shape {
     pub height: i64,
 }
 
-// How far the place in the table moves from one distance to the next, in parts, rounded up.
+// From the place of one distance to that of the next: 1024/width entries, rounded up.
 fn step_of(width: usize) -> usize
     requires { ⌜ 1 ≤ width ⌝ }
     ensures { λ r. ⌜ r ≡ stepOf width ⌝ }
@@ -28,7 +28,7 @@ fn step_of(width: usize) -> usize
     1024 * (PARTS / width + 1)
 }
 
-// A moving point at distance d.
+// A moving point at distance d: its place is width − d steps from the first entry.
 fn value(shape: Shape, table: &[u32], step: usize, d: usize) -> i64
     requires { ⌜ Shaped shape × ShapeRule (now table) × (step ≡ stepOf (shape .width)) × (d ≤ shape .width) ⌝ }
     ensures { λ r. ⌜ r ≡ pluckValue (now (table .entry)) (shape .width) (shape .height) d ⌝ }
@@ -36,6 +36,17 @@ fn value(shape: Shape, table: &[u32], step: usize, d: usize) -> i64
     let j = (shape.width - d) * step / PARTS;
     let t = table[j] as i64;
     shape.height * t / 65536
+}
+
+// Puts 0 everywhere.
+fn clear(level: &mut [i64])
+    ensures { λ _. ⌜ now (level .exit) ≡ tabulate (length (now (level .entry))) (λ i. pos 0) ⌝ }
+{
+    let mut point = 0;
+    while point < level.len() {
+        level[point] = 0;
+        point += 1;
+    }
 }
 
 // The two points at distance d, where they move.

@@ -14,7 +14,7 @@ use Rattle.scheme.proofs.Laws.Lists.{length-tabulate}
 use Rattle.kinds.specs.declared.runs.Run.{Run}
 use Rattle.pluck.specs.declared.shape.Shape.{Shape}
 use Rattle.pluck.specs.Shapes.{Shaped, shapeAt}
-use Rattle.pluck.proofs.ShapeLaws.{shapeOf, shaped, run-in, as-long, level-is}
+use Rattle.pluck.proofs.CallLaws.{shapeOf, shaped, run-in, as-long, level-is}
 use Rattle.pluck.proofs.call.carry_out.Statement.{statement}
 use Rattle.pluck.proofs.call.carry_out.Tie as tie
 

@@ -8,38 +8,38 @@ use Rattle.bounded.proofs.Num.{back}
 use Rattle.scheme.specs.Lists.{point}
 use Rattle.pluck.specs.Shapes.{Filled}
 use Rattle.pluck.proofs.ShapeLaws.{filled-none, filled-more, copied}
-use Rattle.pluck.proofs.slices.copy.Statement.{statement}
-use Rattle.pluck.proofs.slices.copy.Tie as tie
+use Rattle.pluck.proofs.call.copy.Statement.{statement}
+use Rattle.pluck.proofs.call.copy.Tie as tie
 
 abbrev Inv-loop : tie.InvT-loop
-Inv-loop xs ys₀ k₀ ys k = Filled (length ys₀) (point xs) ys k
+Inv-loop from to₀ k₀ to k = Filled (length to₀) (point from) to k
 
 abbrev μ-loop : tie.MeasureT-loop
-μ-loop xs ys₀ k₀ ys k = length ys₀ - k
+μ-loop from to₀ k₀ to k = length to₀ - k
 
 loop-holds : tie.Need-loop-holds Inv-loop μ-loop
 loop-holds c = filled-none _ _ refl
 
-mul-ys : tie.Need-mul-ys Inv-loop μ-loop
-mul-ys c = search needs
+mul-to : tie.Need-mul-to Inv-loop μ-loop
+mul-to c = search needs
 
-shared-slice-copy-out-ys : tie.Need-shared-slice-copy-out-ys Inv-loop μ-loop
-shared-slice-copy-out-ys c = omega arith
+shared-slice-copy-out-to : tie.Need-shared-slice-copy-out-to Inv-loop μ-loop
+shared-slice-copy-out-to c = omega arith
 
 mul-t8 : tie.Need-mul-t8 Inv-loop μ-loop
 mul-t8 c = search needs
 
-slice-set-from-ys : tie.Need-slice-set-from-ys Inv-loop μ-loop
-slice-set-from-ys c = search needs
+slice-set-from-to : tie.Need-slice-set-from-to Inv-loop μ-loop
+slice-set-from-to c = search needs
 
-add-k : tie.Need-add-k Inv-loop μ-loop
-add-k c = search needs
+add-point : tie.Need-add-point Inv-loop μ-loop
+add-point c = search needs
 
 loop-less : tie.Need-loop-less Inv-loop μ-loop
 loop-less c = search needs
 
 loop-again : tie.Need-loop-again Inv-loop μ-loop
-loop-again c = filled-more _ _ (omega arith) (c .before .before .loop .inv) (back _ (c .ys .given))
+loop-again c = filled-more _ _ (omega arith) (c .before .before .loop .inv) (back _ (c .to .given))
 
 same-length : tie.Need-same-length Inv-loop μ-loop
 same-length c = search needs
@@ -54,11 +54,11 @@ copy-spec =
     Inv-loop
     μ-loop
     loop-holds
-    mul-ys
-    shared-slice-copy-out-ys
+    mul-to
+    shared-slice-copy-out-to
     mul-t8
-    slice-set-from-ys
-    add-k
+    slice-set-from-to
+    add-point
     loop-less
     loop-again
     same-length

@@ -7,26 +7,26 @@ use lib.IntN.{pos}
 use lib.ListN.{length}
 use Rattle.pluck.specs.Shapes.{Filled}
 use Rattle.pluck.proofs.ShapeLaws.{filled-none, filled-more, filled-all}
-use Rattle.pluck.proofs.slices.clear.Statement.{statement}
-use Rattle.pluck.proofs.slices.clear.Tie as tie
+use Rattle.pluck.proofs.shape.clear.Statement.{statement}
+use Rattle.pluck.proofs.shape.clear.Tie as tie
 
 abbrev Inv-loop : tie.InvT-loop
-Inv-loop xs₀ k₀ xs k = Filled (length xs₀) (λ i. pos 0) xs k
+Inv-loop level₀ k₀ level k = Filled (length level₀) (λ i. pos 0) level k
 
 abbrev μ-loop : tie.MeasureT-loop
-μ-loop xs₀ k₀ xs k = length xs₀ - k
+μ-loop level₀ k₀ level k = length level₀ - k
 
 loop-holds : tie.Need-loop-holds Inv-loop μ-loop
 loop-holds c = filled-none _ _ refl
 
-mul-xs : tie.Need-mul-xs Inv-loop μ-loop
-mul-xs c = search needs
+mul-level : tie.Need-mul-level Inv-loop μ-loop
+mul-level c = search needs
 
-slice-set-of-xs : tie.Need-slice-set-of-xs Inv-loop μ-loop
-slice-set-of-xs c = search needs
+slice-set-of-level : tie.Need-slice-set-of-level Inv-loop μ-loop
+slice-set-of-level c = search needs
 
-add-k : tie.Need-add-k Inv-loop μ-loop
-add-k c = search needs
+add-point : tie.Need-add-point Inv-loop μ-loop
+add-point c = search needs
 
 loop-less : tie.Need-loop-less Inv-loop μ-loop
 loop-less c = search needs
@@ -47,9 +47,9 @@ clear-spec =
     Inv-loop
     μ-loop
     loop-holds
-    mul-xs
-    slice-set-of-xs
-    add-k
+    mul-level
+    slice-set-of-level
+    add-point
     loop-less
     loop-again
     same-length
