@@ -10,7 +10,7 @@ use native.Mathlib.Omega.{arith}
 pub place-inside : (w d : ℕ) → 1 ≤ w → 1024 * (w - d) / w < 1025
 place-inside w d h = div-lt-iff-lt-mul h .1 (lt-of-le-of-lt (mul-le-mul-left 1024 (sub-le w d)) (omega arith))
 
--- k steps, each a little too long, stay in the part of the quotient: p is 2³²
+-- k steps end in the entry of the quotient, though each is a little too long: p is 2³²
 module _ (p w k : ℕ) (some : 1 ≤ w) (narrow : w ≤ 1024) (in-width : k ≤ w) (fine : 1049600 * w ≤ p) where
   abbrev reciprocal : ℕ
   reciprocal = p / w + 1
@@ -21,7 +21,6 @@ module _ (p w k : ℕ) (some : 1 ≤ w) (narrow : w ≤ 1024) (in-width : k ≤ 
   steps : k * (1024 * reciprocal) ≡ 1024 * k * reciprocal
   steps = sym (mul-assoc k 1024 reciprocal) ∙ ap (λ (n : ℕ). n * reciprocal) (mul-comm k 1024)
 
-  -- quotient + 1 times the width, and times a whole in place of w steps
   reach : (n : ℕ) → w * n * reciprocal ≡ n * (w * reciprocal)
   reach n = ap (λ (m : ℕ). m * reciprocal) (mul-comm w n) ∙ mul-assoc n w reciprocal
 

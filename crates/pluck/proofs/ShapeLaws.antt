@@ -17,7 +17,7 @@ use Rattle.scheme.proofs.Laws.Lists.{is-tabulate, point-tabulate}
 use Rattle.kinds.specs.Runs.{inRun, apart}
 use Rattle.kinds.proofs.RoundLaws.{gap}
 use Rattle.pluck.specs.declared.shape.Shape.{Shape}
-use Rattle.pluck.specs.Shapes.{Shaped, shapeAt, putAt, putBoth, Filled, Raised}
+use Rattle.pluck.specs.Shapes.{Shaped, shapeAt, putAt, putLeft, putBoth, Filled, Raised}
 
 -- ---- a point
 
@@ -117,63 +117,65 @@ module _ (table : List ℕ) (s : Shape) (shaped : Shaped s) (n : ℕ) where
 
   -- both points at distance k
   module _ (xs : List ℤ) (k : ℕ) (v : ℤ) (m : Rising xs k) where
-    abbrev to-left : Bool
-    to-left = leb k (s .centre - s .run .from)
+    abbrev c : ℕ
+    c = s .centre
 
-    abbrev to-right : Bool
-    to-right = ltb k (s .run .to - s .centre)
+    abbrev on-left : ℕ
+    on-left = c - s .run .from
+
+    abbrev on-right : ℕ
+    on-right = s .run .to - c
 
     abbrev left : List ℤ
-    left = putAt to-left (s .centre - k) v xs
+    left = putLeft s k v xs
 
     abbrev both : List ℤ
     both = putBoth s k v xs
 
-    same : (i : ℕ) → (to-left ≡ true → i ≡ s .centre - k → ⊥) → (to-right ≡ true → i ≡ s .centre + k → ⊥) → point both i ≡ point xs i
-    same i a b = put-other to-right (s .centre + k) v left i b ∙ put-other to-left (s .centre - k) v xs i a
+    same : (i : ℕ) → (leb k on-left ≡ true → i ≡ c - k → ⊥) → (ltb k on-right ≡ true → i ≡ c + k → ⊥) → point both i ≡ point xs i
+    same i a b = put-other (ltb k on-right) (c + k) v left i b ∙ put-other (leb k on-left) (c - k) v xs i a
 
     -- a point at another distance
-    other : (i : ℕ) → (distanceFrom (s .centre) i ≡ k → ⊥) → point both i ≡ point xs i
-    other i h =
-        same i
-        (λ t e. h (gap i (s .centre) ∙ omega (arith, leb-true k (s .centre - s .run .from) t)))
-        (λ t e. h (gap i (s .centre) ∙ omega arith))
+    other : (i : ℕ) → (distanceFrom c i ≡ k → ⊥) → point both i ≡ point xs i
+    other i h = same i (λ t e. h (gap i c ∙ omega (arith, leb-true k on-left t))) (λ t e. h (gap i c ∙ omega arith))
 
-    module _ (i : ℕ) (in-level : i < n) (e : distanceFrom (s .centre) i ≡ k) where
-      apart-is : apart i (s .centre) ≡ k
-      apart-is = sym (gap i (s .centre)) ∙ e
+    module _ (i : ℕ) (in-level : i < n) (e : distanceFrom c i ≡ k) where
+      apart-is : apart i c ≡ k
+      apart-is = sym (gap i c) ∙ e
 
       -- one that does not move
       out : (s .run .from ≤ i → s .run .to ≤ i) → point both i ≡ pos 0
       out h =
+          let starts = shaped .starts in
+          let ends = shaped .ends in
           same i
-          (λ t q. let p : s .run .from ≤ i = omega (arith, leb-true k (s .centre - s .run .from) t, shaped .starts) in omega (arith, h p, shaped .ends))
-          (λ t q. let p : s .run .from ≤ i = omega (arith, shaped .starts) in omega (arith, h p, ltb-true k (s .run .to - s .centre) t)) ∙
+          (λ t q. let l = leb-true k on-left t in let p : s .run .from ≤ i = omega arith in omega (arith, h p))
+          (λ t q. let l = ltb-true k on-right t in let p : s .run .from ≤ i = omega arith in omega (arith, h p)) ∙
           m .far i (omega arith)
 
       -- one that moves
       put-in : s .run .from ≤ i → i < s .run .to → point both i ≡ v
       put-in a b =
-          either (s .centre) i
-          (λ p. put-here to-right (s .centre + k) v left i (omega (arith, apart-is))
-          (lt-ltb k (s .run .to - s .centre) (omega (arith, apart-is)))
-          (omega (arith, length-put to-left (s .centre - k) v xs, m .long)))
-          (λ p. put-other to-right (s .centre + k) v left i (λ t q. omega (arith, apart-is)) ∙
-          put-here to-left (s .centre - k) v xs i (omega (arith, apart-is))
-          (le-leb k (s .centre - s .run .from) (omega (arith, apart-is))) (omega (arith, m .long)))
+          let d = apart-is in
+          let l = m .long in
+          let before : c ≤ i → point both i ≡ v = λ p. put-here (ltb k on-right) (c + k) v left i (omega arith)
+          (lt-ltb k on-right (omega arith)) (omega (arith, length-put (leb k on-left) (c - k) v xs)) in
+          let after : i < c → point both i ≡ v = λ p. put-other (ltb k on-right) (c + k) v left i (λ t q. omega arith) ∙
+          put-here (leb k on-left) (c - k) v xs i (omega arith) (le-leb k on-left (omega arith)) (omega arith) in
+          either c i before after
 
       at-distance : k ≤ s .width → v ≡ pluckValue table (s .width) (s .height) k → point both i ≡ shapeAt table s i
       at-distance w g =
+          let v-is = g ∙ ap (λ (d : ℕ). pluckValue table (s .width) (s .height) d) (sym e) in
           either (s .run .from) i
-          (λ a. either (s .run .to) i
-          (λ b. out (λ p. b) ∙ after-run table s i b)
-          (λ b. put-in a b ∙ g ∙ ap (λ (d : ℕ). pluckValue table (s .width) (s .height) d) (sym e) ∙ in-shape table s i a b (omega (arith, e))))
+          (λ a. either (s .run .to) i (λ b. out (λ p. b) ∙ after-run table s i b)
+          (λ b. put-in a b ∙ v-is ∙ in-shape table s i a b (omega (arith, e))))
           (λ a. out (λ p. absurd (omega arith)) ∙ before-run table s i a)
 
     pub raised-more : k ≤ s .width → v ≡ pluckValue table (s .width) (s .height) k → Rising both (k + 1)
     raised-more w g = record {
-      long = length-put to-right (s .centre + k) v left ∙ length-put to-left (s .centre - k) v xs ∙ m .long;
-      near = λ i l h. either k (distanceFrom (s .centre) i) (λ p. at-distance i l (omega arith) w g)
+      long = length-put (ltb k on-right) (c + k) v left ∙ length-put (leb k on-left) (c - k) v xs ∙ m .long;
+      near = λ i l h. either k (distanceFrom c i) (λ p. at-distance i l (omega arith) w g)
           (λ p. other i (λ q. omega arith) ∙ m .near i l p);
       far = λ i h. other i (λ q. omega arith) ∙ m .far i (omega arith);
     }

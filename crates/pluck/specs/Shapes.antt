@@ -35,10 +35,14 @@ unfoldable pub putAt : Bool → ℕ → ℤ → List ℤ → List ℤ
 putAt t i v xs = cond t (set xs i v) xs
 
 -- v at the two points at distance d from the centre, where they move
+abbrev pub putLeft : Shape → ℕ → ℤ → List ℤ → List ℤ
+putLeft s d v xs = putAt (leb d (s .centre - s .run .from)) (s .centre - d) v xs
+
+abbrev pub putRight : Shape → ℕ → ℤ → List ℤ → List ℤ
+putRight s d v xs = putAt (ltb d (s .run .to - s .centre)) (s .centre + d) v xs
+
 abbrev pub putBoth : Shape → ℕ → ℤ → List ℤ → List ℤ
-putBoth s d v xs =
-    let left = putAt (leb d (s .centre - s .run .from)) (s .centre - d) v xs in
-    putAt (ltb d (s .run .to - s .centre)) (s .centre + d) v left
+putBoth s d v xs = putRight s d v (putLeft s d v xs)
 
 -- the first k of n points are f's
 pub record Filled (n : ℕ) (f : ℕ → ℤ) (xs : List ℤ) (k : ℕ) : Type 0 where

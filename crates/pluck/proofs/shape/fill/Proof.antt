@@ -48,19 +48,22 @@ put-requires c κs =
     (s l .pre .0, omega (arith, s l .pre .2, l .loop .inv .long, as-long l))
 
 add-d : tie.Need-add-d Inv-loop μ-loop
-add-d c = omega (arith, c .before .before .before .before .if1 .taken, s (c .before .before .before .before .before .before) .pre .0 .narrow)
+add-d c =
+    let t = c .before .before .before .before in
+    omega (arith, t .if1 .taken, s (t .before .before) .pre .0 .narrow)
 
 loop-less : tie.Need-loop-less Inv-loop μ-loop
 loop-less c = omega (arith, c .before .before .before .before .if1 .taken)
 
 loop-again : tie.Need-loop-again Inv-loop μ-loop
 loop-again c =
-    let l = c .before .before .before .before .before .before in
+    let t = c .before .before .before .before in
+    let l = t .before .before in
     let v = c .before .before .before .value in
     let a = s l .args in
     subst (λ (xs : List ℤ). Raised (length (cleared l)) (a .shape .centre) (shapeAt (a .table .now) (a .shape)) xs (l .loop .d + 1))
     (sym (c .before .put .ensures))
-    (raised-more _ _ (s l .pre .0) _ _ _ _ (l .loop .inv) (c .before .before .before .before .if1 .taken) (back (v .result) (v .ok) ∙ v .ensures))
+    (raised-more _ _ (s l .pre .0) _ _ _ _ (l .loop .inv) (t .if1 .taken) (back (v .result) (v .ok) ∙ v .ensures))
 
 same-length : tie.Need-same-length Inv-loop μ-loop
 same-length c = let l = c .before .before in l .loop .inv .long ∙ as-long l
@@ -69,7 +72,8 @@ returns : tie.Need-returns Inv-loop μ-loop
 returns c =
     let l = c .before .before in
     let a = s l .args in
-    raised-all _ _ (s l .pre .0) _ (c .if1 .left) (l .loop .inv) ∙ ap (λ (n : ℕ). tabulate n (shapeAt (a .table .now) (a .shape))) (as-long l)
+    raised-all _ _ (s l .pre .0) _ (c .if1 .left) (l .loop .inv) ∙
+    ap (λ (n : ℕ). tabulate n (shapeAt (a .table .now) (a .shape))) (as-long l)
 
 pub fill-spec : {M : Type 1} → statement M
 fill-spec =

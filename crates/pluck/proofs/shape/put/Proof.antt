@@ -6,13 +6,12 @@ use Prim.Native.Nat.{_+_, _-_}
 use native.Mathlib.Omega.{arith}
 use borrow.Author.Needs.{needs}
 use borrow.Author.Tests.{lt-ltb, le-ltb, le-leb, lt-leb}
-use lib.Dec.{leb, ltb}
 use lib.IntN.{ℤ}
 use lib.ListN.{length, set}
 use mir.Syntax.{w64}
 use mir.Val.{toZ, ofZ}
 use Rattle.bounded.proofs.Num.{back}
-use Rattle.pluck.specs.Shapes.{putAt}
+use Rattle.pluck.specs.Shapes.{putLeft}
 use Rattle.pluck.proofs.ShapeLaws.{put-yes, put-no, length-put}
 use Rattle.pluck.proofs.shape.put.Statement.{statement}
 use Rattle.pluck.proofs.shape.put.Tie as tie
@@ -25,16 +24,11 @@ module _ (c : tie.Joined1) where
   value-is : toZ w64 (ofZ w64 (s .args .v)) ≡ s .args .v
   value-is = back (s .args .v) (s .fits .v .sfits)
 
-  abbrev left : List ℤ
-  left =
-      let a = s .args in
-      putAt (leb (a .d) (a .shape .centre - a .shape .run .from)) (a .shape .centre - a .d) (a .v) (a .level .now)
-
-  left-is : c .if1 .level ≡ left
+  left-is : c .if1 .level ≡ putLeft (s .args .shape) (s .args .d) (s .args .v) (s .args .level .now)
   left-is =
       let a = s .args in
       ⊎-elim
-      (λ w. w .2 ∙ ap (λ (z : ℤ). set (a .level .now) (a .shape .centre - a .d) z) value-is ∙ put-yes _ _ _ _ (le-leb _ _ (w .0 .taken)))
+      (λ w. w .2 ∙ ap (set (a .level .now) (a .shape .centre - a .d)) value-is ∙ put-yes _ _ _ _ (le-leb _ _ (w .0 .taken)))
       (λ w. w .1 ∙ put-no _ _ _ _ (lt-leb _ _ (w .0 .left)))
       (c .if1 .came)
 
