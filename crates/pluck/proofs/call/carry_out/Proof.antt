@@ -2,6 +2,7 @@
 use mathlib.Core.Path.{_≡_, sym, ap, ap₂, _∙_, subst}
 use mathlib.Core.List.{List}
 use Prim.Native.Nat.{_≤_}
+use native.Mathlib.Omega.{arith}
 use borrow.Author.Needs.{needs}
 use lib.IntN.{ℤ}
 use lib.ListN.{length}
@@ -66,7 +67,10 @@ fill-requires c κs =
 copy-requires : tie.Need-copy-requires
 copy-requires c κs =
     let f = c .before .before .before in
-    ap length (filled-is f) ∙ length-tabulate _ _ ∙ as-long _ _ _ _ _ _ (s (m f) .pre .1)
+    let a = s (m f) .args in
+    let l : length (filled f) ≡ length (a .newer .now) =
+    ap length (filled-is f) ∙ length-tabulate _ _ ∙ as-long _ _ _ _ _ _ (s (m f) .pre .1) in
+    omega arith
 
 same-length : tie.Need-same-length
 same-length c = search needs

@@ -40,7 +40,9 @@ loop-holds : tie.Need-loop-holds Inv-loop μ-loop
 loop-holds c = raised-none _ _ (c .before .before .before .before .before .pre .0) _ _ refl (c .before .before .clear .ensures)
 
 value-requires : tie.Need-value-requires Inv-loop μ-loop
-value-requires c κs = let l = c .before .before in (s l .pre .0, s l .pre .1, l .before .step-of .ensures, c .if1 .taken)
+value-requires c κs =
+    let l = c .before .before in
+    (s l .pre .0, s l .pre .1, l .before .step-of .ensures, omega (arith, c .if1 .taken))
 
 put-requires : tie.Need-put-requires Inv-loop μ-loop
 put-requires c κs =
