@@ -23,6 +23,10 @@ inRun r a = leb (r .from) a && ltb a (r .to)
 unfoldable pub innerRun : ℕ → ℕ → ℕ → Run
 innerRun c r b = cond (atEdge r b) (run 0 0) (run 1 (c - 1))
 
+-- a membrane of c columns and rows, of 64 at most, has column a and row b
+abbrev pub onSquare : ℕ → ℕ → ℕ → Bool
+onSquare c a b = leb c 64 && (ltb a c && ltb b c)
+
 -- "in kind 6 with G columns each point whose column a and row b satisfy .." is fixed:
 -- what moves in row b, from the first column that does, and as far from the right
 unfoldable pub roundRun : ℕ → ℕ → Run

@@ -4,6 +4,7 @@ mod sizes;
 
 pub use runs::Run;
 pub use runs::is_moving;
+pub use runs::is_round_fixed;
 pub use runs::movable_run;
 pub use sizes::has_size;
 pub use sizes::is_stable;

@@ -3,7 +3,7 @@ ghost use mathlib.Core.Path.{_≡_};
 ghost use mathlib.Core.Bool.{true, _&&_};
 ghost use Prim.Native.Nat.{_≤_, _<_};
 ghost use Rattle.scheme.specs.Instruments.{kindOf, sizeIn, inTable, moving, roundEdge};
-ghost use Rattle.kinds.specs.Runs.{inRun, innerRun, roundRun, runIn, runOf, apart};
+ghost use Rattle.kinds.specs.Runs.{inRun, innerRun, onSquare, roundRun, runIn, runOf, apart};
 use crate::sizes::has_size;
 use scheme::Grid;
 
@@ -27,6 +27,28 @@ fn is_round_edge(c: usize, a: usize, b: usize) -> bool
     let x = distance(2 * a + 1, c);
     let y = distance(2 * b + 1, c);
     (c - 1) * (c - 1) <= x * x + y * y
+}
+
+// Whether a membrane of c columns and rows, of 64 at most, has column a and row b.
+fn is_on_square(c: usize, a: usize, b: usize) -> bool
+    ensures { λ r. ⌜ r ≡ onSquare c a b ⌝ }
+{
+    if c <= 64 {
+        return if a < c { b < c } else { false };
+    }
+    false
+}
+
+// Whether column a of row b is a fixed point of a round membrane of c columns, of 64 at most.
+// Ruled out: > for ≥ at the round edge; a point that is not on the membrane.
+pub fn is_round_fixed(c: usize, a: usize, b: usize) -> bool
+    ensures { λ r. ⌜ r ≡ (onSquare c a b && roundEdge c a b) ⌝ }
+{
+    if is_on_square(c, a, b) {
+        is_round_edge(c, a, b)
+    } else {
+        false
+    }
 }
 
 // Row b of a round membrane of c columns: from its first moving column, and as far from the right.
