@@ -1,9 +1,9 @@
 -- The moving columns of a row, as a run from one column to another. Vocabulary between the engine's crates: no call that a maker embeds cites it.
-use mathlib.Core.Bool.{Bool, _&&_, cond}
+use mathlib.Core.Bool.{Bool, not, _&&_, cond}
 use Prim.Native.Nat.{ℕ, _+_, _-_}
-use lib.Dec.{leb, ltb}
+use lib.Dec.{leb, ltb, eqb}
 use Rattle.scheme.specs.declared.Grid.{Grid}
-use Rattle.scheme.specs.Instruments.{Kind, unknown, fixedString, halfFreeString, freeString, bar, membrane, roundMembrane, kind, points}
+use Rattle.scheme.specs.Instruments.{Kind, unknown, fixedString, halfFreeString, freeString, bar, membrane, roundMembrane, kindOf, kind, points}
 use Rattle.scheme.specs.Instruments.{inTable, atEdge, roundEdge}
 use Rattle.kinds.specs.declared.runs.Run.{Run}
 use Rattle.kinds.specs.Search.{leading}
@@ -43,6 +43,10 @@ runIn freeString c r b = run 0 c
 runIn bar c r b = run 1 (c - 1)
 runIn membrane c r b = innerRun c r b
 runIn roundMembrane c r b = roundRun c b
+
+-- the same of a kind by its number: none in a round membrane, in no columns, or in a row that is not one of r
+unfoldable pub straightRun : ℕ → ℕ → ℕ → ℕ → Run
+straightRun k c r b = cond (ltb 0 c && (ltb b r && not (eqb k 6))) (runIn (kindOf k) c r b) (run 0 0)
 
 -- the moving columns of a row (`moving-run`): none in a grid whose size the table does not have, or in a row that the grid does not have
 unfoldable pub runOf : Grid → ℕ → Run

@@ -3,7 +3,7 @@ ghost use mathlib.Core.Path.{_≡_};
 ghost use mathlib.Core.Bool.{true, _&&_};
 ghost use Prim.Native.Nat.{_≤_, _<_};
 ghost use Rattle.scheme.specs.Instruments.{kindOf, sizeIn, inTable, moving, roundEdge};
-ghost use Rattle.kinds.specs.Runs.{inRun, innerRun, onSquare, roundRun, runIn, runOf, apart};
+ghost use Rattle.kinds.specs.Runs.{inRun, innerRun, onSquare, roundRun, runIn, straightRun, runOf, apart};
 use crate::sizes::has_size;
 use scheme::Grid;
 
@@ -80,20 +80,36 @@ fn inner_run(c: usize, r: usize, b: usize) -> Run
     Run { from: 1, to: c - 1 }
 }
 
-// Row b of c columns and r rows, a size that the table has for the kind.
-fn kind_run(kind: u64, c: usize, r: usize, b: usize) -> Run
-    requires { ⌜ (sizeIn (kindOf kind) c r ≡ true) × (b < r) ⌝ }
-    ensures { λ x. ⌜ x ≡ runIn (kindOf kind) c r b ⌝ }
+// Row b of c columns and r rows of a kind that is not round, whatever its size.
+// Ruled out: the last column of kind 2 taken as fixed; the outer ring of kind 5 forgotten in its last row.
+pub fn straight_run(kind: u64, c: usize, r: usize, b: usize) -> Run
+    ensures { λ x. ⌜ x ≡ straightRun kind c r b ⌝ }
 {
+    if c == 0 {
+        return Run { from: 0, to: 0 };
+    }
+    if r <= b {
+        return Run { from: 0, to: 0 };
+    }
     let last = c - 1;
     match kind {
         1 | 4 => Run { from: 1, to: last },
         2 => Run { from: 1, to: c },
         3 => Run { from: 0, to: c },
         5 => inner_run(c, r, b),
-        6 => round_run(c, b),
         _ => Run { from: 0, to: 0 },
     }
+}
+
+// Row b of c columns and r rows, a size that the table has for the kind.
+fn kind_run(kind: u64, c: usize, r: usize, b: usize) -> Run
+    requires { ⌜ (sizeIn (kindOf kind) c r ≡ true) × (b < r) ⌝ }
+    ensures { λ x. ⌜ x ≡ runIn (kindOf kind) c r b ⌝ }
+{
+    if kind == 6 {
+        return round_run(c, b);
+    }
+    straight_run(kind, c, r, b)
 }
 
 // The moving columns of a row; none where the table does not have the grid's size, or the grid does not have the row.

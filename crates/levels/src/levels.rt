@@ -11,8 +11,8 @@ ghost use Rattle.levels.specs.Levels.{bitsOf, signed, someNotZero, rowNo
 use kinds::Run;
 use kinds::has_size;
 use kinds::is_round_fixed;
-use kinds::movable_run;
 use kinds::points_of;
+use kinds::straight_run;
 use scheme::Grid;
 use scheme::Settings;
 use std::num::wrapping_add_u64;
@@ -117,7 +117,7 @@ fn is_row_unfixed(g: Grid, xs: &[i64], row: usize, start: usize) -> bool
     if kind == 6 {
         return round_not_zero(xs, start, columns, row);
     }
-    row_not_zero(xs, start, columns, movable_run(g, row))
+    row_not_zero(xs, start, columns, straight_run(kind, columns, g.rows, row))
 }
 
 // 12, of a level that is as long as the grid.
