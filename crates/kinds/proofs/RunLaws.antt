@@ -16,8 +16,8 @@ use Rattle.scheme.proofs.Laws.Bools.{and-both, and-yes, and-no, or-no, not-so, 
 use Rattle.scheme.proofs.Laws.Kinds.{Sized, sized}
 use Rattle.kinds.specs.declared.runs.Run.{Run}
 use Rattle.kinds.specs.Search.{leading}
-use Rattle.kinds.specs.Runs.{run, inRun, innerRun, roundRun, runIn, runOf}
-use Rattle.kinds.proofs.KindLaws.{kind-is}
+use Rattle.kinds.specs.Runs.{run, inRun, innerRun, roundRun, runIn, straightRun, runOf}
+use Rattle.kinds.proofs.KindLaws.{kind-is, kind-none}
 use Rattle.kinds.proofs.RoundLaws.{offset-mirror, edge-inward}
 use Rattle.kinds.proofs.SearchLaws.{leading-passed, leading-stops}
 
@@ -139,6 +139,33 @@ run-unlisted g b size = run-by g b (and-no _ size)
 
 pub run-past : (g : Grid) (b : ℕ) → g .rows ≤ b → runOf g b ≡ run 0 0
 run-past g b h = run-by g b (ap (λ (t : Bool). inTable g && t) (le-ltb b (g .rows) h) ∙ and-false (inTable g))
+
+-- of a kind that is not round
+module _ (k c r b : ℕ) where
+  straight-by : {t : Bool} → (ltb 0 c && (ltb b r && not (eqb k 6))) ≡ t → straightRun k c r b ≡ cond t (runIn (kindOf k) c r b) (run 0 0)
+  unfolding straightRun
+  straight-by e = ap (λ (t : Bool). cond t (runIn (kindOf k) c r b) (run 0 0)) e
+
+  pub straight-is : 0 < c → b < r → (k ≡ 6 → ⊥) → straightRun k c r b ≡ runIn (kindOf k) c r b
+  straight-is p q n = straight-by (and-yes (lt-ltb 0 c p) ∙ and-yes (lt-ltb b r q) ∙ ap not (ne-eqb k 6 n))
+
+  pub straight-none : c ≡ 0 → straightRun k c r b ≡ run 0 0
+  straight-none e = straight-by (and-no _ (le-ltb 0 c (omega arith)))
+
+  pub straight-past : r ≤ b → straightRun k c r b ≡ run 0 0
+  straight-past h = straight-by (ap (λ (t : Bool). ltb 0 c && t) (and-no _ (le-ltb b r h)) ∙ and-false (ltb 0 c))
+
+  -- by a number past the kinds that are not round
+  pub straight-other : (1 ≤ k → 5 < k) → straightRun k c r b ≡ run 0 0
+  unfolding runIn
+  straight-other past = go (ltb 0 c && (ltb b r && not (eqb k 6))) refl
+    where
+      none : (not (eqb k 6)) ≡ true → kindOf k ≡ unknown
+      none e = kind-none k (λ l. omega (arith, past l, eqb-false k 6 (not-true (eqb k 6) e)))
+
+      go : (t : Bool) → (ltb 0 c && (ltb b r && not (eqb k 6))) ≡ t → straightRun k c r b ≡ run 0 0
+      go true f = straight-by f ∙ ap (λ (K : Kind). runIn K c r b) (none (and-both (ltb b r) _ (and-both (ltb 0 c) _ f .1) .1))
+      go false f = straight-by f
 
 -- both ends fixed
 pub ends-run : {k : ℕ} (c r b : ℕ) → (k ≡ 1) ⊎ (k ≡ 4) → runIn (kindOf k) c r b ≡ run 1 (c - 1)

@@ -1,10 +1,10 @@
 -- The moving columns of a row, as a run from one column to another.
 -- Vocabulary between the engine's crates: no call that a maker embeds cites it.
-use mathlib.Core.Bool.{Bool, _&&_, cond}
+use mathlib.Core.Bool.{Bool, not, _&&_, cond}
 use Prim.Native.Nat.{ℕ, _+_, _-_}
-use lib.Dec.{leb, ltb}
+use lib.Dec.{leb, ltb, eqb}
 use Rattle.scheme.specs.declared.Grid.{Grid}
-use Rattle.scheme.specs.Instruments.{Kind, unknown, fixedString, halfFreeString, freeString, bar, membrane, roundMembrane, kind, points}
+use Rattle.scheme.specs.Instruments.{Kind, unknown, fixedString, halfFreeString, freeString, bar, membrane, roundMembrane, kindOf, kind, points}
 use Rattle.scheme.specs.Instruments.{inTable, atEdge, roundEdge}
 use Rattle.kinds.specs.declared.runs.Run.{Run}
 use Rattle.kinds.specs.Search.{leading}
@@ -24,6 +24,10 @@ inRun r a = leb (r .from) a && ltb a (r .to)
 unfoldable pub innerRun : ℕ → ℕ → ℕ → Run
 innerRun c r b = cond (atEdge r b) (run 0 0) (run 1 (c - 1))
 
+-- a membrane of c columns and rows, of 64 at most, has column a and row b
+abbrev pub onSquare : ℕ → ℕ → ℕ → Bool
+onSquare c a b = leb c 64 && (ltb a c && ltb b c)
+
 -- "in kind 6 with G columns each point whose column a and row b satisfy .." is fixed:
 -- what moves in row b, from the first column that does, and as far from the right
 unfoldable pub roundRun : ℕ → ℕ → Run
@@ -40,6 +44,10 @@ runIn freeString c r b = run 0 c
 runIn bar c r b = run 1 (c - 1)
 runIn membrane c r b = innerRun c r b
 runIn roundMembrane c r b = roundRun c b
+
+-- the same of a kind by its number: none in a round membrane, in no columns, or in a row that is not one of r
+unfoldable pub straightRun : ℕ → ℕ → ℕ → ℕ → Run
+straightRun k c r b = cond (ltb 0 c && (ltb b r && not (eqb k 6))) (runIn (kindOf k) c r b) (run 0 0)
 
 -- the moving columns of a row (`moving-run`): none in a grid whose size the table does not have, or in a row that the grid does not have
 unfoldable pub runOf : Grid → ℕ → Run

@@ -3,7 +3,7 @@ ghost use mathlib.Core.Path.{_≡_};
 ghost use mathlib.Core.Bool.{true, _&&_};
 ghost use Prim.Native.Nat.{_≤_, _<_};
 ghost use Rattle.scheme.specs.Instruments.{kindOf, sizeIn, inTable, moving, roundEdge};
-ghost use Rattle.kinds.specs.Runs.{inRun, innerRun, roundRun, runIn, runOf, apart};
+ghost use Rattle.kinds.specs.Runs.{inRun, innerRun, onSquare, roundRun, runIn, straightRun, runOf, apart};
 use crate::sizes::has_size;
 use scheme::Grid;
 
@@ -27,6 +27,28 @@ fn is_round_edge(c: usize, a: usize, b: usize) -> bool
     let x = distance(2 * a + 1, c);
     let y = distance(2 * b + 1, c);
     (c - 1) * (c - 1) <= x * x + y * y
+}
+
+// Whether a membrane of c columns and rows, of 64 at most, has column a and row b.
+fn is_on_square(c: usize, a: usize, b: usize) -> bool
+    ensures { λ r. ⌜ r ≡ onSquare c a b ⌝ }
+{
+    if c <= 64 {
+        return if a < c { b < c } else { false };
+    }
+    false
+}
+
+// Whether column a of row b is a fixed point of a round membrane of c columns, of 64 at most.
+// Ruled out: > for ≥ at the round edge; a point that is not on the membrane.
+pub fn is_round_fixed(c: usize, a: usize, b: usize) -> bool
+    ensures { λ r. ⌜ r ≡ (onSquare c a b && roundEdge c a b) ⌝ }
+{
+    if is_on_square(c, a, b) {
+        is_round_edge(c, a, b)
+    } else {
+        false
+    }
 }
 
 // Row b of a round membrane of c columns: from its first moving column, and as far from the right.
@@ -58,20 +80,36 @@ fn inner_run(c: usize, r: usize, b: usize) -> Run
     Run { from: 1, to: c - 1 }
 }
 
-// Row b of c columns and r rows, a size that the table has for the kind.
-fn kind_run(kind: u64, c: usize, r: usize, b: usize) -> Run
-    requires { ⌜ (sizeIn (kindOf kind) c r ≡ true) × (b < r) ⌝ }
-    ensures { λ x. ⌜ x ≡ runIn (kindOf kind) c r b ⌝ }
+// Row b of c columns and r rows of a kind that is not round, whatever its size.
+// Ruled out: the last column of kind 2 taken as fixed; the outer ring of kind 5 forgotten in its last row.
+pub fn straight_run(kind: u64, c: usize, r: usize, b: usize) -> Run
+    ensures { λ x. ⌜ x ≡ straightRun kind c r b ⌝ }
 {
+    if c == 0 {
+        return Run { from: 0, to: 0 };
+    }
+    if r <= b {
+        return Run { from: 0, to: 0 };
+    }
     let last = c - 1;
     match kind {
         1 | 4 => Run { from: 1, to: last },
         2 => Run { from: 1, to: c },
         3 => Run { from: 0, to: c },
         5 => inner_run(c, r, b),
-        6 => round_run(c, b),
         _ => Run { from: 0, to: 0 },
     }
+}
+
+// Row b of c columns and r rows, a size that the table has for the kind.
+fn kind_run(kind: u64, c: usize, r: usize, b: usize) -> Run
+    requires { ⌜ (sizeIn (kindOf kind) c r ≡ true) × (b < r) ⌝ }
+    ensures { λ x. ⌜ x ≡ runIn (kindOf kind) c r b ⌝ }
+{
+    if kind == 6 {
+        return round_run(c, b);
+    }
+    straight_run(kind, c, r, b)
 }
 
 // The moving columns of a row; none where the table does not have the grid's size, or the grid does not have the row.

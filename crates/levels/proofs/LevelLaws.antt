@@ -1,5 +1,5 @@
 -- A level's points as code looks at them.
-use mathlib.Core.Path.{_≡_, refl, sym, ap, _∙_, subst, subst₂}
+use mathlib.Core.Path.{_≡_, refl, sym, ap, ap₂, _∙_, subst, subst₂}
 use mathlib.Core.Bool.{Bool, true, false, _&&_, _||_}
 use mathlib.Core.List.{List}
 use Prim.Native.Nat.{ℕ, zero, suc, _+_, _-_, _*_, _^_, _≤_, _<_}
@@ -7,6 +7,7 @@ use native.Mathlib.Nat.{add-assoc, le-refl, mul-comm, mul-le-mul, suc-mul}
 use native.Mathlib.Numerals.{add-one}
 use native.Mathlib.Omega.{arith}
 use borrow.Author.Tests.{lt-ltb}
+use lib.Arith.{digits-div, digits-mod}
 use lib.Dec.{T, ltb, leb·suc-suc}
 use lib.IntN.{ℤ, pos, negsuc, natAbs}
 use lib.ListN.{length}
@@ -16,12 +17,13 @@ use mir.Val.{toZ, ofZ}
 use Rattle.bounded.proofs.Num.{back}
 use Rattle.scheme.specs.declared.Grid.{Grid}
 use Rattle.scheme.specs.Lists.{someBelow}
-use Rattle.scheme.specs.Instruments.{beyond, points, fixed}
+use Rattle.scheme.specs.Instruments.{beyond, Kind, roundMembrane, points, column, row, roundEdge, fixedIn, fixed}
 use Rattle.scheme.specs.Refusals.{fixedNotZero}
 use Rattle.scheme.specs.Instruments.{inTable}
 use Rattle.kinds.specs.Runs.{runOf}
-use Rattle.levels.specs.Levels.{notZero, someNotZero, rowNotZero}
+use Rattle.levels.specs.Levels.{notZero, someNotZero, rowNotZero, roundNotZero, rowUnfixed}
 use Rattle.kinds.proofs.SearchLaws.{some-ext, some-rows, some-outside}
+use Rattle.kinds.proofs.KindLaws.{kind-is}
 use Rattle.kinds.proofs.RunLaws.{fixed-run, run-bounds}
 
 -- ---- beyond the ceiling, as code tests it
@@ -53,11 +55,11 @@ next-row b c = sym (ap (λ (n : ℕ). n * c) (add-one b) ∙ suc-mul b c)
 pub row-inside : (b r c : ℕ) → b < r → b * c + c ≤ c * r
 row-inside b r c h = subst₂ _≤_ (sym (next-row b c)) (mul-comm r c) (mul-le-mul (omega arith) (le-refl c))
 
-module _ (g : Grid) (xs : List ℤ) (size : inTable g ≡ true) where
-  row-test : (b : ℕ) → b < g .rows → someBelow (g .columns) (λ a. fixed g (b * g .columns + a) && notZero xs (b * g .columns + a))
-      ≡ rowNotZero xs (b * g .columns) (g .columns) (runOf g b)
+module _ (g : Grid) (xs : List ℤ) where
+  -- by the run of the row
+  pub row-test : inTable g ≡ true → (b : ℕ) → b < g .rows → rowUnfixed g xs b ≡ rowNotZero xs (b * g .columns) (g .columns) (runOf g b)
   unfolding someNotZero
-  row-test b h =
+  row-test size b h =
       let r = runOf g b in
       let w = run-bounds g b in
       some-ext (g .columns) (λ a q. ap (λ (t : Bool). t && notZero xs (b * g .columns + a)) (fixed-run g b a size h q)) ∙
@@ -65,10 +67,15 @@ module _ (g : Grid) (xs : List ℤ) (size : inTable g ≡ true) where
       ap (λ (t : Bool). someNotZero xs (b * g .columns) (r .from) || t)
       (some-ext (g .columns - r .to) (λ a q. ap (notZero xs) (sym (add-assoc (b * g .columns) (r .to) a))))
 
-  pub rows-test : length xs ≡ points g → fixedNotZero g xs
-      ≡ someBelow (g .rows) (λ b. rowNotZero xs (b * g .columns) (g .columns) (runOf g b))
+  -- of a round membrane by its edge
+  pub round-row : g .kind ≡ 6 → (b : ℕ) → rowUnfixed g xs b ≡ roundNotZero xs (b * g .columns) (g .columns) b
+  unfolding fixedIn
+  round-row e b = some-ext (g .columns) (λ a q. ap (λ (t : Bool). t && notZero xs (b * g .columns + a))
+      (ap (λ (K : Kind). fixedIn K (g .columns) (g .rows) (column g (b * g .columns + a)) (row g (b * g .columns + a)))
+      (kind-is roundMembrane e) ∙ ap₂ (roundEdge (g .columns)) (digits-mod b q) (digits-div b q)))
+
+  pub rows-test : length xs ≡ points g → fixedNotZero g xs ≡ someBelow (g .rows) (rowUnfixed g xs)
   unfolding fixedNotZero
   rows-test l =
       let test : ℕ → Bool = λ i. fixed g i && notZero xs i in
       ap (λ (n : ℕ). someBelow n test) (l ∙ mul-comm (g .columns) (g .rows)) ∙ some-rows (g .rows) (g .columns) test
-      ∙ some-ext (g .rows) row-test

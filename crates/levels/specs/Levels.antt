@@ -1,13 +1,13 @@
 -- Signs by bits, and points of a level that are not 0. Vocabulary between the engine's crates: no call that a maker embeds cites it.
 use mathlib.Core.Bool.{Bool, _&&_, _||_}
 use mathlib.Core.List.{List}
-use Prim.Native.Nat.{ℕ, suc, _+_, _-_, _^_}
+use Prim.Native.Nat.{ℕ, suc, _+_, _-_, _*_, _^_}
 use lib.Dec.{leb, ltb, eqb}
 use lib.IntN.{ℤ, pos, negsuc, natAbs}
 use lib.ListN.{length}
 use Rattle.scheme.specs.declared.Grid.{Grid}
 use Rattle.scheme.specs.Lists.{point, someBelow}
-use Rattle.scheme.specs.Instruments.{points, inTable}
+use Rattle.scheme.specs.Instruments.{points, inTable, roundEdge, fixed}
 use Rattle.scheme.specs.Refusals.{fixedNotZero}
 use Rattle.kinds.specs.declared.runs.Run.{Run}
 
@@ -31,6 +31,14 @@ someNotZero xs a n = someBelow n (λ k. notZero xs (a + k))
 -- some point of the row of c columns that begins at a is not 0, before its run or after it
 abbrev pub rowNotZero : List ℤ → ℕ → ℕ → Run → Bool
 rowNotZero xs a c r = someNotZero xs a (r .from) || someNotZero xs (a + r .to) (c - r .to)
+
+-- some fixed point of row b of a round membrane of c columns is not 0, where the row begins at s
+abbrev pub roundNotZero : List ℤ → ℕ → ℕ → ℕ → Bool
+roundNotZero xs s c b = someBelow c (λ a. roundEdge c a b && notZero xs (s + a))
+
+-- some fixed point of row b is not 0
+abbrev pub rowUnfixed : Grid → List ℤ → ℕ → Bool
+rowUnfixed g xs b = someBelow (g .columns) (λ a. fixed g (b * g .columns + a) && notZero xs (b * g .columns + a))
 
 -- 12 "A fixed point .. not 0", of a level that is as long as a grid whose size the table has
 unfoldable pub unfixed : Grid → List ℤ → Bool

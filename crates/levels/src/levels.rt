@@ -1,17 +1,18 @@
 // What a level's points are refused for: one beyond the ceiling, a fixed one that is not 0.
 ghost use mathlib.Core.Path.{_≡_};
 ghost use mathlib.Core.Bool.{true};
-ghost use Prim.Native.Nat.{_+_, _≤_};
+ghost use Prim.Native.Nat.{_+_, _*_, _≤_, _<_};
 ghost use lib.ListN.{length};
 ghost use Rattle.scheme.specs.Instruments.{points, beyond};
 ghost use Rattle.scheme.specs.Step.{someBeyond};
 ghost use Rattle.scheme.specs.Refusals.{fixedNotZero};
 ghost use Rattle.scheme.specs.Instruments.{inTable};
-ghost use Rattle.levels.specs.Levels.{bitsOf, signed, someNotZero, rowNotZero, unfixed};
+ghost use Rattle.levels.specs.Levels.{bitsOf, signed, someNotZero, rowNotZero, roundNotZero, rowUnfixed, unfixed};
 use kinds::Run;
 use kinds::has_size;
-use kinds::movable_run;
+use kinds::is_round_fixed;
 use kinds::points_of;
+use kinds::straight_run;
 use scheme::Grid;
 use scheme::Settings;
 use std::num::wrapping_add_u64;
@@ -88,6 +89,37 @@ fn row_not_zero(xs: &[i64], start: usize, columns: usize, run: Run) -> bool
     some_not_zero(xs, start + run.to, columns - run.to)
 }
 
+// Whether some fixed point of row b of a round membrane of c columns is not 0, from both ends of the row to its edge.
+fn round_not_zero(xs: &[i64], start: usize, c: usize, b: usize) -> bool
+    requires { ⌜ (c ≤ 64) × (b < c) × (start + c ≤ length (now xs)) ⌝ }
+    ensures { λ r. ⌜ r ≡ roundNotZero (now (xs .entry)) start c b ⌝ }
+{
+    let mut a = 0;
+    while a < c {
+        if !is_round_fixed(c, a, b) {
+            return false;
+        }
+        if xs[start + a] | xs[start + (c - 1 - a)] != 0 {
+            return true;
+        }
+        a += 1;
+    }
+    false
+}
+
+// Whether some fixed point of a row is not 0.
+fn is_row_unfixed(g: Grid, xs: &[i64], row: usize, start: usize) -> bool
+    requires { ⌜ (inTable g ≡ true) × (row < g .rows) × (start ≡ row * g .columns) × (start + g .columns ≤ length (now xs)) ⌝ }
+    ensures { λ r. ⌜ r ≡ rowUnfixed g (now (xs .entry)) row ⌝ }
+{
+    let columns = g.columns;
+    let kind = g.kind;
+    if kind == 6 {
+        return round_not_zero(xs, start, columns, row);
+    }
+    row_not_zero(xs, start, columns, straight_run(kind, columns, g.rows, row))
+}
+
 // 12, of a level that is as long as the grid.
 fn rows_not_zero(g: Grid, xs: &[i64]) -> bool
     requires { ⌜ (inTable g ≡ true) × (length (now xs) ≡ points g) ⌝ }
@@ -98,8 +130,7 @@ fn rows_not_zero(g: Grid, xs: &[i64]) -> bool
     let mut row = 0;
     let mut start = 0;
     while row < rows {
-        let run = movable_run(g, row);
-        if row_not_zero(xs, start, columns, run) {
+        if is_row_unfixed(g, xs, row, start) {
             return true;
         }
         row += 1;

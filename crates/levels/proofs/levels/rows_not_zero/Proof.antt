@@ -1,5 +1,5 @@
--- `rows_not_zero` meets its contract: the rows passed have 0 outside their runs.
-use mathlib.Core.Path.{_≡_, sym, ap, ap₂, _∙_, subst}
+-- `rows_not_zero` meets its contract: the fixed points of the rows passed are 0.
+use mathlib.Core.Path.{_≡_, sym, ap, _∙_}
 use mathlib.Core.Bool.{true, not}
 use mathlib.Core.List.{List}
 use Prim.Native.Nat.{ℕ, _+_, _-_, _*_, _≤_}
@@ -11,68 +11,51 @@ use Rattle.scheme.specs.declared.Grid.{Grid}
 use Rattle.scheme.specs.Instruments.{inTable, points}
 use Rattle.scheme.proofs.Laws.Lists.{some-at}
 use Rattle.scheme.proofs.Laws.Kinds.{sized}
-use Rattle.kinds.specs.declared.runs.Run.{Run}
 use Rattle.kinds.specs.Search.{Passed}
-use Rattle.kinds.specs.Runs.{runOf}
-use Rattle.levels.specs.Levels.{rowNotZero}
 use Rattle.kinds.proofs.SearchLaws.{passed-none, passed-more, some-none}
-use Rattle.kinds.proofs.RunLaws.{RunIn, run-bounds}
+use Rattle.levels.specs.Levels.{rowUnfixed}
 use Rattle.levels.proofs.LevelLaws.{next-row, row-inside, rows-test}
 use Rattle.levels.proofs.levels.rows_not_zero.Statement.{statement}
 use Rattle.levels.proofs.levels.rows_not_zero.Tie as tie
 
 -- the fixed points of the rows passed are 0, and the row begins at start
 abbrev Inv-loop : tie.InvT-loop
-Inv-loop g xs columns rows row₀ start₀ row start =
-    (start ≡ row * g .columns) × Passed (g .rows) (λ b. not (rowNotZero xs (b * g .columns) (g .columns) (runOf g b))) row
+Inv-loop g xs columns rows row₀ start₀ row start = (start ≡ row * g .columns) × Passed (g .rows) (λ b. not (rowUnfixed g xs b)) row
 
 abbrev μ-loop : tie.MeasureT-loop
 μ-loop g xs columns rows row₀ start₀ row start = g .rows - row
 
 -- a turn of the loop: its grid, its level, its row
-module _ (c : tie.After-movable-run Inv-loop μ-loop) where
+module _ (c : tie.In-loop Inv-loop μ-loop) where
   abbrev g : Grid
-  g = c .before .before .before .args .g
+  g = c .before .before .args .g
 
   abbrev xs : List ℤ
-  xs = c .before .before .before .args .xs .now
+  xs = c .before .before .args .xs .now
 
   abbrev b : ℕ
-  b = c .before .before .loop .row
+  b = c .before .loop .row
 
   sound : (inTable g ≡ true) × (length xs ≡ points g)
-  sound = c .before .before .before .pre
+  sound = c .before .before .pre
 
-  start-is : c .before .before .loop .start ≡ b * g .columns
-  start-is = c .before .before .loop .inv .0
+  start-is : c .before .loop .start ≡ b * g .columns
+  start-is = c .before .loop .inv .0
 
   -- the row lies in the level
-  room : c .before .before .loop .start + g .columns ≤ length xs
-  room = omega (arith, start-is, sound .1, row-inside b (g .rows) (g .columns) (c .before .loop-test .taken))
-
--- what row_not_zero answered of the row
-found : (c : tie.After-row-not-zero Inv-loop μ-loop) → c .row-not-zero .result
-    ≡ rowNotZero (xs (c .before)) (b (c .before) * g (c .before) .columns) (g (c .before) .columns) (runOf (g (c .before)) (b (c .before)))
-found c =
-    let t = c .before in
-    c .row-not-zero .ensures
-    ∙ ap₂ (λ (n : ℕ) (r : Run). rowNotZero (xs t) n (g t .columns) r) (start-is t) (t .movable-run .ensures)
+  room : c .before .loop .start + g .columns ≤ length xs
+  room = omega (arith, start-is, sound .1, row-inside b (g .rows) (g .columns) (c .loop-test .taken))
 
 loop-holds : tie.Need-loop-holds Inv-loop μ-loop
 loop-holds c = (omega arith, passed-none _ _)
 
-movable-run-requires : tie.Need-movable-run-requires Inv-loop μ-loop
-movable-run-requires c κs = tt
-
-row-not-zero-requires : tie.Need-row-not-zero-requires Inv-loop μ-loop
-row-not-zero-requires c κs =
-    let w = subst (RunIn (g c .columns)) (sym (c .movable-run .ensures)) (run-bounds _ _) in
-    (omega (arith, w .rising, w .inside), w .inside, room c)
+is-row-unfixed-requires : tie.Need-is-row-unfixed-requires Inv-loop μ-loop
+is-row-unfixed-requires c κs = (sound c .0, c .loop-test .taken, start-is c, room c)
 
 returns : tie.Need-returns Inv-loop μ-loop
 returns c =
     let t = c .before .before in
-    sym (rows-test _ _ (sound t .0) (sound t .1) ∙ some-at _ _ (b t) (omega arith) (sym (found (c .before)) ∙ c .if1 .taken))
+    sym (rows-test (g t) (xs t) (sound t .1) ∙ some-at _ _ (b t) (omega arith) (sym (c .before .is-row-unfixed .ensures) ∙ c .if1 .taken))
 
 add-row : tie.Need-add-row Inv-loop μ-loop
 add-row c = omega (arith, sized _ _ _ (sound (c .before .before) .0) .rows-high)
@@ -87,12 +70,11 @@ loop-again : tie.Need-loop-again Inv-loop μ-loop
 loop-again c =
     let t = c .before .before in (
       ap (λ (n : ℕ). n + g t .columns) (start-is t) ∙ next-row (b t) (g t .columns),
-      passed-more _ _ (omega arith) (t .before .before .loop .inv .1) (ap not (sym (found (c .before)) ∙ c .if1 .left)),
+      passed-more _ _ (omega arith) (t .before .loop .inv .1) (ap not (sym (c .before .is-row-unfixed .ensures) ∙ c .if1 .left)),
     )
 
 returns-2 : tie.Need-returns-2 Inv-loop μ-loop
-returns-2 c = sym (rows-test _ _ (c .before .before .pre .0) (c .before .before .pre .1)
-    ∙ some-none _ _ (c .before .loop .inv .1) (omega arith))
+returns-2 c = sym (rows-test _ _ (c .before .before .pre .1) ∙ some-none _ _ (c .before .loop .inv .1) (omega arith))
 
 pub rows-not-zero-spec : {M : Type 1} → statement M
 rows-not-zero-spec =
@@ -101,8 +83,7 @@ rows-not-zero-spec =
     Inv-loop
     μ-loop
     loop-holds
-    movable-run-requires
-    row-not-zero-requires
+    is-row-unfixed-requires
     returns
     add-row
     add-start

@@ -1,0 +1,70 @@
+-- `straight_run` meets its contract: each kind's run, by its number.
+use mathlib.Core.Path.{_≡_, sym, _∙_}
+use mathlib.Core.Logic.{inl, inr, _⊎_}
+use Prim.Native.Nat.{ℕ}
+use native.Mathlib.Omega.{arith}
+use borrow.Author.Needs.{needs}
+use Rattle.scheme.specs.Instruments.{halfFreeString, freeString, membrane, kindOf}
+use Rattle.kinds.specs.Runs.{runIn, straightRun}
+use Rattle.kinds.proofs.KindLaws.{kind-is}
+use Rattle.kinds.proofs.RunLaws.{straight-is, straight-none, straight-past, straight-other, ends-run}
+use Rattle.kinds.proofs.runs.straight_run.Statement.{statement}
+use Rattle.kinds.proofs.runs.straight_run.Tie as tie
+
+-- past the two tests
+run-is : (c : tie.Else2) → let a = c .before .before .args in
+    (a .kind ≡ 6 → ⊥) → straightRun (a .kind) (a .c) (a .r) (a .b) ≡ runIn (kindOf (a .kind)) (a .c) (a .r) (a .b)
+run-is c n = straight-is _ _ _ _ (omega (arith, c .before .if1 .left)) (c .if2 .left) n
+
+returns : tie.Need-returns
+returns c = sym (straight-none _ _ _ _ (c .if1 .taken))
+
+returns-2 : tie.Need-returns-2
+returns-2 c = sym (straight-past _ _ _ _ (c .if2 .taken))
+
+sub-last : tie.Need-sub-last
+sub-last c = search needs
+
+inner-run-requires : tie.Need-inner-run-requires
+inner-run-requires c κs = search needs
+
+returns-3 : tie.Need-returns-3
+returns-3 c = sym (run-is (c .before) (other (c .match .keys1)) ∙ ends-run _ _ _ (c .match .keys1))
+  where
+    other : {k : ℕ} → (k ≡ 1) ⊎ (k ≡ 4) → k ≡ 6 → ⊥
+    other (inl e) f = omega arith
+    other (inr e) f = omega arith
+
+returns-4 : tie.Need-returns-4
+unfolding runIn
+returns-4 c = simp (run-is (c .before) (λ e. omega (arith, c .match .keys2)), kind-is halfFreeString (c .match .keys2))
+
+returns-5 : tie.Need-returns-5
+unfolding runIn
+returns-5 c = simp (run-is (c .before) (λ e. omega (arith, c .match .keys3)), kind-is freeString (c .match .keys3))
+
+returns-6 : tie.Need-returns-6
+unfolding runIn
+returns-6 c = simp (run-is (c .before .before) (λ e. omega (arith, c .before .match .keys4)), kind-is membrane (c .before .match .keys4))
+    (c .inner-run .ensures)
+
+returns-7 : tie.Need-returns-7
+returns-7 c =
+    let k = c .before .before .before .args .kind in
+    let one : k ≡ 1 → ⊥ = λ e. c .match .rest .0 .0 .0 .1 (inl e) in
+    let four : k ≡ 4 → ⊥ = λ e. c .match .rest .0 .0 .0 .1 (inr e) in
+    sym (straight-other k _ _ _ (λ l. omega arith))
+
+pub straight-run-spec : {M : Type 1} → statement M
+straight-run-spec =
+    tie.close
+    (tie.spec
+    returns
+    returns-2
+    sub-last
+    inner-run-requires
+    returns-3
+    returns-4
+    returns-5
+    returns-6
+    returns-7)
