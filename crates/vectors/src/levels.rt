@@ -1,13 +1,12 @@
 // The lent buffers: lending them with new content, comparing them with what is expected.
-ghost use mathlib.Core.Path.{_≡_};
 ghost use Prim.Native.Nat.{_≤_};
-ghost use lib.ListN.{length};
 ghost use Rattle.vectors.specs.Lent.{LentIn};
-use crate::records::MOST;
+use crate::records::Numbers;
+use crate::records::PLACES;
 use crate::records::signed;
 
-// The most points of a level, and places of the samples.
-pub const PLACES: usize = 4100;
+// The most points of a level, and the most samples.
+pub const MOST: usize = 4100;
 
 // The lengths in which the four buffers are lent.
 pub struct Lent {
@@ -17,13 +16,13 @@ pub struct Lent {
     pub samples: usize,
 }
 
-fn length_of(length: u64) -> usize
-    ensures { λ r. ⌜ r ≤ 4100 ⌝ }
+fn least(length: usize) -> usize
+    ensures { λ r. ⌜ (r ≤ length) × (r ≤ 4100) ⌝ }
 {
-    if length < 4100 {
-        return length as usize;
+    match length {
+        0..=4099 => length,
+        _ => MOST,
     }
-    PLACES
 }
 
 impl Lent {
@@ -38,42 +37,31 @@ impl Lent {
         }
     }
 
-    // The lengths after a record that lends a buffer.
-    fn with(mut self, which: u64, length: usize) -> Lent
+    // The lengths after a record: one that lends has the buffer's number and its length.
+    pub(crate) fn after(mut self, n: Numbers) -> Lent
         requires { ⌜ LentIn self ⌝ }
-        requires { ⌜ length ≤ 4100 ⌝ }
         ensures { λ r. ⌜ LentIn r ⌝ }
     {
-        match which {
+        let lent = n.buffer_lent();
+        let length = least(n.n2 as usize);
+        match lent {
             0 => self.older = length,
             1 => self.newer = length,
             2 => self.work = length,
-            _ => self.samples = length,
-        }
-        self
-    }
-
-    // The lengths after a record.
-    pub(crate) fn after(self, record: &[u64; MOST]) -> Lent
-        requires { ⌜ LentIn self ⌝ }
-        ensures { λ r. ⌜ LentIn r ⌝ }
-    {
-        if record[0] == 1 {
-            return self.with(record[1], length_of(record[2]));
+            3 => self.samples = length,
+            _ => {}
         }
         self
     }
 }
 
 // A number as a sample, 0 where it is none.
-fn narrow(value: i64) -> i16 {
-    if value < -32768 {
-        return 0;
+fn sample(bits: u64) -> i16 {
+    match bits {
+        0..=32767 => bits as i16,
+        18446744073709518848..=18446744073709551615 => !((u64::MAX - bits) as i16),
+        _ => 0,
     }
-    if value < 32768 {
-        return value as i16;
-    }
-    0
 }
 
 fn level_of(is_lent: bool, given: i64, held: i64) -> i64 {
@@ -84,12 +72,13 @@ fn sample_of(is_lent: bool, given: i16, held: i16) -> i16 {
     if is_lent { given } else { held }
 }
 
-// A lent level takes the numbers of the record. Whether it has this length and content.
-fn on_level(record: &[u64; MOST], level: &mut [i64]) -> bool {
-    let is_lent = record[0] == 1;
-    let mut is_met = level.len() as u64 == record[2];
+// A lent level takes the record's values. Whether it has this length and content.
+pub fn on_level(n: Numbers, record: &[u64; PLACES], level: &mut [i64]) -> bool {
+    let is_lent = n.n0 == 1;
+    let end = least(level.len());
+    let mut is_met = level.len() as u64 == n.n2;
     let mut k = 0;
-    while k < level.len() && k < PLACES {
+    while k < end {
         let given = signed(record[k + 3]);
         let value = level_of(is_lent, given, level[k]);
         level[k] = value;
@@ -99,34 +88,17 @@ fn on_level(record: &[u64; MOST], level: &mut [i64]) -> bool {
     is_met
 }
 
-fn on_samples(record: &[u64; MOST], samples: &mut [i16]) -> bool {
-    let is_lent = record[0] == 1;
-    let mut is_met = samples.len() as u64 == record[2];
+pub fn on_samples(n: Numbers, record: &[u64; PLACES], samples: &mut [i16]) -> bool {
+    let is_lent = n.n0 == 1;
+    let end = least(samples.len());
+    let mut is_met = samples.len() as u64 == n.n2;
     let mut k = 0;
-    while k < samples.len() && k < PLACES {
-        let given = narrow(signed(record[k + 3]));
+    while k < end {
+        let given = sample(record[k + 3]);
         let value = sample_of(is_lent, given, samples[k]);
         samples[k] = value;
         is_met = is_met & (value == given);
         k += 1;
     }
     is_met
-}
-
-// A record on a buffer is carried out.
-pub fn on_buffer(
-    record: &[u64; MOST],
-    older: &mut [i64],
-    newer: &mut [i64],
-    work: &mut [i64],
-    samples: &mut [i16],
-) -> bool {
-    let which = record[1];
-    match which {
-        0 => on_level(record, older),
-        1 => on_level(record, newer),
-        2 => on_level(record, work),
-        3 => on_samples(record, samples),
-        _ => false,
-    }
 }

@@ -9,49 +9,52 @@ ghost use mathlib.Core.Path.{_≡_};
 ghost use lib.ListN.{length};
 use crate::calls::agrees;
 use crate::levels::Lent;
-use crate::levels::PLACES;
-use crate::records::MALFORMED;
-use crate::records::MOST;
+use crate::levels::MOST;
+use crate::records::PLACES;
 use crate::records::next_record;
 use crate::tally::Tally;
 use crate::tally::say;
 
 // The last record must have opcode 0.
 fn report(path: &[u8], tally: Tally, opcode: u64) {
-    if opcode == 0 {
-        tally.counts(path);
-    } else {
-        tally.say_of(path, b": no opcode 0 at the end\n");
+    match opcode {
+        0 => tally.counts(path),
+        _ => tally.say_of(path, b": no opcode 0 at the end\n"),
     }
 }
 
 // The records of a text, one after another.
 fn run(path: &[u8], text: &[u8]) {
-    let mut record = [MALFORMED; MOST];
-    let mut older = [0i64; PLACES];
-    let mut newer = [0i64; PLACES];
-    let mut work = [0i64; PLACES];
-    let mut samples = [0i16; PLACES];
+    let mut record = [0u64; PLACES];
+    let mut older = [0i64; MOST];
+    let mut newer = [0i64; MOST];
+    let mut work = [0i64; MOST];
+    let mut samples = [0i16; MOST];
     let mut lent = Lent::new();
     let mut tally = Tally::new();
+    let mut opcode: u64 = 1;
     let mut at = 0;
     while at < text.len() {
-        at = next_record(text, at, &mut record);
-        lent = lent.after(&record);
+        let next = next_record(text, at, &mut record);
+        let n = next.numbers;
+        lent = lent.after(n);
         let n0 = lent.older;
         let n1 = lent.newer;
         let n2 = lent.work;
         let n3 = lent.samples;
         let is_met = agrees(
+            n,
             &record,
             &mut older[..n0],
             &mut newer[..n1],
             &mut work[..n2],
             &mut samples[..n3],
         );
-        tally = tally.record(path, record[0], is_met);
+        opcode = n.n0;
+        tally = tally.record(path, opcode, is_met);
+        at = next.next;
     }
-    report(path, tally, record[0]);
+    report(path, tally, opcode);
 }
 
 // Room for the longest file.
@@ -67,17 +70,25 @@ fn run_file(path: &[u8], fd: i32) {
     run(path, &text[..n]);
 }
 
+fn say_missing(path: &[u8]) {
+    say(path);
+    say(b": cannot be opened\n");
+}
+
+fn run_path(path: &[u8]) {
+    let fd = os::open_read(path);
+    if fd < 0 {
+        say_missing(path);
+    } else {
+        run_file(path, fd);
+        libc::close(fd);
+    }
+}
+
 fn run_argument(i: usize) {
     let mut path = io::buffer();
     let n = os::arg(i, &mut path);
-    let fd = os::open_read(&path[..n]);
-    if fd < 0 {
-        say(&path[..n]);
-        say(b": cannot be opened\n");
-        return;
-    }
-    run_file(&path[..n], fd);
-    libc::close(fd);
+    run_path(&path[..n]);
 }
 
 fn main() {

@@ -12,9 +12,6 @@ pub struct Tally {
     pub differences: u64,
 }
 
-// At most this many differences of a file have a line.
-const LINES: u64 = 20;
-
 pub fn say(text: &[u8]) {
     io::write_all(STDOUT_FILENO, text);
 }
@@ -61,18 +58,28 @@ impl Tally {
         say_count(self.records, what);
     }
 
+    // At most 20 differences of a file have a line.
+    fn differs(mut self, path: &[u8], opcode: u64) -> Tally {
+        let differences = self.differences;
+        match differences {
+            0..=19 => {
+                self.say_of(path, b": opcode ");
+                say_count(opcode, b" differs\n");
+            }
+            _ => {}
+        }
+        self.differences = one_more(differences);
+        self
+    }
+
     // A record, and whether it is met.
     pub fn record(self, path: &[u8], opcode: u64, is_met: bool) -> Tally {
-        let mut tally = self.counted(opcode);
+        let tally = self.counted(opcode);
         if is_met {
-            return tally;
+            tally
+        } else {
+            tally.differs(path, opcode)
         }
-        if tally.differences < LINES {
-            tally.say_of(path, b": opcode ");
-            say_count(opcode, b" differs\n");
-        }
-        tally.differences = one_more(tally.differences);
-        tally
     }
 
     pub fn counts(self, path: &[u8]) {

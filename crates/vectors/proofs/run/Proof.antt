@@ -12,7 +12,7 @@ use Rattle.vectors.proofs.run.Statement.{statement}
 use Rattle.vectors.proofs.run.Tie as tie
 
 abbrev Inv-loop : tie.InvT-loop
-Inv-loop path text record₀ older₀ newer₀ work₀ samples₀ lent₀ tally₀ at₀ «record» older newer work samples lent tally at =
+Inv-loop path text record₀ older₀ newer₀ work₀ samples₀ lent₀ tally₀ opcode₀ at₀ «record» older newer work samples lent tally opcode at =
     LentIn lent
     × (length older ≡ 4100)
     × (length newer ≡ 4100)
@@ -20,7 +20,7 @@ Inv-loop path text record₀ older₀ newer₀ work₀ samples₀ lent₀ tally�
     × (length samples ≡ 4100)
 
 abbrev μ-loop : tie.MeasureT-loop
-μ-loop path text record₀ older₀ newer₀ work₀ samples₀ lent₀ tally₀ at₀ «record» older newer work samples lent tally at =
+μ-loop path text record₀ older₀ newer₀ work₀ samples₀ lent₀ tally₀ opcode₀ at₀ «record» older newer work samples lent tally opcode at =
     length text - at
 
 -- a lent prefix has the length in which it is lent
@@ -86,9 +86,6 @@ slice-aggregate-agrees-4 c =
 agrees-requires : tie.Need-agrees-requires Inv-loop μ-loop
 agrees-requires c κs = search needs
 
-array-read-record : tie.Need-array-read-record Inv-loop μ-loop
-array-read-record c = search needs
-
 record-requires : tie.Need-record-requires Inv-loop μ-loop
 record-requires c κs = search needs
 
@@ -104,14 +101,11 @@ loop-again c =
     let n = a .after .result in
     (
       a .after .ensures,
-      back (l .older) (ys .1 .0) (n .older) (l .inv .1) (o .older2 .given),
-      back (l .newer) (ys .1 .1 .0) (n .newer) (l .inv .2) (c .before .before .before .newer2 .given),
-      back (l .work) (ys .1 .1 .1 .0) (n .work) (l .inv .3) (c .before .before .work2 .given),
-      back (l .samples) (ys .1 .1 .1 .1 .0) (n .samples) (l .inv .4) (c .before .samples2 .given),
+      back (l .older) (ys .1 .1 .0) (n .older) (l .inv .1) (o .older2 .given),
+      back (l .newer) (ys .1 .1 .1 .0) (n .newer) (l .inv .2) (c .before .before .before .newer2 .given),
+      back (l .work) (ys .1 .1 .1 .1 .0) (n .work) (l .inv .3) (c .before .before .work2 .given),
+      back (l .samples) (ys .1 .1 .1 .1 .1 .0) (n .samples) (l .inv .4) (c .before .samples2 .given),
     )
-
-array-read-report : tie.Need-array-read-report Inv-loop μ-loop
-array-read-report c = search needs
 
 report-requires : tie.Need-report-requires Inv-loop μ-loop
 report-requires c κs = search needs
@@ -139,10 +133,8 @@ run-spec =
     array-borrow-prefix-samples
     slice-aggregate-agrees-4
     agrees-requires
-    array-read-record
     record-requires
     loop-less
     loop-again
-    array-read-report
     report-requires
     returns)

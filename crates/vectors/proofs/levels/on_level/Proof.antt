@@ -3,33 +3,29 @@ use mathlib.Core.Path.{_≡_}
 use Prim.Native.Nat.{_-_}
 use lib.ListN.{length}
 use borrow.Author.Needs.{needs}
-use borrow.Author.Tests.{ltb-true}
 use Rattle.vectors.proofs.levels.on_level.Statement.{statement}
 use Rattle.vectors.proofs.levels.on_level.Tie as tie
 
 abbrev Inv-loop : tie.InvT-loop
-Inv-loop «record» level₀ is-lent is-met₀ k₀ level is-met k = length level ≡ length level₀
+Inv-loop «record» level₀ is-lent end is-met₀ k₀ level is-met k = length level ≡ length level₀
 
 abbrev μ-loop : tie.MeasureT-loop
-μ-loop «record» level₀ is-lent is-met₀ k₀ level is-met k = length level₀ - k
+μ-loop «record» level₀ is-lent end is-met₀ k₀ level is-met k = end - k
 
-element-copy-out-is-lent : tie.Need-element-copy-out-is-lent Inv-loop μ-loop
-element-copy-out-is-lent c = search needs
-
-element-copy-out-is-met : tie.Need-element-copy-out-is-met Inv-loop μ-loop
-element-copy-out-is-met c = search needs
+least-requires : tie.Need-least-requires Inv-loop μ-loop
+least-requires c κs = search needs
 
 loop-holds : tie.Need-loop-holds Inv-loop μ-loop
 loop-holds c = search needs
 
 add-signed : tie.Need-add-signed Inv-loop μ-loop
-add-signed c = search (needs, ltb-true (c .before .before .loop .k) 4100 (c .if1 .taken))
+add-signed c = search needs
 
 mul-signed : tie.Need-mul-signed Inv-loop μ-loop
-mul-signed c = search (needs, ltb-true (c .before .before .loop .k) 4100 (c .if1 .taken))
+mul-signed c = search needs
 
 element-copy-out-signed : tie.Need-element-copy-out-signed Inv-loop μ-loop
-element-copy-out-signed c = search (needs, ltb-true (c .before .before .loop .k) 4100 (c .if1 .taken))
+element-copy-out-signed c = search needs
 
 signed-requires : tie.Need-signed-requires Inv-loop μ-loop
 signed-requires c κs = search needs
@@ -64,20 +60,13 @@ same-length c = search needs
 returns : tie.Need-returns Inv-loop μ-loop
 returns c = search needs
 
-same-length-2 : tie.Need-same-length-2 Inv-loop μ-loop
-same-length-2 c = search needs
-
-returns-2 : tie.Need-returns-2 Inv-loop μ-loop
-returns-2 c = search needs
-
 pub on-level-spec : {M : Type 1} → statement M
 on-level-spec =
     tie.close
     (tie.spec
     Inv-loop
     μ-loop
-    element-copy-out-is-lent
-    element-copy-out-is-met
+    least-requires
     loop-holds
     add-signed
     mul-signed
@@ -92,6 +81,4 @@ on-level-spec =
     loop-less
     loop-again
     same-length
-    returns
-    same-length-2
-    returns-2)
+    returns)

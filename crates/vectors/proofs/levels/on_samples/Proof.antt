@@ -3,39 +3,32 @@ use mathlib.Core.Path.{_≡_}
 use Prim.Native.Nat.{_-_}
 use lib.ListN.{length}
 use borrow.Author.Needs.{needs}
-use borrow.Author.Tests.{ltb-true}
 use Rattle.vectors.proofs.levels.on_samples.Statement.{statement}
 use Rattle.vectors.proofs.levels.on_samples.Tie as tie
 
 abbrev Inv-loop : tie.InvT-loop
-Inv-loop «record» samples₀ is-lent is-met₀ k₀ samples is-met k = length samples ≡ length samples₀
+Inv-loop «record» samples₀ is-lent end is-met₀ k₀ samples is-met k = length samples ≡ length samples₀
 
 abbrev μ-loop : tie.MeasureT-loop
-μ-loop «record» samples₀ is-lent is-met₀ k₀ samples is-met k = length samples₀ - k
+μ-loop «record» samples₀ is-lent end is-met₀ k₀ samples is-met k = end - k
 
-element-copy-out-is-lent : tie.Need-element-copy-out-is-lent Inv-loop μ-loop
-element-copy-out-is-lent c = search needs
-
-element-copy-out-is-met : tie.Need-element-copy-out-is-met Inv-loop μ-loop
-element-copy-out-is-met c = search needs
+least-requires : tie.Need-least-requires Inv-loop μ-loop
+least-requires c κs = search needs
 
 loop-holds : tie.Need-loop-holds Inv-loop μ-loop
 loop-holds c = search needs
 
-add-signed : tie.Need-add-signed Inv-loop μ-loop
-add-signed c = search (needs, ltb-true (c .before .before .loop .k) 4100 (c .if1 .taken))
+add-sample : tie.Need-add-sample Inv-loop μ-loop
+add-sample c = search needs
 
-mul-signed : tie.Need-mul-signed Inv-loop μ-loop
-mul-signed c = search (needs, ltb-true (c .before .before .loop .k) 4100 (c .if1 .taken))
+mul-sample : tie.Need-mul-sample Inv-loop μ-loop
+mul-sample c = search needs
 
-element-copy-out-signed : tie.Need-element-copy-out-signed Inv-loop μ-loop
-element-copy-out-signed c = search (needs, ltb-true (c .before .before .loop .k) 4100 (c .if1 .taken))
+element-copy-out-sample : tie.Need-element-copy-out-sample Inv-loop μ-loop
+element-copy-out-sample c = search needs
 
-signed-requires : tie.Need-signed-requires Inv-loop μ-loop
-signed-requires c κs = search needs
-
-narrow-requires : tie.Need-narrow-requires Inv-loop μ-loop
-narrow-requires c κs = search needs
+sample-requires : tie.Need-sample-requires Inv-loop μ-loop
+sample-requires c κs = search needs
 
 mul-sample-of : tie.Need-mul-sample-of Inv-loop μ-loop
 mul-sample-of c = search needs
@@ -67,26 +60,18 @@ same-length c = search needs
 returns : tie.Need-returns Inv-loop μ-loop
 returns c = search needs
 
-same-length-2 : tie.Need-same-length-2 Inv-loop μ-loop
-same-length-2 c = search needs
-
-returns-2 : tie.Need-returns-2 Inv-loop μ-loop
-returns-2 c = search needs
-
 pub on-samples-spec : {M : Type 1} → statement M
 on-samples-spec =
     tie.close
     (tie.spec
     Inv-loop
     μ-loop
-    element-copy-out-is-lent
-    element-copy-out-is-met
+    least-requires
     loop-holds
-    add-signed
-    mul-signed
-    element-copy-out-signed
-    signed-requires
-    narrow-requires
+    add-sample
+    mul-sample
+    element-copy-out-sample
+    sample-requires
     mul-sample-of
     slice-copy-out-sample-of
     sample-of-requires
@@ -96,6 +81,4 @@ on-samples-spec =
     loop-less
     loop-again
     same-length
-    returns
-    same-length-2
-    returns-2)
+    returns)
