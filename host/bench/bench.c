@@ -10,7 +10,7 @@
 #include <time.h>
 
 /* A level has room to spare, so that point k of one does not lie a multiple of 4 KB from point k of another. */
-enum { ROOM = 4096 + 40, PLACES = 64, ROUNDS = 25, ENGINES = 4, CALLS_COUNTED = 20 };
+enum { ROOM = 4096 + 40, PLACES = 64, ROUNDS = 40, ENGINES = 4, CALLS_COUNTED = 20 };
 
 extern __typeof__(buvcsolta_block) gcc_block, clang_block, reciprocal_block;
 extern __typeof__(buvcsolta_pluck) gcc_pluck, clang_pluck;

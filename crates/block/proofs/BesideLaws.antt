@@ -1,30 +1,26 @@
 -- The neighbours that each loop reads are those of the neighbour rule, and L of L is L taken of the values of L.
 use mathlib.Core.Path.{_≡_, refl, sym, ap, _∙_, subst}
-use mathlib.Core.Bool.{Bool, true, cond}
+use mathlib.Core.Bool.{true}
 use mathlib.Core.List.{List, [], _∷_}
 use mathlib.Core.Logic.{_⊎_, inl, inr}
 use Prim.Native.Nat.{ℕ, _+_, _-_, _*_, _≤_, _<_, zero-le}
-use native.Mathlib.Nat as N
 use native.Mathlib.Decide.{ℕ-discrete}
 use native.Mathlib.Omega.{arith}
-use borrow.Author.Tests.{eq-eqb, ne-eqb}
-use lib.IntN.{ℤ, pos, natAbs, _+ℤ_, _-ℤ_, _*ℤ_, zero-*ℤ}
+use lib.IntN.{ℤ, pos, _+ℤ_, _-ℤ_, _*ℤ_, zero-*ℤ}
 use lib.ListN.{length}
 use Rattle.integers.specs.Sum.{sumOver}
 use Rattle.integers.proofs.Ring.{#_, _⊕_, _≈_, ring}
-use Rattle.bounded.proofs.Expr.{E, at, num, _⊞_, _⊟_, _⊠_, size}
+use Rattle.bounded.proofs.Expr.{E, at, _⊞_}
 use Rattle.scheme.specs.declared.Grid.{Grid}
 use Rattle.scheme.specs.declared.Instrument.{Instrument}
 use Rattle.scheme.specs.Lists.{point}
-use Rattle.scheme.specs.Instruments.{Kind, bar, ceiling, kind, points, moving}
-use Rattle.scheme.specs.Step.{neighbours, laplacian, innerLaplacian, biharmonic}
+use Rattle.scheme.specs.Instruments.{bar, ceiling, kind, points, moving}
+use Rattle.scheme.specs.Step.{neighbours, laplacian, biharmonic}
 use Rattle.scheme.specs.Passing.{InstrumentPasses}
 use Rattle.scheme.specs.Ranges.{AtMost}
-use Rattle.scheme.proofs.Laws.Kinds.{degree}
 use Rattle.scheme.proofs.Laws.Neighbours.{line-inner, line-first, line-last, grid-inner, grid-below}
-use Rattle.scheme.proofs.Laws.Ranges.{inner-size}
 use Rattle.block.specs.Plan.{Neighbouring}
-use Rattle.block.specs.Run.{Moves, OnLine, FreeEnd, LaplaciansOf, Bendable, bendingOf, clamp}
+use Rattle.block.specs.Run.{Moves, OnLine, FreeEnd, clamp}
 use Rattle.block.proofs.KindLaws.{Edge, line-long, wide, stiff, line-in, line-free, bar-inner, grid-soft, grid-free, grid-in}
 use Rattle.block.proofs.StretchLaws.{clamp-before, clamp-inside, clamp-after}
 
@@ -39,7 +35,7 @@ module _ (xs : List ℤ) (low : AtMost ceiling (point xs)) where
 
 -- ---- the sum over two and over four neighbours
 
-sum-two : (a : ℕ → ℤ) (j k : ℕ) → a j +ℤ a k ≡ sumOver (j ∷ k ∷ []) a
+pub sum-two : (a : ℕ → ℤ) (j k : ℕ) → a j +ℤ a k ≡ sumOver (j ∷ k ∷ []) a
 unfolding sumOver
 sum-two a j k = ring 2 (λ x y. x ⊕ y ≈ x ⊕ (y ⊕ # 0)) refl (a j) (a k)
 
@@ -56,9 +52,6 @@ two-laplacian g a k j l e =
 -- without stiffness L of L does not count
 soft-stiff : (m : ℕ) (b : ℤ) → m ≡ 0 → pos m *ℤ pos 0 ≡ pos m *ℤ b
 soft-stiff m b e = ap (λ (n : ℕ). pos n *ℤ pos 0) e ∙ sym (ap (λ (n : ℕ). pos n *ℤ b) e ∙ zero-*ℤ b)
-
-at-most-two : (K : Kind) → K ≡ bar → 2 * degree K * ceiling ≤ 4 * ceiling
-at-most-two K e = subst (λ (K : Kind). 2 * degree K * ceiling ≤ 4 * ceiling) (sym e) (omega arith)
 
 module _ (i : Instrument) (ok : InstrumentPasses i) where
   abbrev g : Grid
@@ -89,74 +82,13 @@ module _ (i : Instrument) (ok : InstrumentPasses i) where
 
   -- ---- a line
 
-  module _ {from to : ℕ} (on : OnLine g from to) (newer ls : List ℤ) (low : AtMost ceiling (point newer))
-      (has : (m ≡ 0) ⊎ LaplaciansOf g newer from to ls)
-      (k : ℕ) (first : from ≤ k) (last : k < to) where
-    beside-is : neighbours g k ≡ (k - 1) ∷ (k + 1) ∷ []
-    beside-is = line-inner g k (on .line) (omega (arith, on .last)) (omega (arith, on .first)) (omega (arith, on .last))
-
-    laplacians : (m ≡ 0 → ⊥) → LaplaciansOf g newer from to ls
-    laplacians n = go has
-      where
-        go : (m ≡ 0) ⊎ LaplaciansOf g newer from to ls → LaplaciansOf g newer from to ls
-        go (inl e) = absurd (n e)
-        go (inr e) = e
-
-    -- the value of L at place j of the list
-    place : (m ≡ 0 → ⊥) → (j : ℕ) → k - from ≤ j → j ≤ k - from + 2 → point ls j ≡ innerLaplacian g (point newer) (from + j - 1)
-    place n j a b =
-        let h = on .first in
-        ap (point ls) (omega arith) ∙ laplacians n .each (from + j - 1) (omega arith) (omega arith)
-
-    inner-low : (m ≡ 0 → ⊥) → AtMost (4 * ceiling) (innerLaplacian g (point newer))
-    inner-low n j = N.le-trans (inner-size g (ok .size) ceiling (point newer) low j) (at-most-two (kind g) (is-bar n))
-
-    pub bendable : Bendable m ls (k - from)
-    bendable = record {
-      inside = λ n. omega (arith, laplacians n .few);
-      low = λ n j a b. subst (λ (z : ℤ). natAbs z ≤ 4 * ceiling) (sym (place n j a b)) (inner-low n (from + j - 1));
-    }
-
-    -- L of L, where it counts
-    bends : (m ≡ 0 → ⊥) → bendingOf m ls (k - from) ≡ biharmonic g (point newer) k
-    bends n =
-        let h = on .first in
-        let l = innerLaplacian g (point newer) in
-        let before : point ls (k - from) ≡ l (k - 1) = place n (k - from) (omega arith) (omega arith) ∙ ap l (omega arith) in
-        let here : point ls (k - from + 1) ≡ l k = place n (k - from + 1) (omega arith) (omega arith) ∙ ap l (omega arith) in
-        let after : point ls (k - from + 2) ≡ l (k + 1) = place n (k - from + 2) (omega arith) (omega arith) ∙ ap l (omega arith) in
-        ap (λ (t : Bool). cond t (pos 0) (point ls (k - from) +ℤ point ls (k - from + 2) -ℤ pos 2 *ℤ point ls (k - from + 1)))
-        (ne-eqb m 0 n) ∙
-        (λ j. before j +ℤ after j -ℤ pos 2 *ℤ here j) ∙
-        sym (two-laplacian g l k (k - 1) (k + 1) beside-is)
-
-    bends-not : m ≡ 0 → bendingOf m ls (k - from) ≡ pos 0
-    bends-not e = ap (λ (t : Bool). cond t (pos 0) (point ls (k - from) +ℤ point ls (k - from + 2) -ℤ pos 2 *ℤ point ls (k - from + 1)))
-        (eq-eqb m 0 e)
-
-    bend-low : Dec (m ≡ 0) → natAbs (bendingOf m ls (k - from)) ≤ 64 * ceiling
-    bend-low (yes e) = subst (λ (z : ℤ). natAbs z ≤ 64 * ceiling) (sym (bends-not e)) zero-le
-    bend-low (no n) =
-        let value# : (j : ℕ) → k - from ≤ j → j ≤ k - from + 2 → E = λ j a b. at (point ls j) (4 * ceiling) (bendable .low n j a b) in
-        subst (λ (t : Bool). natAbs (cond t (pos 0) (point ls (k - from) +ℤ point ls (k - from + 2) -ℤ pos 2 *ℤ point ls (k - from + 1)))
-        ≤ 64 * ceiling)
-        (sym (ne-eqb m 0 n))
-        (N.le-trans (size (value# (k - from) (omega arith) (omega arith) ⊞ value# (k - from + 2) (omega arith) (omega arith) ⊟
-        num 2 ⊠ value# (k - from + 1) (omega arith) (omega arith)) tt) (omega arith))
-
-    bend-counts : Dec (m ≡ 0) → pos m *ℤ bendingOf m ls (k - from) ≡ pos m *ℤ biharmonic g (point newer) k
-    bend-counts (yes e) = ap (λ (z : ℤ). pos m *ℤ z) (bends-not e) ∙ soft-stiff m (biharmonic g (point newer) k) e
-    bend-counts (no n) = ap (λ (z : ℤ). pos m *ℤ z) (bends n)
-
-    -- an inner point: its two neighbours, and L of L
-    pub line-beside : Neighbouring i newer k (point newer (k - 1) +ℤ point newer (k + 1)) (pos 2) (bendingOf m ls (k - from))
-    line-beside = record {
-      inside = omega (arith, on .last, line-long g (on .line));
-      sum-is = sum-two (point newer) (k - 1) (k + 1) ∙ ap (λ (js : List ℕ). sumOver js (point newer)) (sym beside-is);
-      count-is = ap (λ (js : List ℕ). pos (length js)) (sym beside-is);
-      b-low = bend-low (ℕ-discrete m 0);
-      stiff = bend-counts (ℕ-discrete m 0);
-    }
+  -- an inner point, without stiffness
+  pub line-beside : {from to : ℕ} → OnLine g from to → m ≡ 0 → (newer : List ℤ) (k : ℕ) → from ≤ k → k < to
+      → Neighbouring i newer k (point newer (k - 1) +ℤ point newer (k + 1)) (pos 2) (pos 0)
+  line-beside on soft newer k first last =
+      soft-beside newer k _ _ (omega (arith, on .last, line-long g (on .line))) soft
+      (line-inner g k (on .line) (omega (arith, on .last)) (omega (arith, on .first)) (omega (arith, on .last)))
+      (sum-two (point newer) (k - 1) (k + 1))
 
   -- ---- its ends
 

@@ -2,9 +2,7 @@
 use mathlib.Core.Path.{_≡_, _∙_, subst}
 use mathlib.Core.Bool.{Bool, true, false}
 use mathlib.Core.List.{List}
-use mathlib.Core.Logic.{_⊎_, inl, inr}
 use Prim.Native.Nat.{ℕ, _+_, _-_, _≤_, _<_, zero-le}
-use native.Mathlib.Decide.{ℕ-discrete}
 use native.Mathlib.Omega.{arith}
 use lib.IntN.{ℤ}
 use lib.ListN.{length}
@@ -14,10 +12,10 @@ use Rattle.scheme.specs.Passing.{InstrumentPasses}
 use Rattle.block.specs.declared.plan.Plan.{Plan}
 use Rattle.block.specs.declared.stretch.Stretch.{Stretch}
 use Rattle.block.specs.Plan.{Ready}
-use Rattle.block.specs.Run.{Advanced, Moves, OnLine, FreeEnd, LaplaciansOf, clamp}
+use Rattle.block.specs.Run.{Advanced, Moves, OnLine, FreeEnd, clamp}
 use Rattle.block.proofs.FillLaws.{ran-append, ran-stops, ran-ends}
-use Rattle.block.proofs.KindLaws.{line-long, wide, bar-inner}
-use Rattle.block.proofs.BesideLaws.{is-bar, within-line, first-free, last-free}
+use Rattle.block.proofs.KindLaws.{line-long, wide}
+use Rattle.block.proofs.BesideLaws.{within-line, first-free, last-free}
 use Rattle.block.proofs.StretchLaws.{clamped, clamp-before, clamp-after, clamp-low, clamp-high, clamp-rises}
 
 module _ (s : Stretch) {p : Plan} {older newer : List ℤ} (r : Ready p (s .force) older newer) (line : p .instrument .grid .rows ≡ 1)
@@ -65,31 +63,6 @@ module _ (s : Stretch) {p : Plan} {older newer : List ℤ} (r : Ready p (s .forc
         (λ h l. omega (arith, n-is, three))
         (λ h. omega (arith, n-is, three));
   }
-
-  pub inner-moves : Moves g (clamp (s .from) (s .to) 1) (clamp (s .from) (s .to) (n - 1))
-  inner-moves = record {
-    order = clamp-rises (s .from) (s .to) order 1 (n - 1) (omega (arith, three));
-    each = λ k a b. all .each k (omega (arith, clamp-low (s .from) (s .to) order 1))
-        (omega (arith, clamp-high (s .from) (s .to) order (n - 1)));
-  }
-
-  -- where L of L counts, all points are inner ones
-  pub inner-has : {ls : List ℤ} → (i .settings .m ≡ 0) ⊎ LaplaciansOf g newer (s .from) (s .to) ls
-      → (i .settings .m ≡ 0) ⊎ LaplaciansOf g newer (clamp (s .from) (s .to) 1) (clamp (s .from) (s .to) (n - 1)) ls
-  inner-has (inl e) = inl e
-  inner-has {ls} (inr l) = go (ℕ-discrete (i .settings .m) 0)
-    where
-      go : Dec (i .settings .m ≡ 0) → (i .settings .m ≡ 0) ⊎ LaplaciansOf g newer (clamp (s .from) (s .to) 1)
-          (clamp (s .from) (s .to) (n - 1)) ls
-      go (yes e) = inl e
-      go (no d) =
-          let b = is-bar i ok d in
-          let first = bar-inner i ok line (s .from) (all .each (s .from) (omega arith) some) b in
-          let last = bar-inner i ok line (s .to - 1) (all .each (s .to - 1) (omega (arith, some)) (omega (arith, some))) b in
-          let e : clamp (s .from) (s .to) 1 ≡ s .from = clamp-before (s .from) (s .to) order 1 (first .0) in
-          let f : clamp (s .from) (s .to) (n - 1) ≡ s .to =
-          clamp-after (s .from) (s .to) order (n - 1) (omega (arith, last .1, n-is, some)) in
-          inr (coe 1 0 (j. LaplaciansOf g newer (e j) (f j) ls) l)
 
   -- ---- one part after the other
 

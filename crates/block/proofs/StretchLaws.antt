@@ -8,7 +8,6 @@ use native.Mathlib.Omega.{arith}
 use borrow.Author.Tests.{lt-ltb, le-ltb, eq-eqb, ne-eqb}
 use lib.Dec.{ltb}
 use lib.IntN.{ℤ, pos}
-use Rattle.scheme.specs.declared.Instrument.{Instrument}
 use Rattle.scheme.specs.declared.Hit.{Hit}
 use Rattle.scheme.specs.declared.Hit.the-variants.{Absent, At}
 use Rattle.scheme.specs.Step.{forceOf}
@@ -96,35 +95,25 @@ force-away p f k d = ap (λ (t : Bool). cond t f (pos 0)) (ne-eqb k p d)
 
 -- ---- where a stretch ends
 
-module _ {i : Instrument} {a e : ℕ} where
-  -- without a hit: at the end of the row where L of L does not count, else after 64 points
-  pub ends-row : a < e → i .settings .m ≡ 0 → Ends i Absent a e e
-  ends-row h soft = record { some = h; upto = omega arith; few = inl soft; one-force = λ k l m. refl }
-
-  pub ends-few : a < e → Ends i Absent a e (clamp a e (a + 64))
-  ends-few h = record {
-    some = clamped a e (omega arith) (λ r. a < r) (a + 64) (λ o. absurd (omega arith)) (λ o l. omega arith) (λ o. h);
-    upto = clamp-high a e (omega arith) (a + 64);
-    few = inr (clamped a e (omega arith) (λ r. r ≤ a + 64) (a + 64) (λ o. omega arith) (λ o l. omega arith) (λ o. o));
-    one-force = λ k l m. refl;
-  }
+module _ {a e : ℕ} (some : a < e) where
+  -- without a hit: at the end of the row
+  pub ends-row : Ends Absent a e e
+  ends-row = record { some = some; upto = omega arith; one-force = λ k l m. refl }
 
   -- the hit's point alone
-  pub ends-alone : (h : Hit) → a < e → Ends i h a e (a + 1)
-  ends-alone h l = record {
+  pub ends-alone : (h : Hit) → Ends h a e (a + 1)
+  ends-alone h = record {
     some = omega arith;
-    upto = omega arith;
-    few = inr (omega arith);
+    upto = omega (arith, some);
     one-force = λ k m n. let same : k ≡ a = omega arith in ap (forceOf h) same;
   }
 
-  module _ {r : ℕ} (q : Ends i Absent a e r) (p : ℕ) (f : ℤ) where
+  module _ (p : ℕ) (f : ℤ) where
     -- the hit is not in it
-    away : (s : ℕ) → a < s → s ≤ r → (p < a) ⊎ (s ≤ p) → Ends i (At p f) a e s
+    away : (s : ℕ) → a < s → s ≤ e → (p < a) ⊎ (s ≤ p) → Ends (At p f) a e s
     away s h l o = record {
       some = h;
-      upto = omega (arith, q .upto);
-      few = shorter (q .few);
+      upto = l;
       one-force = λ k m n. force-away p f k (off o k m n) ∙ sym (force-away p f a (off o a (omega arith) h));
     }
       where
@@ -132,17 +121,12 @@ module _ {i : Instrument} {a e : ℕ} where
         off (inl h) k l m d = omega arith
         off (inr h) k l m d = omega arith
 
-        shorter : (i .settings .m ≡ 0) ⊎ (r ≤ a + 64) → (i .settings .m ≡ 0) ⊎ (s ≤ a + 64)
-        shorter (inl z) = inl z
-        shorter (inr z) = inr (omega arith)
+    pub ends-away : p < a → Ends (At p f) a e e
+    ends-away h = away e some (omega arith) (inl h)
 
-    pub ends-away : p < a → Ends i (At p f) a e r
-    ends-away h = away r (q .some) (omega arith) (inl h)
-
-    pub ends-before : a < p → Ends i (At p f) a e (clamp a r p)
+    pub ends-before : a < p → Ends (At p f) a e (clamp a e p)
     ends-before h =
-        let some = q .some in
-        clamped a r (omega arith) (Ends i (At p f) a e) p
+        clamped a e (omega arith) (Ends (At p f) a e) p
         (λ o. absurd (omega arith))
         (λ o l. away p o (omega arith) (inr (omega arith)))
-        (λ o. away r some (omega arith) (inr o))
+        (λ o. away e some (omega arith) (inr o))

@@ -4,15 +4,15 @@ use mathlib.Core.Bool.{Bool, true, false, cond}
 use mathlib.Core.List.{List, [], _∷_}
 use mathlib.Core.Logic.{_⊎_}
 use Prim.Native.Nat.{ℕ, _+_, _-_, _*_, _≤_, _<_}
-use lib.Dec.{ltb, eqb}
-use lib.IntN.{ℤ, pos, natAbs, _+ℤ_, _-ℤ_, _*ℤ_}
+use lib.Dec.{ltb}
+use lib.IntN.{ℤ, pos, _+ℤ_, _-ℤ_, _*ℤ_}
 use lib.ListN.{length}
 use Rattle.scheme.specs.declared.Grid.{Grid}
 use Rattle.scheme.specs.declared.Instrument.{Instrument}
 use Rattle.scheme.specs.declared.Hit.{Hit}
 use Rattle.scheme.specs.Lists.{point}
-use Rattle.scheme.specs.Instruments.{ceiling, beyond, points, moving}
-use Rattle.scheme.specs.Step.{neighbours, innerLaplacian, numerator, roundAway, divisor, forceOf, nextAt}
+use Rattle.scheme.specs.Instruments.{beyond, points, atEdge, moving}
+use Rattle.scheme.specs.Step.{neighbours, numerator, roundAway, divisor, forceOf, nextAt}
 use Rattle.block.specs.declared.plan.Plan.{Plan}
 use Rattle.block.specs.declared.stretch.Stretch.{Stretch}
 
@@ -96,11 +96,10 @@ partOf s a e = record {
   write = s .write;
 }
 
--- where a stretch may end: one force on all its points, and no more than 64 of them where L of L counts
-pub record Ends (i : Instrument) (h : Hit) (a e r : ℕ) : Type 0 where
+-- where a stretch may end: one force on all its points
+pub record Ends (h : Hit) (a e r : ℕ) : Type 0 where
   pub some : a < r
   pub upto : r ≤ e
-  pub few : (i .settings .m ≡ 0) ⊎ (r ≤ a + 64)
   pub one-force : (k : ℕ) → a ≤ k → k < r → forceOf h k ≡ forceOf h a
 
 -- ---- stiffness, on a line
@@ -109,16 +108,6 @@ pub record Ends (i : Instrument) (h : Hit) (a e r : ℕ) : Type 0 where
 abbrev pub lineLaplacian : List ℤ → ℕ → ℤ
 lineLaplacian xs k = point xs (k - 1) +ℤ point xs (k + 1) -ℤ pos 2 *ℤ point xs k
 
--- L, 0 where nothing moves, of the points from − 1 .. to: that of point k at place k + 1 − from
-pub record LaplaciansOf (g : Grid) (xs : List ℤ) (from to : ℕ) (ls : List ℤ) : Type 0 where
-  pub few : to ≤ from + 64
-  pub each : (k : ℕ) → from ≤ k + 1 → k ≤ to → point ls (k + 1 - from) ≡ innerLaplacian g (point xs) k
-
--- L of L at the point whose value of L stands at place k + 1; 0 where it does not count
-abbrev pub bendingOf : (m : ℕ) → List ℤ → ℕ → ℤ
-bendingOf m ls k = cond (eqb m 0) (pos 0) (point ls k +ℤ point ls (k + 2) -ℤ pos 2 *ℤ point ls (k + 1))
-
--- where it counts, the three places are there, and their values small
-pub record Bendable (m : ℕ) (ls : List ℤ) (k : ℕ) : Type 0 where
-  pub inside : (m ≡ 0 → ⊥) → k + 2 < 66
-  pub low : (m ≡ 0 → ⊥) → (j : ℕ) → k ≤ j → j ≤ k + 2 → natAbs (point ls j) ≤ 4 * ceiling
+-- L of a bar, 0 at its supported ends
+abbrev pub barLaplacian : List ℤ → ℕ → ℤ
+barLaplacian xs k = cond (atEdge (length xs) k) (pos 0) (lineLaplacian xs k)

@@ -8,7 +8,6 @@ ghost use Rattle.block.specs.Plan.{Ready};
 ghost use Rattle.block.specs.Run.{Stepping, Placed, Moves};
 ghost use Rattle.block.specs.Edges.{EdgesOf};
 ghost use Rattle.block.specs.Roles.{Steppable, Stepped};
-use crate::bending::laplacians_for;
 use crate::plan::Plan;
 use crate::points::points_run;
 use crate::stretch::Stretch;
@@ -21,7 +20,6 @@ fn row_run(
     plan: Plan,
     older: &[i64],
     newer: &[i64],
-    laplacians: &mut [i64; 66],
     row: Stretch,
     hit: Hit,
     out: &mut [i64],
@@ -33,8 +31,7 @@ fn row_run(
 {
     let mut at = row.from;
     while at < row.to {
-        let end = stretch_end(plan, hit, at, row.to);
-        laplacians_for(plan, newer, at, end, laplacians);
+        let end = stretch_end(hit, at, row.to);
         let s = Stretch {
             from: at,
             to: end,
@@ -42,7 +39,7 @@ fn row_run(
             base: row.base,
             write: row.write,
         };
-        if !points_run(plan, older, newer, laplacians, s, out) {
+        if !points_run(plan, older, newer, s, out) {
             return false;
         }
         at = end;
@@ -55,7 +52,6 @@ pub(crate) fn level_run(
     plan: Plan,
     from: &[usize; 64],
     to: &[usize; 64],
-    laplacians: &mut [i64; 66],
     older: &[i64],
     newer: &[i64],
     out: &mut [i64],
@@ -77,7 +73,7 @@ pub(crate) fn level_run(
             base: 0,
             write: true,
         };
-        if !row_run(plan, older, newer, laplacians, moving, hit, out) {
+        if !row_run(plan, older, newer, moving, hit, out) {
             return false;
         }
         row += 1;

@@ -52,22 +52,11 @@ pub(crate) fn play(
         (length (now (samples .entry))) (r .done) (olderOf (r .phase) (now (older .exit)) (now (newer .exit)) (now (work .exit)))
         (newerOf (r .phase) (now (older .exit)) (now (newer .exit)) (now (work .exit))) (now (samples .exit)) ⌝ }
 {
-    let mut laplacians = [0; 66];
     let mut phase = 0;
     let mut j = 0;
     while j < samples.len() {
         let h = hit_of(hit, j);
-        if !step_in_roles(
-            plan,
-            from,
-            to,
-            &mut laplacians,
-            older,
-            newer,
-            work,
-            h,
-            phase,
-        ) {
+        if !step_in_roles(plan, from, to, older, newer, work, h, phase) {
             return Steps { done: j, phase };
         }
         let v = sample_in_roles(older, newer, work, pick, phase);

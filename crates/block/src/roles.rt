@@ -20,7 +20,6 @@ pub(crate) fn step_in_roles(
     plan: Plan,
     from: &[usize; 64],
     to: &[usize; 64],
-    laplacians: &mut [i64; 66],
     older: &mut [i64],
     newer: &mut [i64],
     work: &mut [i64],
@@ -34,9 +33,9 @@ pub(crate) fn step_in_roles(
         (now (older .exit)) (now (newer .exit)) (now (work .exit)) r ⌝ }
 {
     match phase {
-        0 => level_run(plan, from, to, laplacians, older, newer, work, hit),
-        1 => level_run(plan, from, to, laplacians, newer, work, older, hit),
-        _ => level_run(plan, from, to, laplacians, work, older, newer, hit),
+        0 => level_run(plan, from, to, older, newer, work, hit),
+        1 => level_run(plan, from, to, newer, work, older, hit),
+        _ => level_run(plan, from, to, work, older, newer, hit),
     }
 }
 

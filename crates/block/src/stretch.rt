@@ -3,12 +3,10 @@ ghost use mathlib.Core.Path.{_≡_};
 ghost use mathlib.Core.Bool.{false};
 ghost use Prim.Native.Nat.{_≤_, _<_};
 ghost use lib.IntN.{natAbs};
-ghost use Rattle.scheme.specs.Instruments.{ceiling, points};
+ghost use Rattle.scheme.specs.Instruments.{ceiling};
 ghost use Rattle.scheme.specs.Step.{forceOf};
 ghost use Rattle.scheme.specs.Refusals.{tooStrong};
-ghost use Rattle.block.specs.Plan.{Planned};
 ghost use Rattle.block.specs.Run.{clamp, partOf, Ends};
-use crate::plan::Plan;
 use scheme::Hit;
 
 // The points from..to, and the force on each. The next value of point k goes to place k − base, if it is written.
@@ -55,25 +53,19 @@ pub(crate) fn force_at(hit: Hit, at: usize) -> i64
     if at == point { force } else { 0 }
 }
 
-// The end of the stretch at a, of points as far as e:
-// the hit's point is a stretch of its own, and where L of L counts none has more than 64 points.
-pub(crate) fn stretch_end(plan: Plan, hit: Hit, a: usize, e: usize) -> usize
-    requires { ⌜ Planned plan × (a < e) × (e ≤ points (plan .instrument .grid)) ⌝ }
-    ensures { λ r. ⌜ Ends (plan .instrument) hit a e r ⌝ }
+// The end of the stretch at a, of points as far as e: the hit's point is a stretch of its own.
+pub(crate) fn stretch_end(hit: Hit, a: usize, e: usize) -> usize
+    requires { ⌜ a < e ⌝ }
+    ensures { λ r. ⌜ Ends hit a e r ⌝ }
 {
-    let end = if plan.m == 0 {
-        e
-    } else {
-        clamped(a, e, a + 64)
-    };
     let Hit::At { point, force: _ } = hit else {
-        return end;
+        return e;
     };
     if point < a {
-        return end;
+        return e;
     }
     if point == a {
         return a + 1;
     }
-    clamped(a, end, point)
+    clamped(a, e, point)
 }

@@ -1,4 +1,5 @@
--- What the checks promise, beside the definitions of the crate scheme. Vocabulary between the engine's crates: no call that a maker embeds cites it.
+-- What the checks promise, beside the definitions of the crate scheme.
+-- Vocabulary between the engine's crates: no call that a maker embeds cites it.
 use mathlib.Core.Bool.{Bool, not, _||_, cond}
 use mathlib.Core.List.{List}
 use Prim.Native.Nat.{ℕ}

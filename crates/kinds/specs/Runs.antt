@@ -1,4 +1,5 @@
--- The moving columns of a row, as a run from one column to another. Vocabulary between the engine's crates: no call that a maker embeds cites it.
+-- The moving columns of a row, as a run from one column to another.
+-- Vocabulary between the engine's crates: no call that a maker embeds cites it.
 use mathlib.Core.Bool.{Bool, not, _&&_, cond}
 use Prim.Native.Nat.{ℕ, _+_, _-_}
 use lib.Dec.{leb, ltb, eqb}

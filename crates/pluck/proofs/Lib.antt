@@ -1,1 +1,3 @@
+pub mod PlaceLaws
 pub mod ShapeLaws
+pub mod CallLaws

@@ -1,41 +1,25 @@
 -- Laws of the shape of a pluck.
-use mathlib.Core.Path.{_≡_, sym, ap, ap₂, _∙_}
-use mathlib.Core.Bool.{Bool, _&&_, _||_, cond, and-false}
+use mathlib.Core.Path.{_≡_, refl, sym, ap, _∙_}
+use mathlib.Core.Bool.{Bool, true, false, true≢false, _&&_, cond, and-false}
 use mathlib.Core.List.{List}
-use Prim.Native.Nat.{ℕ, _+_, _-_, _*_, _/_, _≤_, _<_}
-use native.Mathlib.Nat.{mul-one, zero-mul, zero-add, lt-of-le-of-lt, mul-le-mul, sub-le, div-lt-iff-lt-mul}
+use Prim.Native.Nat.{ℕ, _+_, _-_, _≤_, _<_}
 use native.Mathlib.Omega.{arith}
 use borrow.Author.Count.{below-none, below-more}
-use borrow.Author.Tests.{ltb-false, lt-ltb, le-ltb, le-leb, lt-leb, not-false}
-use lib.Dec.{leb}
-use lib.IntN.{ℤ, pos, natAbs}
+use borrow.Author.Tests.{ltb-true, leb-true, leb-false, lt-ltb, le-ltb, le-leb, lt-leb}
+use lib.Dec.{leb, ltb}
+use lib.IntN.{ℤ, pos}
 use lib.ListN.{length, set, length-set}
 use lib.Seq.{getD-set-same, getD-set-other}
-use Rattle.scheme.specs.declared.Grid.{Grid}
-use Rattle.scheme.specs.Lists.{tabulate}
-use Rattle.scheme.specs.Instruments.{ceiling, points, moving}
-use Rattle.scheme.specs.Pluck.{distanceFrom, pluckValue, pluckAt, pluckLevel}
-use Rattle.scheme.specs.Refusals.{lastPlucked, wrongLength, lowest, pluckChecks, pluckRefusal}
-use Rattle.scheme.specs.declared.Refusal.the-variants.{Nothing}
-use Rattle.scheme.specs.Passing.{PluckPasses}
-use Rattle.scheme.proofs.Laws.Bools.{and-both, and-yes, and-no}
-use Rattle.scheme.proofs.Laws.Kinds.{within-is}
-use Rattle.scheme.proofs.Laws.Lists.{length-tabulate, getD-tabulate, is-tabulate}
-use Rattle.scheme.proofs.Laws.Refusals.{pluck-passes}
-use Rattle.kinds.specs.declared.runs.Run.{Run}
-use Rattle.kinds.specs.Runs.{inRun, runOf}
-use Rattle.kinds.proofs.KindLaws.{line-size}
-use Rattle.kinds.proofs.RunLaws.{moving-run}
-use Rattle.checks.specs.Refused.{notLong}
-use Rattle.checks.proofs.RefusalLaws.{long-is, pluck-same}
+use Rattle.scheme.specs.Lists.{tabulate, point}
+use Rattle.scheme.specs.Pluck.{distanceFrom, pluckValue}
+use Rattle.scheme.proofs.Laws.Bools.{cases, and-yes, and-no}
+use Rattle.scheme.proofs.Laws.Lists.{is-tabulate, point-tabulate}
+use Rattle.kinds.specs.Runs.{inRun, apart}
+use Rattle.kinds.proofs.RoundLaws.{gap}
 use Rattle.pluck.specs.declared.shape.Shape.{Shape}
-use Rattle.pluck.specs.Shapes.{Shaped, shapeAt, Filled}
+use Rattle.pluck.specs.Shapes.{Shaped, shapeAt, putAt, putLeft, putBoth, Filled, Raised}
 
 -- ---- a point
-
--- the entry that is looked up is there: m is 1024
-pub index-inside : (m w d : ℕ) → m ≤ 1024 → 1 ≤ w → m * (w - d) / w < 1025
-index-inside m w d l h = div-lt-iff-lt-mul h .1 (lt-of-le-of-lt (mul-le-mul l (sub-le w d)) (omega arith))
 
 module _ (table : List ℕ) (s : Shape) (i : ℕ) where
   abbrev away : ℕ
@@ -48,25 +32,25 @@ module _ (table : List ℕ) (s : Shape) (i : ℕ) where
   unfolding shapeAt
   at e = ap (λ (t : Bool). cond t value (pos 0)) e
 
-  pub before-run : i < s .run .from → pos 0 ≡ shapeAt table s i
+  before-run : i < s .run .from → pos 0 ≡ shapeAt table s i
   before-run h = sym (at (and-no _ (and-no _ (lt-leb (s .run .from) i h))))
 
-  pub after-run : s .run .to ≤ i → pos 0 ≡ shapeAt table s i
+  after-run : s .run .to ≤ i → pos 0 ≡ shapeAt table s i
   after-run h =
       let out = ap (λ (t : Bool). leb (s .run .from) i && t) (le-ltb i (s .run .to) h) ∙ and-false (leb (s .run .from) i) in
       sym (at (and-no _ out))
 
-  pub beyond-width : s .width < away → pos 0 ≡ shapeAt table s i
+  beyond-width : s .width < away → pos 0 ≡ shapeAt table s i
   beyond-width h =
       let out = ap (λ (t : Bool). inRun (s .run) i && t) (lt-leb away (s .width) h) ∙ and-false (inRun (s .run) i) in
       sym (at out)
 
-  pub in-shape : s .run .from ≤ i → i < s .run .to → away ≤ s .width → value ≡ shapeAt table s i
+  in-shape : s .run .from ≤ i → i < s .run .to → away ≤ s .width → value ≡ shapeAt table s i
   in-shape a b d =
       let inside = and-yes (le-leb (s .run .from) i a) ∙ lt-ltb i (s .run .to) b in
       sym (at (and-yes inside ∙ le-leb away (s .width) d))
 
--- ---- a level
+-- ---- a level, point by point
 
 module _ (n : ℕ) (f : ℕ → ℤ) where
   pub filled-none : {xs : List ℤ} → length xs ≡ n → Filled n f xs 0
@@ -82,66 +66,116 @@ module _ (n : ℕ) (f : ℕ → ℤ) where
   pub filled-all : {xs : List ℤ} {k : ℕ} → n ≤ k → Filled n f xs k → xs ≡ tabulate n f
   filled-all {xs} h m = is-tabulate n f (pos 0) xs (m .long) (λ i p. m .each i (omega arith))
 
--- ---- what refuses a pluck, by the lengths as the code tests them
+-- as long as another, and the same at each point
+pub copied : (n : ℕ) (xs : List ℤ) {ys : List ℤ} {k : ℕ} → length xs ≡ n → n ≤ k → Filled n (point xs) ys k → ys ≡ xs
+copied n xs l h m = filled-all n (point xs) h m ∙ sym (is-tabulate n (point xs) (pos 0) xs l (λ i p. refl))
 
-pub refusal-is : (g : Grid) (older newer c w : ℕ) (a : ℤ)
-    → lowest (pluckChecks g (notLong g older || notLong g newer) c w a) ≡ pluckRefusal g older newer c w a
-unfolding pluckRefusal
-refusal-is g older newer c w a =
-    pluck-same g (notLong g older || notLong g newer) (wrongLength g older || wrongLength g newer) c w a
-    (λ size. ap₂ _||_ (long-is g older size) (long-is g newer size))
+-- ---- a level, distance by distance
 
--- ---- a pluck that nothing refuses
+pub put-yes : (t : Bool) (j : ℕ) (v : ℤ) (xs : List ℤ) → t ≡ true → set xs j v ≡ putAt t j v xs
+unfolding putAt
+put-yes t j v xs e = ap (λ (b : Bool). cond b (set xs j v) xs) (sym e)
 
-abbrev pub shapeOf : Grid → ℕ → ℕ → ℤ → Shape
-shapeOf g c w a = record { run = runOf g 0; centre = c; width = w; height = a }
+pub put-no : (t : Bool) (j : ℕ) (v : ℤ) (xs : List ℤ) → t ≡ false → xs ≡ putAt t j v xs
+unfolding putAt
+put-no t j v xs e = ap (λ (b : Bool). cond b (set xs j v) xs) (sym e)
 
-module _ (g : Grid) (older newer c w : ℕ) (a : ℤ) (none : pluckRefusal g older newer c w a ≡ Nothing) where
-  passes : PluckPasses g older newer c w a
-  passes = pluck-passes g older newer c w a none
+pub length-put : (t : Bool) (j : ℕ) (v : ℤ) (xs : List ℤ) → length (putAt t j v xs) ≡ length xs
+unfolding putAt
+length-put true j v xs = length-set xs j v
+length-put false j v xs = refl
 
-  -- plucked kinds are lines
-  of-line : (g .columns ≤ 1024) × (g .rows ≡ 1)
-  of-line =
-      let k = within-is 1 lastPlucked (g .kind) (passes .kind-in) in
-      let p = and-both _ _ (sym (line-size (g .columns) (g .rows) (g .kind) (k .0) (k .1)) ∙ passes .size) in
-      let r = within-is 1 1 (g .rows) (p .1) in
-      (within-is 3 1024 (g .columns) (p .0) .1, omega arith)
+-- a point that is not the one put
+put-other : (t : Bool) (j : ℕ) (v : ℤ) (xs : List ℤ) (i : ℕ) → (t ≡ true → i ≡ j → ⊥) → point (putAt t j v xs) i ≡ point xs i
+unfolding putAt
+put-other true j v xs i h = getD-set-other xs j i v (pos 0) (h refl)
+put-other false j v xs i h = refl
 
-  -- whatever the points and the centre
-  pub shaped : (r : Run) (k : ℕ) → Shaped (record { run = r; centre = k; width = w; height = a })
-  shaped r k =
-      let b = within-is 1 (g .columns - 1) w (not-false _ (passes .width-in)) in
-      record {
-        some = b .0;
-        narrow = omega (arith, b .1, of-line .0);
-        low = ltb-false ceiling (natAbs a) (passes .height-low);
-      }
+put-here : (t : Bool) (j : ℕ) (v : ℤ) (xs : List ℤ) (i : ℕ) → i ≡ j → t ≡ true → i < length xs → point (putAt t j v xs) i ≡ v
+unfolding putAt
+put-here true j v xs i e h l = ap (point (set xs j v)) e ∙ getD-set-same xs j v (pos 0) (omega arith)
+put-here false j v xs i e h l = absurd (true≢false (sym h))
 
-  -- the moving points of a line are one run
-  moving-is : (i : ℕ) → i < points g → inRun (runOf g 0) i ≡ moving g i
-  moving-is i h =
-      let p : points g ≡ g .columns = ap (λ (r : ℕ). g .columns * r) (of-line .1) ∙ mul-one (g .columns) in
-      let first = ap (λ (k : ℕ). k + i) (zero-mul (g .columns)) ∙ zero-add i in
-      sym (moving-run g 0 i (passes .size) (omega (arith, of-line .1)) (omega (arith, p))) ∙ ap (moving g) first
+-- one of the two
+either : {A : Type 0} (a b : ℕ) → (a ≤ b → A) → (b < a → A) → A
+either {A} a b y n = cases (λ t. A) (leb a b) (λ q. y (leb-true a b q)) (λ q. n (leb-false a b q))
 
-  module _ (table : List ℕ) where
-    shape-is : (i : ℕ) → i < points g → shapeAt table (shapeOf g c w a) i ≡ pluckAt table g c w a i
-    unfolding shapeAt pluckAt
-    shape-is i h =
-        let d = distanceFrom c i in
-        ap (λ (t : Bool). cond (t && leb d w) (pluckValue table w a d) (pos 0)) (moving-is i h)
+module _ (table : List ℕ) (s : Shape) (shaped : Shaped s) (n : ℕ) where
+  abbrev Rising : List ℤ → ℕ → Type 0
+  Rising xs k = Raised n (s .centre) (shapeAt table s) xs k
 
-    -- a level of the grid with the shape
-    level-is : (n : ℕ) → n ≡ points g → tabulate n (shapeAt table (shapeOf g c w a)) ≡ pluckLevel table g c w a
-    unfolding pluckLevel
-    level-is n l =
-        let shape = shapeAt table (shapeOf g c w a) in
-        is-tabulate (points g) (pluckAt table g c w a) (pos 0) (tabulate n shape) (length-tabulate n shape ∙ l)
-        (λ i h. getD-tabulate n shape i (pos 0) (omega arith) ∙ shape-is i h)
+  pub raised-none : {xs : List ℤ} (m : ℕ) → length xs ≡ n → xs ≡ tabulate m (λ i. pos 0) → Rising xs 0
+  raised-none {xs} m l e = record {
+    long = l;
+    near = λ i l h. absurd (omega arith);
+    far = λ i h. ap (λ (ys : List ℤ). point ys i) e ∙ point-tabulate (λ z. z ≡ pos 0) m (λ i. pos 0) i (λ l. refl) refl;
+  }
 
-    pub older-is : tabulate older (shapeAt table (shapeOf g c w a)) ≡ pluckLevel table g c w a
-    older-is = level-is older (passes .older-long)
+  pub raised-all : {xs : List ℤ} {k : ℕ} → s .width < k → Rising xs k → xs ≡ tabulate n (shapeAt table s)
+  raised-all {xs} {k} h m = is-tabulate n (shapeAt table s) (pos 0) xs (m .long)
+      (λ i l. either k (distanceFrom (s .centre) i) (λ p. m .far i p ∙ beyond-width table s i (omega arith)) (λ p. m .near i l p))
 
-    pub newer-is : tabulate newer (shapeAt table (shapeOf g c w a)) ≡ pluckLevel table g c w a
-    newer-is = level-is newer (passes .newer-long)
+  -- both points at distance k
+  module _ (xs : List ℤ) (k : ℕ) (v : ℤ) (m : Rising xs k) where
+    abbrev c : ℕ
+    c = s .centre
+
+    abbrev on-left : ℕ
+    on-left = c - s .run .from
+
+    abbrev on-right : ℕ
+    on-right = s .run .to - c
+
+    abbrev left : List ℤ
+    left = putLeft s k v xs
+
+    abbrev both : List ℤ
+    both = putBoth s k v xs
+
+    same : (i : ℕ) → (leb k on-left ≡ true → i ≡ c - k → ⊥) → (ltb k on-right ≡ true → i ≡ c + k → ⊥) → point both i ≡ point xs i
+    same i a b = put-other (ltb k on-right) (c + k) v left i b ∙ put-other (leb k on-left) (c - k) v xs i a
+
+    -- a point at another distance
+    other : (i : ℕ) → (distanceFrom c i ≡ k → ⊥) → point both i ≡ point xs i
+    other i h = same i (λ t e. h (gap i c ∙ omega (arith, leb-true k on-left t))) (λ t e. h (gap i c ∙ omega arith))
+
+    module _ (i : ℕ) (in-level : i < n) (e : distanceFrom c i ≡ k) where
+      apart-is : apart i c ≡ k
+      apart-is = sym (gap i c) ∙ e
+
+      -- one that does not move
+      out : (s .run .from ≤ i → s .run .to ≤ i) → point both i ≡ pos 0
+      out h =
+          let starts = shaped .starts in
+          let ends = shaped .ends in
+          same i
+          (λ t q. let l = leb-true k on-left t in let p : s .run .from ≤ i = omega arith in omega (arith, h p))
+          (λ t q. let l = ltb-true k on-right t in let p : s .run .from ≤ i = omega arith in omega (arith, h p)) ∙
+          m .far i (omega arith)
+
+      -- one that moves
+      put-in : s .run .from ≤ i → i < s .run .to → point both i ≡ v
+      put-in a b =
+          let d = apart-is in
+          let l = m .long in
+          let before : c ≤ i → point both i ≡ v = λ p. put-here (ltb k on-right) (c + k) v left i (omega arith)
+          (lt-ltb k on-right (omega arith)) (omega (arith, length-put (leb k on-left) (c - k) v xs)) in
+          let after : i < c → point both i ≡ v = λ p. put-other (ltb k on-right) (c + k) v left i (λ t q. omega arith) ∙
+          put-here (leb k on-left) (c - k) v xs i (omega arith) (le-leb k on-left (omega arith)) (omega arith) in
+          either c i before after
+
+      at-distance : k ≤ s .width → v ≡ pluckValue table (s .width) (s .height) k → point both i ≡ shapeAt table s i
+      at-distance w g =
+          let v-is = g ∙ ap (λ (d : ℕ). pluckValue table (s .width) (s .height) d) (sym e) in
+          either (s .run .from) i
+          (λ a. either (s .run .to) i (λ b. out (λ p. b) ∙ after-run table s i b)
+          (λ b. put-in a b ∙ v-is ∙ in-shape table s i a b (omega (arith, e))))
+          (λ a. out (λ p. absurd (omega arith)) ∙ before-run table s i a)
+
+    pub raised-more : k ≤ s .width → v ≡ pluckValue table (s .width) (s .height) k → Rising both (k + 1)
+    raised-more w g = record {
+      long = length-put (ltb k on-right) (c + k) v left ∙ length-put (leb k on-left) (c - k) v xs ∙ m .long;
+      near = λ i l h. either k (distanceFrom c i) (λ p. at-distance i l (omega arith) w g)
+          (λ p. other i (λ q. omega arith) ∙ m .near i l p);
+      far = λ i h. other i (λ q. omega arith) ∙ m .far i (omega arith);
+    }

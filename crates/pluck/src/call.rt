@@ -45,6 +45,18 @@ fn refusal_of(
     pluck_refusal(g, wrong, centre, half_width, height)
 }
 
+// Copies a level to another of its length.
+fn copy(from: &[i64], to: &mut [i64])
+    requires { ⌜ length (now from) ≡ length (now to) ⌝ }
+    ensures { λ _. ⌜ now (to .exit) ≡ now (from .entry) ⌝ }
+{
+    let mut point = 0;
+    while point < to.len() {
+        to[point] = from[point];
+        point += 1;
+    }
+}
+
 // A pluck that nothing refuses, by any table that keeps the rule of a shape.
 fn carry_out(
     g: Grid,
@@ -67,7 +79,7 @@ fn carry_out(
         height,
     };
     fill(shape, table, older);
-    fill(shape, table, newer);
+    copy(older, newer);
 }
 
 // Both levels overwritten with the shape of the pluck; or what refuses it, and both as they were.

@@ -1,12 +1,16 @@
 // The shape of a pluck: what its rule gives at each point of a line, by any table that keeps the rule of a shape.
 ghost use mathlib.Core.Path.{_≡_};
 ghost use Prim.Native.Nat.{_≤_};
+ghost use lib.IntN.{pos};
 ghost use lib.ListN.{length};
 ghost use Rattle.scheme.specs.Lists.{tabulate};
 ghost use Rattle.scheme.specs.Table.{ShapeRule};
-ghost use Rattle.scheme.specs.Pluck.{distanceFrom, pluckValue};
-ghost use Rattle.pluck.specs.Shapes.{Shaped, shapeAt};
+ghost use Rattle.scheme.specs.Pluck.{pluckValue};
+ghost use Rattle.pluck.specs.Shapes.{Shaped, stepOf, putBoth, shapeAt};
 use kinds::Run;
+
+// A place in the table is counted in parts of an entry.
+const PARTS: usize = 4294967296;
 
 // The moving points of a line, and a pluck's centre, half width and height.
 pub(crate) struct Shape {
@@ -16,53 +20,59 @@ pub(crate) struct Shape {
     pub height: i64,
 }
 
-fn distance(centre: usize, point: usize) -> usize
-    ensures { λ r. ⌜ r ≡ distanceFrom centre point ⌝ }
+// From the place of one distance to that of the next: 1024/width entries, rounded up.
+fn step_of(width: usize) -> usize
+    requires { ⌜ 1 ≤ width ⌝ }
+    ensures { λ r. ⌜ r ≡ stepOf width ⌝ }
 {
-    if point < centre {
-        centre - point
-    } else {
-        point - centre
-    }
+    1024 * (PARTS / width + 1)
 }
 
-// A moving point at distance d.
-fn value(shape: Shape, table: &[u32], d: usize) -> i64
-    requires { ⌜ Shaped shape × ShapeRule (now table) × (d ≤ shape .width) ⌝ }
+// A moving point at distance d: its place is width − d steps from the first entry.
+fn value(shape: Shape, table: &[u32], step: usize, d: usize) -> i64
+    requires { ⌜ Shaped shape × ShapeRule (now table) × (step ≡ stepOf (shape .width)) × (d ≤ shape .width) ⌝ }
     ensures { λ r. ⌜ r ≡ pluckValue (now (table .entry)) (shape .width) (shape .height) d ⌝ }
 {
-    let j = 1024 * (shape.width - d) / shape.width;
+    let j = (shape.width - d) * step / PARTS;
     let t = table[j] as i64;
     shape.height * t / 65536
 }
 
-// A point of the line: 0 where it does not move, or is not within the half width.
-fn value_at(shape: Shape, table: &[u32], point: usize) -> i64
-    requires { ⌜ Shaped shape × ShapeRule (now table) ⌝ }
-    ensures { λ r. ⌜ r ≡ shapeAt (now (table .entry)) shape point ⌝ }
-{
-    if point < shape.run.from {
-        return 0;
-    }
-    if shape.run.to <= point {
-        return 0;
-    }
-    let d = distance(shape.centre, point);
-    if shape.width < d {
-        0
-    } else {
-        value(shape, table, d)
-    }
-}
-
-// A level of the line, overwritten.
-pub(crate) fn fill(shape: Shape, table: &[u32], level: &mut [i64])
-    requires { ⌜ Shaped shape × ShapeRule (now table) ⌝ }
-    ensures { λ _. ⌜ now (level .exit) ≡ tabulate (length (now (level .entry))) (shapeAt (now (table .entry)) shape) ⌝ }
+// Puts 0 everywhere.
+fn clear(level: &mut [i64])
+    ensures { λ _. ⌜ now (level .exit) ≡ tabulate (length (now (level .entry))) (λ i. pos 0) ⌝ }
 {
     let mut point = 0;
     while point < level.len() {
-        level[point] = value_at(shape, table, point);
+        level[point] = 0;
         point += 1;
+    }
+}
+
+// The two points at distance d, where they move.
+fn put(shape: Shape, d: usize, v: i64, level: &mut [i64])
+    requires { ⌜ Shaped shape × (shape .run .to ≤ length (now level)) ⌝ }
+    ensures { λ _. ⌜ now (level .exit) ≡ putBoth shape d v (now (level .entry)) ⌝ }
+{
+    if d <= shape.centre - shape.run.from {
+        level[shape.centre - d] = v;
+    }
+    if d < shape.run.to - shape.centre {
+        level[shape.centre + d] = v;
+    }
+}
+
+// A level of the line, overwritten: each distance is worked out once.
+pub(crate) fn fill(shape: Shape, table: &[u32], level: &mut [i64])
+    requires { ⌜ Shaped shape × ShapeRule (now table) × (shape .run .to ≤ length (now level)) ⌝ }
+    ensures { λ _. ⌜ now (level .exit) ≡ tabulate (length (now (level .entry))) (shapeAt (now (table .entry)) shape) ⌝ }
+{
+    clear(level);
+    let step = step_of(shape.width);
+    let mut d = 0;
+    while d <= shape.width {
+        let v = value(shape, table, step, d);
+        put(shape, d, v, level);
+        d += 1;
     }
 }

@@ -1,219 +1,130 @@
 // The engine's calls with a record's arguments, and whether they answer what the record expects.
-ghost use Prim.Native.Nat.{_≤_};
-ghost use lib.ListN.{length};
-ghost use Rattle.vectors.specs.Lent.{Within, Room};
 use crate::floats::bits_of;
 use crate::floats::float_of;
-use crate::levels::Lent;
-use crate::levels::holds;
-use crate::levels::lend;
+use crate::levels::on_buffer;
+use crate::records::MOST;
+use crate::records::signed;
 use engine::BlockAnswer;
 use engine::Grid;
 use engine::Hit;
 use engine::Instrument;
-use engine::Loss;
-use engine::Settings;
 use engine::Sheet;
-use engine::Speed;
+use engine::SheetAnswer;
 use engine::block;
 use engine::pluck;
 use engine::reading;
 use engine::settings_for;
+use packing::hit_of;
+use packing::instrument_of;
+use packing::sheet_of;
 
-// The lengths lent after a record, and whether what it expects was met.
-pub struct After {
-    pub lent: Lent,
-    pub is_met: bool,
+fn grid_of(record: &[u64; MOST]) -> Grid {
+    Grid::new(record[1], record[2] as usize, record[3] as usize)
 }
 
-fn size_of(n: u64) -> usize {
-    n as usize
+fn instrument_in(record: &[u64; MOST]) -> Instrument {
+    instrument_of(
+        record[1],
+        record[2] as usize,
+        record[3] as usize,
+        record[4],
+        record[5],
+        record[6],
+    )
 }
 
-fn grid_of(a: &[u64; 16]) -> Grid {
-    Grid {
-        kind: a[0],
-        columns: size_of(a[1]),
-        rows: size_of(a[2]),
-    }
+fn hit_in(record: &[u64; MOST]) -> Hit {
+    hit_of(record[8], record[9] as usize, signed(record[10]))
 }
 
-fn hit_of(hit: u64, point: u64, force: i64) -> Hit {
-    if hit == 0 {
-        Hit::Absent
-    } else {
-        Hit::At {
-            point: point as usize,
-            force,
-        }
-    }
-}
-
-fn speed_of(by_tension: u64, speed: u64, density: u64) -> Speed {
-    if by_tension == 0 {
-        Speed::Hertz(float_of(speed))
-    } else {
-        Speed::Tension {
-            tension: float_of(speed),
-            density: float_of(density),
-        }
-    }
-}
-
-fn loss_of(by_seconds: u64, loss: u64) -> Loss {
-    if by_seconds == 0 {
-        Loss::PerSecond(float_of(loss))
-    } else {
-        Loss::Seconds(float_of(loss))
-    }
-}
-
-fn instrument_of(a: &[u64; 16]) -> Instrument {
-    Instrument {
-        grid: grid_of(a),
-        settings: Settings::new(a[3], a[4], a[5]),
-    }
-}
-
-fn is_expected(a: &[u64; 16], answer: BlockAnswer) -> bool {
+fn is_block(record: &[u64; MOST], answer: BlockAnswer) -> bool {
     let refusal = answer.refusal;
-    answer.steps == size_of(a[9]) && refusal.number() == a[10]
+    (answer.steps as u64 == record[11]) & (refusal.number() == record[12])
 }
 
-// kind columns rows q m s pickup hit point steps refusal, with the force
+// 3 kind columns rows q m s pickup hit point force steps refusal
 fn block_agrees(
-    a: &[u64; 16],
-    force: i64,
-    lent: Lent,
+    record: &[u64; MOST],
     older: &mut [i64],
     newer: &mut [i64],
     work: &mut [i64],
     samples: &mut [i16],
-) -> bool
-    requires { ⌜ Within lent (now older) (now newer) (now work) (now samples) ⌝ }
-{
-    let n0 = lent.older;
-    let n1 = lent.newer;
-    let n2 = lent.work;
-    let n3 = lent.samples;
-    let instrument = instrument_of(a);
-    let pick = size_of(a[6]);
-    let hit = hit_of(a[7], a[8], force);
-    let answer = block(
-        instrument,
-        &mut older[0..n0],
-        &mut newer[0..n1],
-        &mut work[0..n2],
-        &mut samples[0..n3],
-        pick,
-        hit,
-    );
-    is_expected(a, answer)
+) -> bool {
+    let instrument = instrument_in(record);
+    let hit = hit_in(record);
+    let pick = record[7] as usize;
+    is_block(record, block(instrument, older, newer, work, samples, pick, hit))
 }
 
-// kind columns rows centre halfwidth refusal, with the height
-fn pluck_agrees(
-    a: &[u64; 16],
-    height: i64,
-    lent: Lent,
-    older: &mut [i64],
-    newer: &mut [i64],
-) -> bool
-    requires { ⌜ (lent .older ≤ length (now older)) × (lent .newer ≤ length (now newer)) ⌝ }
-{
-    let n0 = lent.older;
-    let n1 = lent.newer;
+// 4 kind columns rows centre halfwidth height refusal
+fn pluck_agrees(record: &[u64; MOST], older: &mut [i64], newer: &mut [i64]) -> bool {
     let refusal = pluck(
-        grid_of(a),
-        &mut older[0..n0],
-        &mut newer[0..n1],
-        size_of(a[3]),
-        size_of(a[4]),
-        height,
+        grid_of(record),
+        older,
+        newer,
+        record[4] as usize,
+        record[5] as usize,
+        signed(record[6]),
     );
-    refusal.number() == a[5]
+    refusal.number() == record[7]
 }
 
-// kind columns rows pickup valuebits refusal
-fn reading_agrees(a: &[u64; 16], lent: Lent, newer: &[i64]) -> bool
-    requires { ⌜ lent .newer ≤ length (now newer) ⌝ }
-{
-    let n = lent.newer;
-    let answer = reading(grid_of(a), &newer[0..n], size_of(a[3]));
+// 5 kind columns rows pickup valuebits refusal
+fn reading_agrees(record: &[u64; MOST], newer: &[i64]) -> bool {
+    let answer = reading(grid_of(record), newer, record[4] as usize);
     let refusal = answer.refusal;
-    bits_of(answer.value) == a[4] && refusal.number() == a[5]
+    (bits_of(answer.value) == record[5]) & (refusal.number() == record[6])
 }
 
-fn sheet_of(a: &[u64; 16]) -> Sheet {
-    Sheet {
-        rate: float_of(a[3]),
-        length: float_of(a[4]),
-        bending: float_of(a[5]),
-        speed: speed_of(a[6], a[7], a[8]),
-        loss: loss_of(a[9], a[10]),
-    }
+fn sheet_in(record: &[u64; MOST]) -> Sheet {
+    sheet_of(
+        float_of(record[4]),
+        float_of(record[5]),
+        float_of(record[6]),
+        record[7],
+        float_of(record[8]),
+        float_of(record[9]),
+        record[10],
+        float_of(record[11]),
+    )
 }
 
-// kind columns rows rate length bending speedkind speed1 speed2 losskind loss q m s refusal
-fn sheet_agrees(a: &[u64; 16]) -> bool {
-    let answer = settings_for(grid_of(a), sheet_of(a));
+fn is_sheet(record: &[u64; MOST], answer: SheetAnswer) -> bool {
     let settings = answer.settings;
     let refusal = answer.refusal;
-    settings.q == a[11] && settings.m == a[12] && settings.s == a[13] && refusal.number() == a[14]
+    (settings.q == record[12])
+        & (settings.m == record[13])
+        & (settings.s == record[14])
+        & (refusal.number() == record[15])
 }
 
-fn first(given: &[i64]) -> i64 {
-    if 0 < given.len() {
-        return given[0];
-    }
-    0
+// 6 kind columns rows rate length bending speedkind speed1 speed2 losskind loss q m s refusal
+fn sheet_agrees(record: &[u64; MOST]) -> bool {
+    is_sheet(record, settings_for(grid_of(record), sheet_in(record)))
 }
 
-// Whether a record that expects something is met.
-fn agrees(
-    opcode: u64,
-    a: &[u64; 16],
-    given: &[i64],
-    count: usize,
-    lent: Lent,
-    older: &mut [i64],
-    newer: &mut [i64],
-    work: &mut [i64],
-    samples: &mut [i16],
-) -> bool
-    requires { ⌜ Within lent (now older) (now newer) (now work) (now samples) ⌝ }
-    requires { ⌜ count ≤ length (now given) ⌝ }
-    ensures { λ _. ⌜ Within lent (now (older .exit)) (now (newer .exit)) (now (work .exit)) (now (samples .exit)) ⌝ }
-{
+fn smaller_agrees(record: &[u64; MOST], older: &mut [i64], newer: &mut [i64]) -> bool {
+    let opcode = record[0];
     match opcode {
-        2 => holds(a[0], given, count, lent, older, newer, work, samples),
-        3 => block_agrees(a, first(given), lent, older, newer, work, samples),
-        4 => pluck_agrees(a, first(given), lent, older, newer),
-        5 => reading_agrees(a, lent, newer),
-        6 => sheet_agrees(a),
+        4 => pluck_agrees(record, older, newer),
+        5 => reading_agrees(record, newer),
+        6 => sheet_agrees(record),
         _ => true,
     }
 }
 
-// A record is carried out: a buffer lent or compared, or a call made.
-pub fn apply(
-    opcode: u64,
-    a: &[u64; 16],
-    given: &[i64],
-    count: usize,
-    before: Lent,
+// A record is carried out: a buffer filled or compared, or a call made. Whether what it expects is met.
+pub fn agrees(
+    record: &[u64; MOST],
     older: &mut [i64],
     newer: &mut [i64],
     work: &mut [i64],
     samples: &mut [i16],
-) -> After
-    requires { ⌜ Within before (now older) (now newer) (now work) (now samples) ⌝ }
-    requires { ⌜ Room count (now given) (now older) (now newer) (now work) (now samples) ⌝ }
-    ensures { λ r. ⌜ Within (r .lent) (now (older .exit)) (now (newer .exit)) (now (work .exit)) (now (samples .exit)) ⌝ }
-{
-    let lent = lend(opcode, a, given, count, before, older, newer, work, samples);
-    After {
-        lent,
-        is_met: agrees(opcode, a, given, count, lent, older, newer, work, samples),
+) -> bool {
+    let opcode = record[0];
+    match opcode {
+        1 | 2 => on_buffer(record, older, newer, work, samples),
+        3 => block_agrees(record, older, newer, work, samples),
+        _ => smaller_agrees(record, older, newer),
     }
 }

@@ -2,7 +2,12 @@
 ghost use mathlib.Core.Path.{_≡_};
 ghost use Prim.Native.Nat.{_≤_};
 ghost use lib.ListN.{length};
-ghost use Rattle.vectors.specs.Lent.{Within, Room};
+ghost use Rattle.vectors.specs.Lent.{LentIn};
+use crate::records::MOST;
+use crate::records::signed;
+
+// The most points of a level, and places of the samples.
+pub const PLACES: usize = 4100;
 
 // The lengths in which the four buffers are lent.
 pub struct Lent {
@@ -12,9 +17,18 @@ pub struct Lent {
     pub samples: usize,
 }
 
+fn length_of(length: u64) -> usize
+    ensures { λ r. ⌜ r ≤ 4100 ⌝ }
+{
+    if length < 4100 {
+        return length as usize;
+    }
+    PLACES
+}
+
 impl Lent {
     pub fn new() -> Lent
-        ensures { λ r. ⌜ (r .older ≡ 0) × (r .newer ≡ 0) × (r .work ≡ 0) × (r .samples ≡ 0) ⌝ }
+        ensures { λ r. ⌜ LentIn r ⌝ }
     {
         Lent {
             older: 0,
@@ -22,6 +36,32 @@ impl Lent {
             work: 0,
             samples: 0,
         }
+    }
+
+    // The lengths after a record that lends a buffer.
+    fn with(mut self, which: u64, length: usize) -> Lent
+        requires { ⌜ LentIn self ⌝ }
+        requires { ⌜ length ≤ 4100 ⌝ }
+        ensures { λ r. ⌜ LentIn r ⌝ }
+    {
+        match which {
+            0 => self.older = length,
+            1 => self.newer = length,
+            2 => self.work = length,
+            _ => self.samples = length,
+        }
+        self
+    }
+
+    // The lengths after a record.
+    pub(crate) fn after(self, record: &[u64; MOST]) -> Lent
+        requires { ⌜ LentIn self ⌝ }
+        ensures { λ r. ⌜ LentIn r ⌝ }
+    {
+        if record[0] == 1 {
+            return self.with(record[1], length_of(record[2]));
+        }
+        self
     }
 }
 
@@ -36,145 +76,57 @@ fn narrow(value: i64) -> i16 {
     0
 }
 
-fn wide(sample: i16) -> i64 {
-    sample as i64
+fn level_of(is_lent: bool, given: i64, held: i64) -> i64 {
+    if is_lent { given } else { held }
 }
 
-fn copy(given: &[i64], count: usize, level: &mut [i64])
-    requires { ⌜ (count ≤ length (now given)) × (count ≤ length (now level)) ⌝ }
-{
+fn sample_of(is_lent: bool, given: i16, held: i16) -> i16 {
+    if is_lent { given } else { held }
+}
+
+// A lent level takes the numbers of the record. Whether it has this length and content.
+fn on_level(record: &[u64; MOST], level: &mut [i64]) -> bool {
+    let is_lent = record[0] == 1;
+    let mut is_met = level.len() as u64 == record[2];
     let mut k = 0;
-    while k < count {
-        let value = given[k];
+    while k < level.len() && k < PLACES {
+        let given = signed(record[k + 3]);
+        let value = level_of(is_lent, given, level[k]);
         level[k] = value;
+        is_met = is_met & (value == given);
         k += 1;
     }
+    is_met
 }
 
-fn copy_samples(given: &[i64], count: usize, samples: &mut [i16])
-    requires { ⌜ (count ≤ length (now given)) × (count ≤ length (now samples)) ⌝ }
-{
+fn on_samples(record: &[u64; MOST], samples: &mut [i16]) -> bool {
+    let is_lent = record[0] == 1;
+    let mut is_met = samples.len() as u64 == record[2];
     let mut k = 0;
-    while k < count {
-        let value = narrow(given[k]);
+    while k < samples.len() && k < PLACES {
+        let given = narrow(signed(record[k + 3]));
+        let value = sample_of(is_lent, given, samples[k]);
         samples[k] = value;
+        is_met = is_met & (value == given);
         k += 1;
     }
+    is_met
 }
 
-// The length of a level after a record that lends it, or lends another.
-fn lend_level(is_lent: bool, given: &[i64], count: usize, before: usize, level: &mut [i64]) -> usize
-    requires { ⌜ (count ≤ length (now given)) × (count ≤ length (now level)) × (before ≤ length (now level)) ⌝ }
-    ensures { λ r. ⌜ r ≤ length (now (level .exit)) ⌝ }
-{
-    if is_lent {
-        copy(given, count, level);
-        return count;
-    }
-    before
-}
-
-fn lend_samples(
-    is_lent: bool,
-    given: &[i64],
-    count: usize,
-    before: usize,
-    samples: &mut [i16],
-) -> usize
-    requires { ⌜ (count ≤ length (now given)) × (count ≤ length (now samples)) × (before ≤ length (now samples)) ⌝ }
-    ensures { λ r. ⌜ r ≤ length (now (samples .exit)) ⌝ }
-{
-    if is_lent {
-        copy_samples(given, count, samples);
-        return count;
-    }
-    before
-}
-
-// The buffer that a record lends, 4 where it lends none.
-fn lent_by(opcode: u64, which: u64) -> u64 {
-    if opcode == 1 { which } else { 4 }
-}
-
-// The lengths lent after a record: one that lends has the buffer's number first in a.
-pub fn lend(
-    opcode: u64,
-    a: &[u64; 16],
-    given: &[i64],
-    count: usize,
-    lent: Lent,
+// A record on a buffer is carried out.
+pub fn on_buffer(
+    record: &[u64; MOST],
     older: &mut [i64],
     newer: &mut [i64],
     work: &mut [i64],
     samples: &mut [i16],
-) -> Lent
-    requires { ⌜ Within lent (now older) (now newer) (now work) (now samples) ⌝ }
-    requires { ⌜ Room count (now given) (now older) (now newer) (now work) (now samples) ⌝ }
-    ensures { λ r. ⌜ Within r (now (older .exit)) (now (newer .exit)) (now (work .exit)) (now (samples .exit)) ⌝ }
-{
-    let which = lent_by(opcode, a[0]);
-    Lent {
-        older: lend_level(which == 0, given, count, lent.older, older),
-        newer: lend_level(which == 1, given, count, lent.newer, newer),
-        work: lend_level(which == 2, given, count, lent.work, work),
-        samples: lend_samples(which == 3, given, count, lent.samples, samples),
-    }
-}
-
-fn same(given: &[i64], count: usize, level: &[i64]) -> bool
-    requires { ⌜ count ≤ length (now given) ⌝ }
-{
-    if count != level.len() {
-        return false;
-    }
-    let mut k = 0;
-    while k < level.len() {
-        if given[k] != level[k] {
-            return false;
-        }
-        k += 1;
-    }
-    true
-}
-
-fn same_samples(given: &[i64], count: usize, samples: &[i16]) -> bool
-    requires { ⌜ count ≤ length (now given) ⌝ }
-{
-    if count != samples.len() {
-        return false;
-    }
-    let mut k = 0;
-    while k < samples.len() {
-        if given[k] != wide(samples[k]) {
-            return false;
-        }
-        k += 1;
-    }
-    true
-}
-
-// Whether a buffer has this length and content.
-pub fn holds(
-    which: u64,
-    given: &[i64],
-    count: usize,
-    lent: Lent,
-    older: &[i64],
-    newer: &[i64],
-    work: &[i64],
-    samples: &[i16],
-) -> bool
-    requires { ⌜ Within lent (now older) (now newer) (now work) (now samples) ⌝ }
-    requires { ⌜ count ≤ length (now given) ⌝ }
-{
-    let n0 = lent.older;
-    let n1 = lent.newer;
-    let n2 = lent.work;
-    let n3 = lent.samples;
+) -> bool {
+    let which = record[1];
     match which {
-        0 => same(given, count, &older[0..n0]),
-        1 => same(given, count, &newer[0..n1]),
-        2 => same(given, count, &work[0..n2]),
-        _ => same_samples(given, count, &samples[0..n3]),
+        0 => on_level(record, older),
+        1 => on_level(record, newer),
+        2 => on_level(record, work),
+        3 => on_samples(record, samples),
+        _ => false,
     }
 }

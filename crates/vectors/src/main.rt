@@ -2,98 +2,69 @@
 mod calls;
 mod floats;
 mod levels;
-mod numbers;
-mod reader;
-mod record;
+mod records;
 mod tally;
 
+ghost use mathlib.Core.Path.{_≡_};
 ghost use lib.ListN.{length};
-ghost use Rattle.vectors.specs.Lent.{Within, Room};
-use crate::calls::After;
-use crate::calls::apply;
+use crate::calls::agrees;
 use crate::levels::Lent;
-use crate::reader::Reader;
-use crate::record::next_record;
+use crate::levels::PLACES;
+use crate::records::MALFORMED;
+use crate::records::MOST;
+use crate::records::next_record;
 use crate::tally::Tally;
 use crate::tally::say;
 
-// After a record, where the next one starts.
-struct State {
-    opcode: u64,
-    reader: Reader,
-    after: After,
-}
-
-// One record: read, carried out and compared.
-fn turn(
-    reader: Reader,
-    lent: Lent,
-    text: &mut [u8],
-    a: &mut [u64; 16],
-    given: &mut [i64],
-    older: &mut [i64],
-    newer: &mut [i64],
-    work: &mut [i64],
-    samples: &mut [i16],
-) -> State
-    requires { ⌜ Within lent (now older) (now newer) (now work) (now samples) ⌝ }
-    requires { ⌜ Room (length (now given)) (now given) (now older) (now newer) (now work) (now samples) ⌝ }
-    ensures { λ r. ⌜ Within (r .after .lent) (now (older .exit)) (now (newer .exit)) (now (work .exit)) (now (samples .exit)) ⌝ }
-{
-    let record = next_record(text, reader, a, given);
-    let opcode = record.opcode;
-    let count = record.count;
-    let reader = record.reader;
-    State {
-        opcode,
-        reader,
-        after: apply(opcode, a, given, count, lent, older, newer, work, samples),
-    }
-}
-
-fn report(path: &[u8], reader: Reader, tally: Tally) {
-    if reader.is_sound() {
+// The last record must have opcode 0.
+fn report(path: &[u8], tally: Tally, opcode: u64) {
+    if opcode == 0 {
         tally.counts(path);
     } else {
-        let fault = reader.fault;
-        tally.fault(path, fault);
+        tally.say_of(path, b": no opcode 0 at the end\n");
     }
 }
 
-// The records up to opcode 0 or a fault. The loop counts its turns down from more than a file has records.
-fn run_file(path: &[u8], fd: i32) {
-    let mut text = io::large_buffer();
-    let mut a = [0u64; 16];
-    let mut given = [0i64; 4100];
-    let mut older = [0i64; 4100];
-    let mut newer = [0i64; 4100];
-    let mut work = [0i64; 4100];
-    let mut samples = [0i16; 4100];
-    let mut opcode: u64 = 1;
-    let mut reader = Reader::new(fd);
+// The records of a text, one after another.
+fn run(path: &[u8], text: &[u8]) {
+    let mut record = [MALFORMED; MOST];
+    let mut older = [0i64; PLACES];
+    let mut newer = [0i64; PLACES];
+    let mut work = [0i64; PLACES];
+    let mut samples = [0i16; PLACES];
     let mut lent = Lent::new();
     let mut tally = Tally::new();
-    let mut turns = u64::MAX;
-    while turns > 0 && opcode != 0 {
-        let state = turn(
-            reader,
-            lent,
-            &mut text,
-            &mut a,
-            &mut given,
-            &mut older,
-            &mut newer,
-            &mut work,
-            &mut samples,
+    let mut at = 0;
+    while at < text.len() {
+        at = next_record(text, at, &mut record);
+        lent = lent.after(&record);
+        let n0 = lent.older;
+        let n1 = lent.newer;
+        let n2 = lent.work;
+        let n3 = lent.samples;
+        let is_met = agrees(
+            &record,
+            &mut older[..n0],
+            &mut newer[..n1],
+            &mut work[..n2],
+            &mut samples[..n3],
         );
-        let after = state.after;
-        opcode = state.opcode;
-        reader = state.reader;
-        lent = after.lent;
-        tally = tally.record(path, opcode, after.is_met);
-        turns -= 1;
+        tally = tally.record(path, record[0], is_met);
     }
-    report(path, reader.finished(&mut text), tally);
+    report(path, tally, record[0]);
+}
+
+// Room for the longest file.
+fn room() -> [u8; 2097152]
+    ensures { λ r. ⌜ 2097152 ≡ length r ⌝ }
+{
+    [0u8; 2097152]
+}
+
+fn run_file(path: &[u8], fd: i32) {
+    let mut text = room();
+    let n = io::read_full(fd, &mut text);
+    run(path, &text[..n]);
 }
 
 fn run_argument(i: usize) {

@@ -1,5 +1,4 @@
 // What was compared, and the lines that say so.
-use crate::reader::Fault;
 use libc::STDOUT_FILENO;
 use std::num::wrapping_add_u64;
 
@@ -55,11 +54,11 @@ impl Tally {
         self
     }
 
-    // The start of a line on the present record.
-    fn start(self, path: &[u8]) {
+    // A line on the present record, or its start.
+    pub fn say_of(self, path: &[u8], what: &[u8]) {
         say(path);
         say(b": record ");
-        say_count(self.records, b": ");
+        say_count(self.records, what);
     }
 
     // A record, and whether it is met.
@@ -69,23 +68,11 @@ impl Tally {
             return tally;
         }
         if tally.differences < LINES {
-            tally.start(path);
-            say(b"opcode ");
+            tally.say_of(path, b": opcode ");
             say_count(opcode, b" differs\n");
         }
         tally.differences = one_more(tally.differences);
         tally
-    }
-
-    pub fn fault(self, path: &[u8], fault: Fault) {
-        self.start(path);
-        match fault {
-            Fault::NotNumber => say(b"not a number\n"),
-            Fault::NotFitting => say(b"a number does not fit\n"),
-            Fault::Unknown => say(b"an unknown opcode or buffer\n"),
-            Fault::Length => say(b"a length above the buffers\n"),
-            _ => say(b"no opcode 0 at the end\n"),
-        }
     }
 
     pub fn counts(self, path: &[u8]) {

@@ -18,11 +18,11 @@ use Rattle.block.proofs.level.level_run.Tie as tie
 
 -- the rows passed have their next values
 abbrev Inv-loop : tie.InvT-loop
-Inv-loop plan from to laplacians₀ older newer out₀ hit columns rows row₀ start₀ laplacians out row start =
+Inv-loop plan from to older newer out₀ hit columns rows row₀ start₀ out row start =
     Rows (plan .instrument) hit older newer out₀ out row start
 
 abbrev μ-loop : tie.MeasureT-loop
-μ-loop plan from to laplacians₀ older newer out₀ hit columns rows row₀ start₀ laplacians out row start = rows - row
+μ-loop plan from to older newer out₀ hit columns rows row₀ start₀ out row start = rows - row
 
 -- what the caller showed
 module _ (s : tie.Start Inv-loop μ-loop) where
@@ -68,27 +68,27 @@ module _ (c : tie.In-loop Inv-loop μ-loop) where
 loop-holds : tie.Need-loop-holds Inv-loop μ-loop
 loop-holds c = rows-start _ _ _ _ _
 
-mul-t15 : tie.Need-mul-t15 Inv-loop μ-loop
-mul-t15 c = record { fits = omega (arith, few c) }
+mul-t14 : tie.Need-mul-t14 Inv-loop μ-loop
+mul-t14 c = record { fits = omega (arith, few c) }
 
-element-copy-out-t18 : tie.Need-element-copy-out-t18 Inv-loop μ-loop
-element-copy-out-t18 c = few c
+element-copy-out-t17 : tie.Need-element-copy-out-t17 Inv-loop μ-loop
+element-copy-out-t17 c = few c
 
-add-t19 : tie.Need-add-t19 Inv-loop μ-loop
-add-t19 c = let t = c .before in record { fits = omega (arith, room t, small t, moves t .inside, moves t .rising) }
+add-t18 : tie.Need-add-t18 Inv-loop μ-loop
+add-t18 c = let t = c .before in record { fits = omega (arith, room t, small t, moves t .inside, moves t .rising) }
 
-mul-t20 : tie.Need-mul-t20 Inv-loop μ-loop
-mul-t20 c = record { fits = omega (arith, few (c .before)) }
+mul-t19 : tie.Need-mul-t19 Inv-loop μ-loop
+mul-t19 c = record { fits = omega (arith, few (c .before)) }
 
-element-copy-out-t23 : tie.Need-element-copy-out-t23 Inv-loop μ-loop
-element-copy-out-t23 c = few (c .before)
+element-copy-out-t22 : tie.Need-element-copy-out-t22 Inv-loop μ-loop
+element-copy-out-t22 c = few (c .before)
 
-add-t24 : tie.Need-add-t24 Inv-loop μ-loop
-add-t24 c = let t = c .before .before in record { fits = omega (arith, room t, small t, moves t .inside) }
+add-t23 : tie.Need-add-t23 Inv-loop μ-loop
+add-t23 c = let t = c .before .before in record { fits = omega (arith, room t, small t, moves t .inside) }
 
 row-run-requires : tie.Need-row-run-requires Inv-loop μ-loop
 row-run-requires c κs =
-    let t = c .before .before .before .before in
+    let t = c .before .before .before in
     let p = given (start t) in (
       (
         steppable-ready p,
@@ -103,7 +103,7 @@ row-run-requires c κs =
 
 -- once the row is done
 abbrev at-row : tie.After-out Inv-loop μ-loop → tie.In-loop Inv-loop μ-loop
-at-row c = c .before .before .before .before .before .before
+at-row c = c .before .before .before .before .before
 
 same-length : tie.Need-same-length Inv-loop μ-loop
 same-length c = let t = at-row (c .before) in c .before .before .row-run .ensures .long ∙ inv t .ran .long
@@ -143,12 +143,12 @@ level-run-spec =
     Inv-loop
     μ-loop
     loop-holds
-    mul-t15
-    element-copy-out-t18
-    add-t19
-    mul-t20
-    element-copy-out-t23
-    add-t24
+    mul-t14
+    element-copy-out-t17
+    add-t18
+    mul-t19
+    element-copy-out-t22
+    add-t23
     row-run-requires
     same-length
     returns

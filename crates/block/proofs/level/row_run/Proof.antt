@@ -17,16 +17,16 @@ use Rattle.scheme.specs.Step.{forceOf, nextAt}
 use Rattle.block.specs.Plan.{Ready}
 use Rattle.block.specs.Run.{valueAt, Ran, Placed, Moves, Ends}
 use Rattle.block.proofs.FillLaws.{Running, running-start, running-on, running-stops, running-done, ran-fine, ran-same}
-use Rattle.block.proofs.HitLaws.{force-low, ready-force, some-move, moves-inside, next-value}
+use Rattle.block.proofs.HitLaws.{force-low, ready-force, some-move, next-value}
 use Rattle.block.proofs.level.row_run.Statement.{statement}
 use Rattle.block.proofs.level.row_run.Tie as tie
 
 abbrev Inv-loop : tie.InvT-loop
-Inv-loop plan older newer laplacians₀ row hit out₀ at₀ laplacians out at =
+Inv-loop plan older newer row hit out₀ at₀ out at =
     Running (nextAt (plan .instrument) hit older newer) (row .write) (row .base) out₀ (row .from) (row .to) out at
 
 abbrev μ-loop : tie.MeasureT-loop
-μ-loop plan older newer laplacians₀ row hit out₀ at₀ laplacians out at = row .to - at
+μ-loop plan older newer row hit out₀ at₀ out at = row .to - at
 
 -- what the caller showed
 module _ (s : tie.Start Inv-loop μ-loop) where
@@ -66,7 +66,7 @@ module _ (c : tie.After-stretch-end Inv-loop μ-loop) where
   abbrev end : ℕ
   end = c .stretch-end .result
 
-  abbrev ends : Ends (start turn .args .plan .instrument) (start turn .args .hit) (at turn) (start turn .args .row .to) end
+  abbrev ends : Ends (start turn .args .hit) (at turn) (start turn .args .row .to) end
   ends = c .stretch-end .ensures
 
   abbrev f : ℤ
@@ -93,51 +93,44 @@ module _ (c : tie.After-stretch-end Inv-loop μ-loop) where
       (stretch-moves .each k a b) (ends .one-force k a b)) q
 
 -- the force as it was stored
-force-is : (c : tie.After-force-at Inv-loop μ-loop) → toZ w64 (ofZ w64 (c .force-at .result)) ≡ f (c .before .before .before)
+force-is : (c : tie.After-force-at Inv-loop μ-loop) → toZ w64 (ofZ w64 (c .force-at .result)) ≡ f (c .before)
 force-is c = back (c .force-at .result) (c .force-at .ok) ∙ c .force-at .ensures
 
 -- once the stretch is done
 module _ (c : tie.After-out Inv-loop μ-loop) where
   abbrev at-end : tie.After-stretch-end Inv-loop μ-loop
-  at-end = c .before .before .before .before .before .before .before
+  at-end = c .before .before .before .before
 
   stretch-done : let s = start (turn at-end) in
       Ran (valueAt (s .args .plan .instrument) (f at-end) (s .args .older .now) (s .args .newer .now)) (s .args .row .write)
       (s .args .row .base)
-      (turn at-end .before .before .loop .out) (c .before .points-run .last .1 .1 .1 .1 .1 .0) (at (turn at-end)) (end at-end)
+      (turn at-end .before .before .loop .out) (c .before .points-run .last .1 .1 .1 .1 .0) (at (turn at-end)) (end at-end)
       (c .before .points-run .result)
   stretch-done =
       let s = start (turn at-end) in
       subst (λ (f : ℤ). Ran (valueAt (s .args .plan .instrument) f (s .args .older .now) (s .args .newer .now)) (s .args .row .write)
       (s .args .row .base)
-      (turn at-end .before .before .loop .out) (c .before .points-run .last .1 .1 .1 .1 .1 .0) (at (turn at-end)) (end at-end)
+      (turn at-end .before .before .loop .out) (c .before .points-run .last .1 .1 .1 .1 .0) (at (turn at-end)) (end at-end)
       (c .before .points-run .result))
-      (force-is (c .before .before .before .before)) (c .before .points-run .ensures)
+      (force-is (c .before .before .before)) (c .before .points-run .ensures)
 
 loop-holds : tie.Need-loop-holds Inv-loop μ-loop
 loop-holds c = running-start _ _ _ (placed c .above) (placed c .order)
 
 stretch-end-requires : tie.Need-stretch-end-requires Inv-loop μ-loop
 stretch-end-requires c κs =
-    let s = start c in
-    (ready s .planned, last c, moves-inside (moves s) (omega (arith, last c, inv c .order)))
-
-laplacians-for-requires : tie.Need-laplacians-for-requires Inv-loop μ-loop
-laplacians-for-requires c κs =
-    let e = c .before in
-    let r = ready (start (turn e)) in
-    ((r .planned, stretch-moves e, ends e .some, ends e .few), (r .newer-long, r .newer-low))
+    last c
 
 force-at-requires : tie.Need-force-at-requires Inv-loop μ-loop
-force-at-requires c κs = start (turn (c .before .before)) .pre .1 .1
+force-at-requires c κs = start (turn c) .pre .1 .1
 
 points-run-requires : tie.Need-points-run-requires Inv-loop μ-loop
 points-run-requires c κs =
-    let e = c .before .before .before .before .before in
+    let e = c .before .before in
     let s = start (turn e) in
     let p = placed s in (
       (
-        subst (λ (f : ℤ). Ready (s .args .plan) f (s .args .older .now) (s .args .newer .now)) (sym (force-is (c .before .before)))
+        subst (λ (f : ℤ). Ready (s .args .plan) f (s .args .older .now) (s .args .newer .now)) (sym (force-is (c .before)))
             (ready-force (ready s) (f-low e)),
         record {
           order = omega (arith, ends e .some);
@@ -145,7 +138,7 @@ points-run-requires c κs =
           room = omega (arith, p .room, ends e .upto, inv (turn e) .ran .long);
         },
       ),
-      ((stretch-moves e, ends e .some), c .before .before .before .laplacians-for .ensures),
+      (stretch-moves e, ends e .some),
     )
 
 same-length : tie.Need-same-length Inv-loop μ-loop
@@ -180,7 +173,6 @@ row-run-spec =
     μ-loop
     loop-holds
     stretch-end-requires
-    laplacians-for-requires
     force-at-requires
     points-run-requires
     same-length

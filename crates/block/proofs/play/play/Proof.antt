@@ -20,12 +20,12 @@ use Rattle.block.proofs.play.play.Statement.{statement}
 use Rattle.block.proofs.play.play.Tie as tie
 
 abbrev Inv-loop : tie.InvT-loop
-Inv-loop plan from to older₀ newer₀ work₀ samples₀ pick hit laplacians₀ phase₀ j₀ older newer work samples laplacians phase j =
+Inv-loop plan from to older₀ newer₀ work₀ samples₀ pick hit phase₀ j₀ older newer work samples phase j =
     Playing (plan .instrument) pick hit (Calls.play (plan .instrument) pick hit older₀ newer₀ samples₀) (length samples₀)
     (olderOf phase older newer work) (newerOf phase older newer work) (outOf phase older newer work) samples j
 
 abbrev μ-loop : tie.MeasureT-loop
-μ-loop plan from to older₀ newer₀ work₀ samples₀ pick hit laplacians₀ phase₀ j₀ older newer work samples laplacians phase j =
+μ-loop plan from to older₀ newer₀ work₀ samples₀ pick hit phase₀ j₀ older newer work samples phase j =
     length samples₀ - j
 
 -- what the caller showed
@@ -71,7 +71,7 @@ module _ (c : tie.At-loop Inv-loop μ-loop) where
 -- a step
 module _ (c : tie.After-work Inv-loop μ-loop) where
   abbrev struck : tie.After-hit-of Inv-loop μ-loop
-  struck = c .before .before .before .before .before .before .before .before
+  struck = c .before .before .before .before .before .before .before
 
   abbrev at : tie.At-loop Inv-loop μ-loop
   at = struck .before .before
@@ -80,13 +80,13 @@ module _ (c : tie.After-work Inv-loop μ-loop) where
   stepped = c .before .before .before
 
   abbrev older : List ℤ
-  older = stepped .step-in-roles .last .1 .1 .1 .1 .0
+  older = stepped .step-in-roles .last .1 .1 .1 .0
 
   abbrev newer : List ℤ
-  newer = stepped .step-in-roles .last .1 .1 .1 .1 .1 .0
+  newer = stepped .step-in-roles .last .1 .1 .1 .1 .0
 
   abbrev work : List ℤ
-  work = stepped .step-in-roles .last .1 .1 .1 .1 .1 .1 .0
+  work = stepped .step-in-roles .last .1 .1 .1 .1 .1 .0
 
   abbrev left : SteppedIn (at .loop .phase) (start at .args .plan .instrument) (struck .hit-of .result) (at .loop .older) (at .loop .newer)
       (at .loop .work)
@@ -126,7 +126,7 @@ hit-of-requires c κs = tt
 
 step-in-roles-requires : tie.Need-step-in-roles-requires Inv-loop μ-loop
 step-in-roles-requires c κs =
-    let h = c .before .before .before .before in
+    let h = c .before .before .before in
     let t = h .before .before in
     (playing-steppable (given (start t)) (h .hit-of .ensures) (inv t), start t .pre .1)
 

@@ -2,7 +2,6 @@
 use mathlib.Core.Path.{_≡_, refl, sym, _∙_, subst}
 use mathlib.Core.Bool.{Bool}
 use mathlib.Core.List.{List}
-use mathlib.Core.Logic.{_⊎_}
 use Prim.Native.Nat.{ℕ, _-_, _≤_, _<_, zero-le}
 use native.Mathlib.Omega.{arith}
 use borrow.Author.Needs.{needs}
@@ -12,10 +11,10 @@ use lib.ListN.{length}
 use Rattle.scheme.specs.declared.Grid.{Grid}
 use Rattle.block.specs.declared.stretch.Stretch.{Stretch}
 use Rattle.block.specs.Plan.{Ready}
-use Rattle.block.specs.Run.{Advanced, Placed, Moves, OnLine, FreeEnd, LaplaciansOf, partOf}
+use Rattle.block.specs.Run.{Advanced, Placed, Moves, OnLine, FreeEnd, partOf}
 use Rattle.block.proofs.FillLaws.{placed-after, ran-fine}
 use Rattle.block.proofs.StretchLaws.{part-placed}
-use Rattle.block.proofs.LineLaws.{three, first-part, last-part, inner-line, inner-moves, inner-has, first-stops, inner-stops}
+use Rattle.block.proofs.LineLaws.{three, first-part, last-part, inner-line, first-stops, inner-stops}
 use Rattle.block.proofs.LineLaws.{all-parts}
 use Rattle.block.proofs.points.line_points.Statement.{statement}
 use Rattle.block.proofs.points.line_points.Tie as tie
@@ -38,17 +37,13 @@ module _ (c : tie.Start) where
   placed = c .pre .0 .1
 
   line : g .rows ≡ 1
-  line = c .pre .1 .0 .0
+  line = c .pre .1 .0
 
   all : Moves g (s .from) (s .to)
-  all = c .pre .1 .0 .1
+  all = c .pre .1 .1
 
   some : s .from < s .to
-  some = c .pre .1 .0 .2
-
-  -- the values of L that a stretch needs
-  abbrev Has : Stretch → Type 0
-  Has q = (c .args .plan .instrument .settings .m ≡ 0) ⊎ LaplaciansOf g (c .args .newer .now) (q .from) (q .to) (c .args .laplacians .now)
+  some = c .pre .1 .2
 
   wide : 3 ≤ n
   wide = three s ready line all some
@@ -82,8 +77,8 @@ module _ (c : tie.After-out) where
 
 -- the inner points
 module _ (c : tie.After-out2) where
-  inner-long : length (c .before .line-run .last .1 .1 .1 .1 .1 .0) ≡ length (at-first (at-inner c) .args .out .now)
-  inner-long = c .before .line-run .ensures .long ∙ first-long (at-inner c)
+  inner-long : length (c .before .inner-points .last .1 .1 .1 .1 .0) ≡ length (at-first (at-inner c) .args .out .now)
+  inner-long = c .before .inner-points .ensures .long ∙ first-long (at-inner c)
 
 part-requires : tie.Need-part-requires
 part-requires c κs = search needs
@@ -113,21 +108,14 @@ sub-part c = omega (arith, wide (at-first (c .before)))
 part-requires-2 : tie.Need-part-requires-2
 part-requires-2 c κs = search needs
 
-line-run-requires : tie.Need-line-run-requires
-line-run-requires c κs =
+inner-points-requires : tie.Need-inner-points-requires
+inner-points-requires c κs =
     let o = c .before .before .before in
     let s₀ = at-first o in
     let is = c .before .part2 .ensures in
-    let q = c .before .part2 .result in
     let low : 1 ≤ n s₀ - 1 = omega (arith, wide s₀) in (
       (part-ready s₀ 1 (n s₀ - 1) is, places s₀ 1 (n s₀ - 1) is low (first-long o)),
-      (
-        (
-          subst (λ (q : Stretch). OnLine (g s₀) (q .from) (q .to)) (sym is) (inner-line (s s₀) (ready s₀) (line s₀) (all s₀) (some s₀)),
-          subst (λ (q : Stretch). Moves (g s₀) (q .from) (q .to)) (sym is) (inner-moves (s s₀) (ready s₀) (line s₀) (all s₀) (some s₀)),
-        ),
-        subst (Has s₀) (sym is) (inner-has (s s₀) (ready s₀) (line s₀) (all s₀) (some s₀) (s₀ .pre .1 .1)),
-      ),
+      subst (λ (q : Stretch). OnLine (g s₀) (q .from) (q .to)) (sym is) (inner-line (s s₀) (ready s₀) (line s₀) (all s₀) (some s₀)),
     )
 
 same-length-2 : tie.Need-same-length-2
@@ -141,7 +129,7 @@ returns-2 c =
     inner-stops (s s₀) (ready s₀) (line s₀) (all s₀) (some s₀) (placed s₀ .above)
     (advanced s₀ 0 1 (o .before .before .before .part .ensures) (not-false _ (e .if1 .left)) (o .before .free-end .ensures))
     (advanced s₀ 1 (n s₀ - 1) (c .before .before .before .before .part2 .ensures) (not-true _ (c .if2 .taken))
-    (c .before .before .line-run .ensures))
+    (c .before .before .inner-points .ensures))
 
 sub-free-end : tie.Need-sub-free-end
 sub-free-end c = omega (arith, wide (at-first (at-inner (c .before))))
@@ -175,7 +163,7 @@ returns-3 c =
     (advanced s₀ 0 1 (o .before .before .before .part .ensures) (not-false _ (i .before .before .before .before .if1 .left))
     (o .before .free-end .ensures))
     (advanced s₀ 1 (n s₀ - 1) (i .before .before .before .part2 .ensures) (not-false _ (c .before .before .before .before .if2 .left))
-    (i .before .line-run .ensures))
+    (i .before .inner-points .ensures))
     (advanced s₀ (n s₀ - 1) (n s₀) (c .before .before .before .part3 .ensures) refl (c .before .free-end2 .ensures))
 
 pub line-points-spec : {M : Type 1} → statement M
@@ -188,7 +176,7 @@ line-points-spec =
     returns
     sub-part
     part-requires-2
-    line-run-requires
+    inner-points-requires
     same-length-2
     returns-2
     sub-free-end

@@ -1,30 +1,26 @@
--- `line_run` meets its contract: each point has its two neighbours on the line, and L of L by three values of L.
-use mathlib.Core.Path.{_≡_, sym, _∙_, subst}
-use mathlib.Core.Logic.{_⊎_}
+-- `line_run` meets its contract: each point has its two neighbours on the line.
+use mathlib.Core.Path.{_≡_}
 use Prim.Native.Nat.{ℕ, _+_, _-_, _≤_, _<_}
 use native.Mathlib.Omega.{arith}
 use borrow.Author.Needs.{needs}
 use borrow.Author.Tests.{not-true, not-false}
 use lib.IntN.{ℤ, pos}
 use lib.ListN.{length}
-use mir.Syntax.{w64}
-use mir.Val.{toZ, ofZ}
-use Rattle.bounded.proofs.Num.{back}
 use Rattle.bounded.proofs.Expr.{E, fits, said, red}
 use Rattle.block.specs.Plan.{Ready, Neighbouring}
-use Rattle.block.specs.Run.{valueAt, OnLine, LaplaciansOf, Bendable, bendingOf}
+use Rattle.block.specs.Run.{valueAt, OnLine}
 use Rattle.block.proofs.KindLaws.{line-long}
-use Rattle.block.proofs.BesideLaws.{beside#, line-beside, bendable}
+use Rattle.block.proofs.BesideLaws.{beside#, line-beside}
 use Rattle.block.proofs.FillLaws.{placed-after, Running, running-start, running-on, running-stops, running-done, ran-fine}
 use Rattle.block.proofs.points.line_run.Statement.{statement}
 use Rattle.block.proofs.points.line_run.Tie as tie
 
 abbrev Inv-loop : tie.InvT-loop
-Inv-loop plan older newer laplacians s out₀ at₀ out at =
+Inv-loop plan older newer s out₀ at₀ out at =
     Running (valueAt (plan .instrument) (s .force) older newer) (s .write) (s .base) out₀ (s .from) (s .to) out at
 
 abbrev μ-loop : tie.MeasureT-loop
-μ-loop plan older newer laplacians s out₀ at₀ out at = s .to - at
+μ-loop plan older newer s out₀ at₀ out at = s .to - at
 
 -- what the caller showed
 module _ (s : tie.Start Inv-loop μ-loop) where
@@ -32,14 +28,10 @@ module _ (s : tie.Start Inv-loop μ-loop) where
   ready = s .pre .0 .0
 
   on : OnLine (s .args .plan .instrument .grid) (s .args .s .from) (s .args .s .to)
-  on = s .pre .1 .0 .0
+  on = s .pre .1 .0
 
-  abbrev m : ℕ
-  m = s .args .plan .instrument .settings .m
-
-  has : (m ≡ 0) ⊎ LaplaciansOf (s .args .plan .instrument .grid) (s .args .newer .now) (s .args .s .from) (s .args .s .to)
-      (s .args .laplacians .now)
-  has = s .pre .1 .1
+  soft : s .args .plan .instrument .settings .m ≡ 0
+  soft = s .pre .1 .1
 
   abbrev value : ℕ → ℤ
   value = valueAt (s .args .plan .instrument) (s .args .s .force) (s .args .older .now) (s .args .newer .now)
@@ -77,25 +69,15 @@ module _ (c : tie.Then1 Inv-loop μ-loop) where
   abbrev sum# : E
   sum# = beside# (start .args .newer .now) (ready start .newer-low) k
 
-  abbrev bending : ℤ
-  bending = bendingOf (m start) (start .args .laplacians .now) (k - start .args .s .from)
-
-  beside : Neighbouring (start .args .plan .instrument) (start .args .newer .now) k (red sum#) (pos 2) bending
+  beside : Neighbouring (start .args .plan .instrument) (start .args .newer .now) k (red sum#) (pos 2) (pos 0)
   beside =
-      said (λ (z : ℤ). Neighbouring (start .args .plan .instrument) (start .args .newer .now) k z (pos 2) bending) sum# tt
-      (line-beside (start .args .plan .instrument) (ready start .planned .passes) (on start) (start .args .newer .now)
-      (start .args .laplacians .now)
-      (ready start .newer-low) (has start) k first last)
-
-  bends : Bendable (m start) (start .args .laplacians .now) (k - start .args .s .from)
-  bends =
-      bendable (start .args .plan .instrument) (ready start .planned .passes) (on start) (start .args .newer .now)
-      (start .args .laplacians .now)
-      (ready start .newer-low) (has start) k first last
+      said (λ (z : ℤ). Neighbouring (start .args .plan .instrument) (start .args .newer .now) k z (pos 2) (pos 0)) sum# tt
+      (line-beside (start .args .plan .instrument) (ready start .planned .passes) (on start) (soft start) (start .args .newer .now) k first
+      last)
 
 -- the same, once the point is done
 abbrev turn : tie.After-out Inv-loop μ-loop → tie.Then1 Inv-loop μ-loop
-turn c = c .before .before .before .before .before .before .before
+turn c = c .before .before .before .before .before
 
 loop-holds : tie.Need-loop-holds Inv-loop μ-loop
 loop-holds c = let p = c .pre .0 .1 in running-start _ _ _ (p .above) (p .order)
@@ -121,21 +103,11 @@ shared-slice-copy-out-sum-2 c = inside (c .before)
 add-sum-2 : tie.Need-add-sum-2 Inv-loop μ-loop
 add-sum-2 c = fits (sum# (c .before .before)) tt
 
-sub-bending-at : tie.Need-sub-bending-at Inv-loop μ-loop
-sub-bending-at c = first (c .before .before .before)
-
-bending-at-requires : tie.Need-bending-at-requires Inv-loop μ-loop
-bending-at-requires c κs = let t = c .before .before .before in (ready (start t) .planned, bends t)
-
 next-point-requires : tie.Need-next-point-requires Inv-loop μ-loop
 next-point-requires c κs =
-    let t = c .before .before .before .before .before in
+    let t = c .before .before .before in
     let s = start t in
-    let b = c .before .bending-at in
-    let bent : toZ w64 (ofZ w64 (b .result)) ≡ bending t = back (b .result) (b .ok) ∙ b .ensures in (
-      (ready s, subst (Neighbouring (s .args .plan .instrument) (s .args .newer .now) (k t) (red (sum# t)) (pos 2)) (sym bent) (beside t)),
-      (placed-after (s .pre .0 .1) (inv t .ran .long), first t, last t),
-    )
+    ((ready s, beside t), (placed-after (s .pre .0 .1) (inv t .ran .long), first t, last t))
 
 same-length : tie.Need-same-length Inv-loop μ-loop
 same-length c = search needs
@@ -178,8 +150,6 @@ line-run-spec =
     mul-sum-2
     shared-slice-copy-out-sum-2
     add-sum-2
-    sub-bending-at
-    bending-at-requires
     next-point-requires
     same-length
     returns

@@ -16,13 +16,13 @@ third : (c : tie.At-match-rest) (a b w : List ℤ) → InRoles (c .before .args 
 third c a b w = roles-2 _ a b w (c .match .rest .0 .1) (c .match .rest .1)
 
 level-run-requires : tie.Need-level-run-requires
-level-run-requires c κs = let m = c .before .before .before .before in (given-in (first m _ _ _) (m .before .pre .0), m .before .pre .1)
+level-run-requires c κs = let m = c .before .before .before in (given-in (first m _ _ _) (m .before .pre .0), m .before .pre .1)
 
 level-run-requires-2 : tie.Need-level-run-requires-2
-level-run-requires-2 c κs = let m = c .before .before .before .before in (given-in (second m _ _ _) (m .before .pre .0), m .before .pre .1)
+level-run-requires-2 c κs = let m = c .before .before .before in (given-in (second m _ _ _) (m .before .pre .0), m .before .pre .1)
 
 level-run-requires-3 : tie.Need-level-run-requires-3
-level-run-requires-3 c κs = let m = c .before .before .before .before in (given-in (third m _ _ _) (m .before .pre .0), m .before .pre .1)
+level-run-requires-3 c κs = let m = c .before .before .before in (given-in (third m _ _ _) (m .before .pre .0), m .before .pre .1)
 
 same-length : tie.Need-same-length
 same-length c = search needs
@@ -34,7 +34,7 @@ same-length-3 : tie.Need-same-length-3
 same-length-3 c = search needs
 
 returns : tie.Need-returns
-returns c = let m = c .before .before .before .before .before .before in
+returns c = let m = c .before .before .before .before .before in
     stepped-in (first m _ _ _) (first m _ _ _) (c .before .level-run .ensures)
 
 same-length-4 : tie.Need-same-length-4
@@ -47,7 +47,7 @@ same-length-6 : tie.Need-same-length-6
 same-length-6 c = search needs
 
 returns-2 : tie.Need-returns-2
-returns-2 c = let m = c .before .before .before .before .before .before in
+returns-2 c = let m = c .before .before .before .before .before in
     stepped-in (second m _ _ _) (second m _ _ _) (c .before .level-run2 .ensures)
 
 same-length-7 : tie.Need-same-length-7
@@ -60,7 +60,7 @@ same-length-9 : tie.Need-same-length-9
 same-length-9 c = search needs
 
 returns-3 : tie.Need-returns-3
-returns-3 c = let m = c .before .before .before .before .before .before in
+returns-3 c = let m = c .before .before .before .before .before in
     stepped-in (third m _ _ _) (third m _ _ _) (c .before .level-run3 .ensures)
 
 pub step-in-roles-spec : {M : Type 1} → statement M

@@ -1,6 +1,8 @@
--- `carry_out` meets its contract: the run of the line's moving points, and one shape for both levels.
+-- `carry_out` meets its contract: the run of the line's moving points, and the older level's shape copied to the newer.
 use mathlib.Core.Path.{_≡_, sym, ap, ap₂, _∙_, subst}
-use Prim.Native.Nat.{ℕ}
+use mathlib.Core.List.{List}
+use Prim.Native.Nat.{_≤_}
+use native.Mathlib.Omega.{arith}
 use borrow.Author.Needs.{needs}
 use lib.IntN.{ℤ}
 use lib.ListN.{length}
@@ -8,10 +10,12 @@ use mir.Syntax.{w64}
 use mir.Val.{toZ, ofZ}
 use Rattle.bounded.proofs.Num.{back}
 use Rattle.scheme.specs.Lists.{tabulate}
+use Rattle.scheme.specs.Pluck.{pluckLevel}
+use Rattle.scheme.proofs.Laws.Lists.{length-tabulate}
 use Rattle.kinds.specs.declared.runs.Run.{Run}
 use Rattle.pluck.specs.declared.shape.Shape.{Shape}
 use Rattle.pluck.specs.Shapes.{Shaped, shapeAt}
-use Rattle.pluck.proofs.ShapeLaws.{shapeOf, shaped, older-is, newer-is}
+use Rattle.pluck.proofs.CallLaws.{shapeOf, shaped, run-in, as-long, level-is}
 use Rattle.pluck.proofs.call.carry_out.Statement.{statement}
 use Rattle.pluck.proofs.call.carry_out.Tie as tie
 
@@ -24,27 +28,49 @@ module _ (c : tie.After-movable-run) where
   height-is = back (s .args .height) (s .fits .height .sfits)
 
   -- the shape as the code makes it
-  abbrev made : Run → ℕ → ℤ → Shape
-  made r k z = record { run = r; centre = k; width = s .args .half-width; height = z }
+  abbrev made : Run → ℤ → Shape
+  made r z = record { run = r; centre = s .args .centre; width = s .args .half-width; height = z }
 
-  made-shaped : (r : Run) (k : ℕ) → Shaped (made r k (toZ w64 (ofZ w64 (s .args .height))))
-  made-shaped r k =
-      let a = s .args in
-      subst (λ (z : ℤ). Shaped (made r k z)) (sym height-is)
-      (shaped (a .g) (length (a .older .now)) (length (a .newer .now)) (a .centre) (a .half-width) (a .height) (s .pre .1) r k)
-
-  made-is : made (c .movable-run .result) (s .args .centre) (toZ w64 (ofZ w64 (s .args .height)))
+  made-is : made (c .movable-run .result) (toZ w64 (ofZ w64 (s .args .height)))
       ≡ shapeOf (s .args .g) (s .args .centre) (s .args .half-width) (s .args .height)
-  made-is = ap₂ (λ (r : Run) (z : ℤ). made r (s .args .centre) z) (c .movable-run .ensures) height-is
+  made-is = ap₂ made (c .movable-run .ensures) height-is
+
+module _ (c : tie.After-fill) where
+  abbrev m : tie.After-movable-run
+  m = c .before .before
+
+  abbrev older : List ℤ
+  older = s m .args .older .now
+
+  abbrev filled : List ℤ
+  filled = c .fill .last .1 .1 .0
+
+  filled-is : filled ≡ tabulate (length older) (shapeAt (s m .args .table .now)
+      (shapeOf (s m .args .g) (s m .args .centre) (s m .args .half-width) (s m .args .height)))
+  filled-is = c .fill .ensures ∙ ap (λ (x : Shape). tabulate (length older) (shapeAt (s m .args .table .now) x)) (made-is m)
+
+  older-is : filled ≡ pluckLevel (s m .args .table .now) (s m .args .g) (s m .args .centre) (s m .args .half-width) (s m .args .height)
+  older-is = filled-is ∙ level-is _ _ _ _ _ _ (s m .pre .1) _
 
 movable-run-requires : tie.Need-movable-run-requires
 movable-run-requires c κs = search needs
 
 fill-requires : tie.Need-fill-requires
-fill-requires c κs = (made-shaped (c .before) _ _, s (c .before) .pre .0)
+fill-requires c κs =
+    let a = s (c .before) .args in
+    let none = s (c .before) .pre .1 in (
+      subst (λ (x : Shape). Shaped x) (sym (made-is (c .before))) (shaped _ _ _ _ _ _ none),
+      s (c .before) .pre .0,
+      subst (λ (r : Run). r .to ≤ length (a .older .now)) (sym (c .before .movable-run .ensures)) (run-in _ _ _ _ _ _ none),
+    )
 
-fill-requires-2 : tie.Need-fill-requires-2
-fill-requires-2 c κs = let m = c .before .before .before .before in (made-shaped m _ _, s m .pre .0)
+copy-requires : tie.Need-copy-requires
+copy-requires c κs =
+    let f = c .before .before .before in
+    let a = s (m f) .args in
+    let l : length (filled f) ≡ length (a .newer .now) =
+    ap length (filled-is f) ∙ length-tabulate _ _ ∙ as-long _ _ _ _ _ _ (s (m f) .pre .1) in
+    omega arith
 
 same-length : tie.Need-same-length
 same-length c = search needs
@@ -54,18 +80,10 @@ same-length-2 c = search needs
 
 returns : tie.Need-returns
 returns c =
-    let f = c .before .before .before .before in
-    let m = f .before .before in
-    let a = s m .args in
-    let o = length (a .older .now) in
-    let n = length (a .newer .now) in (
-      f .fill .ensures ∙ ap (λ (x : Shape). tabulate o (shapeAt (a .table .now) x)) (made-is m) ∙
-          older-is (a .g) o n (a .centre) (a .half-width) (a .height) (s m .pre .1) (a .table .now),
-      c .before .fill2 .ensures ∙ ap (λ (x : Shape). tabulate n (shapeAt (a .table .now) x)) (made-is m) ∙
-          newer-is (a .g) o n (a .centre) (a .half-width) (a .height) (s m .pre .1) (a .table .now),
-    )
+    let f = c .before .before .before .before .before in
+    (older-is f, c .before .copy .ensures ∙ older-is f)
 
 pub carry-out-spec : {M : Type 1} → statement M
 carry-out-spec =
     tie.close
-    (tie.spec movable-run-requires fill-requires fill-requires-2 same-length same-length-2 returns)
+    (tie.spec movable-run-requires fill-requires copy-requires same-length same-length-2 returns)

@@ -4,7 +4,7 @@ use borrow.Author.Needs.{needs}
 use lib.IntN.{ℤ}
 use Rattle.bounded.proofs.Num.{back}
 use Rattle.scheme.specs.Refusals.{lowest, pluckChecks}
-use Rattle.pluck.proofs.ShapeLaws.{refusal-is}
+use Rattle.pluck.proofs.CallLaws.{refusal-is}
 use Rattle.pluck.proofs.call.refusal_of.Statement.{statement}
 use Rattle.pluck.proofs.call.refusal_of.Tie as tie
 

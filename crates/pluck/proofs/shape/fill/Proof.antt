@@ -1,48 +1,81 @@
--- `fill` meets its contract: the points passed have the shape.
-use mathlib.Core.Path.{refl, _∙_}
-use Prim.Native.Nat.{_-_}
+-- `fill` meets its contract: the points nearer than the distance reached have the shape, the others 0.
+use mathlib.Core.Path.{_≡_, refl, sym, ap, _∙_, subst}
+use mathlib.Core.List.{List}
+use Prim.Native.Nat.{ℕ, _+_, _-_}
 use native.Mathlib.Omega.{arith}
 use borrow.Author.Needs.{needs}
+use lib.IntN.{ℤ}
 use lib.ListN.{length}
 use Rattle.bounded.proofs.Num.{back}
-use Rattle.pluck.specs.Shapes.{shapeAt, Filled}
-use Rattle.pluck.proofs.ShapeLaws.{filled-none, filled-more, filled-all}
+use Rattle.scheme.specs.Lists.{tabulate}
+use Rattle.scheme.proofs.Laws.Lists.{length-tabulate}
+use Rattle.pluck.specs.Shapes.{shapeAt, Raised}
+use Rattle.pluck.proofs.ShapeLaws.{raised-none, raised-more, raised-all}
 use Rattle.pluck.proofs.shape.fill.Statement.{statement}
 use Rattle.pluck.proofs.shape.fill.Tie as tie
 
 abbrev Inv-loop : tie.InvT-loop
-Inv-loop shape table level₀ k₀ level k = Filled (length level₀) (shapeAt table shape) level k
+Inv-loop shape table level₀ step d₀ level d = Raised (length level₀) (shape .centre) (shapeAt table shape) level d
 
 abbrev μ-loop : tie.MeasureT-loop
-μ-loop shape table level₀ k₀ level k = length level₀ - k
+μ-loop shape table level₀ step d₀ level d = shape .width + 1 - d
+
+module _ (c : tie.At-loop Inv-loop μ-loop) where
+  abbrev s : tie.Start Inv-loop μ-loop
+  s = c .before .before .before .before .before .before
+
+  abbrev cleared : List ℤ
+  cleared = c .before .before .before .clear .last .0
+
+  as-long : length cleared ≡ length (s .args .level .now)
+  as-long = ap length (c .before .before .before .clear .ensures) ∙ length-tabulate _ _
+
+clear-requires : tie.Need-clear-requires Inv-loop μ-loop
+clear-requires c κs = search needs
+
+step-of-requires : tie.Need-step-of-requires Inv-loop μ-loop
+step-of-requires c κs = search needs
 
 loop-holds : tie.Need-loop-holds Inv-loop μ-loop
-loop-holds c = filled-none _ _ refl
+loop-holds c = raised-none _ _ (c .before .before .before .before .before .pre .0) _ _ refl (c .before .before .clear .ensures)
 
-value-at-requires : tie.Need-value-at-requires Inv-loop μ-loop
-value-at-requires c κs = search needs
+value-requires : tie.Need-value-requires Inv-loop μ-loop
+value-requires c κs =
+    let l = c .before .before in
+    (s l .pre .0, s l .pre .1, l .before .step-of .ensures, omega (arith, c .if1 .taken))
 
-mul-t5 : tie.Need-mul-t5 Inv-loop μ-loop
-mul-t5 c = search needs
+put-requires : tie.Need-put-requires Inv-loop μ-loop
+put-requires c κs =
+    let l = c .before .before .before .before in
+    (s l .pre .0, omega (arith, s l .pre .2, l .loop .inv .long, as-long l))
 
-slice-set-from-level : tie.Need-slice-set-from-level Inv-loop μ-loop
-slice-set-from-level c = search needs
-
-add-point : tie.Need-add-point Inv-loop μ-loop
-add-point c = search needs
+add-d : tie.Need-add-d Inv-loop μ-loop
+add-d c =
+    let t = c .before .before .before .before in
+    omega (arith, t .if1 .taken, s (t .before .before) .pre .0 .narrow)
 
 loop-less : tie.Need-loop-less Inv-loop μ-loop
-loop-less c = search needs
+loop-less c = omega (arith, c .before .before .before .before .if1 .taken)
 
 loop-again : tie.Need-loop-again Inv-loop μ-loop
 loop-again c =
-    filled-more _ _ (omega arith) (c .before .before .loop .inv) (back (c .value-at .result) (c .value-at .ok) ∙ c .value-at .ensures)
+    let t = c .before .before .before .before in
+    let l = t .before .before in
+    let v = c .before .before .before .value in
+    let a = s l .args in
+    subst (λ (xs : List ℤ). Raised (length (cleared l)) (a .shape .centre) (shapeAt (a .table .now) (a .shape)) xs (l .loop .d + 1))
+    (sym (c .before .put .ensures))
+    (raised-more _ _ (s l .pre .0) _ _ _ _ (l .loop .inv) (t .if1 .taken) (back (v .result) (v .ok) ∙ v .ensures))
 
 same-length : tie.Need-same-length Inv-loop μ-loop
-same-length c = search needs
+same-length c = let l = c .before .before in l .loop .inv .long ∙ as-long l
 
 returns : tie.Need-returns Inv-loop μ-loop
-returns c = filled-all _ _ (omega arith) (c .before .loop .inv)
+returns c =
+    let l = c .before .before in
+    let a = s l .args in
+    raised-all _ _ (s l .pre .0) _ (c .if1 .left) (l .loop .inv) ∙
+    ap (λ (n : ℕ). tabulate n (shapeAt (a .table .now) (a .shape))) (as-long l)
 
 pub fill-spec : {M : Type 1} → statement M
 fill-spec =
@@ -50,11 +83,12 @@ fill-spec =
     (tie.spec
     Inv-loop
     μ-loop
+    clear-requires
+    step-of-requires
     loop-holds
-    value-at-requires
-    mul-t5
-    slice-set-from-level
-    add-point
+    value-requires
+    put-requires
+    add-d
     loop-less
     loop-again
     same-length

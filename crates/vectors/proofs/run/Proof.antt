@@ -1,0 +1,148 @@
+-- `run` is safe and ends: the measure is what is left of the text.
+use mathlib.Core.Path.{_≡_, sym, ap, _∙_}
+use mathlib.Core.List.{List, _++_}
+use Prim.Native.Nat.{ℕ, _≤_, _+_, _-_}
+use native.Mathlib.Omega.{arith}
+use lib.IntN.{ℤ}
+use lib.ListN.{length, take, drop, length-append, take-append-drop}
+use lib.Seq.{length-take-le}
+use Rattle.vectors.specs.Lent.{LentIn}
+use borrow.Author.Needs.{needs}
+use Rattle.vectors.proofs.run.Statement.{statement}
+use Rattle.vectors.proofs.run.Tie as tie
+
+abbrev Inv-loop : tie.InvT-loop
+Inv-loop path text record₀ older₀ newer₀ work₀ samples₀ lent₀ tally₀ at₀ «record» older newer work samples lent tally at =
+    LentIn lent
+    × (length older ≡ 4100)
+    × (length newer ≡ 4100)
+    × (length work ≡ 4100)
+    × (length samples ≡ 4100)
+
+abbrev μ-loop : tie.MeasureT-loop
+μ-loop path text record₀ older₀ newer₀ work₀ samples₀ lent₀ tally₀ at₀ «record» older newer work samples lent tally at =
+    length text - at
+
+-- a lent prefix has the length in which it is lent
+prefix : (xs : List ℤ) (k : ℕ) → length xs ≡ 4100 → k ≤ 4100 → k ≡ length (take k xs)
+prefix xs k e h = sym (length-take-le k xs (omega (arith, e, h)))
+
+-- and the buffer its own length when the prefix is back
+back : (xs ys : List ℤ) (k : ℕ) → length xs ≡ 4100 → length ys ≡ length (take k xs) → length (ys ++ drop k xs) ≡ 4100
+back xs ys k e h =
+    length-append ys (drop k xs)
+    ∙ ap (λ (n : ℕ). n + length (drop k xs)) h
+    ∙ sym (length-append (take k xs) (drop k xs))
+    ∙ ap length (take-append-drop k xs)
+    ∙ e
+
+new-requires : tie.Need-new-requires Inv-loop μ-loop
+new-requires c κs = search needs
+
+new-requires-2 : tie.Need-new-requires-2 Inv-loop μ-loop
+new-requires-2 c κs = search needs
+
+loop-holds : tie.Need-loop-holds Inv-loop μ-loop
+loop-holds c = search needs
+
+next-record-requires : tie.Need-next-record-requires Inv-loop μ-loop
+next-record-requires c κs = search needs
+
+after-requires : tie.Need-after-requires Inv-loop μ-loop
+after-requires c κs = search needs
+
+array-borrow-prefix-older : tie.Need-array-borrow-prefix-older Inv-loop μ-loop
+array-borrow-prefix-older c = search needs
+
+slice-aggregate-agrees : tie.Need-slice-aggregate-agrees Inv-loop μ-loop
+slice-aggregate-agrees c =
+    let a = c .before .before in
+    prefix _ _ (a .before .before .before .before .before .loop .inv .1) (a .after .ensures .older-lent)
+
+array-borrow-prefix-newer : tie.Need-array-borrow-prefix-newer Inv-loop μ-loop
+array-borrow-prefix-newer c = search needs
+
+slice-aggregate-agrees-2 : tie.Need-slice-aggregate-agrees-2 Inv-loop μ-loop
+slice-aggregate-agrees-2 c =
+    let a = c .before .before .before in
+    prefix _ _ (a .before .before .before .before .before .loop .inv .2) (a .after .ensures .newer-lent)
+
+array-borrow-prefix-work : tie.Need-array-borrow-prefix-work Inv-loop μ-loop
+array-borrow-prefix-work c = search needs
+
+slice-aggregate-agrees-3 : tie.Need-slice-aggregate-agrees-3 Inv-loop μ-loop
+slice-aggregate-agrees-3 c =
+    let a = c .before .before .before .before in
+    prefix _ _ (a .before .before .before .before .before .loop .inv .3) (a .after .ensures .work-lent)
+
+array-borrow-prefix-samples : tie.Need-array-borrow-prefix-samples Inv-loop μ-loop
+array-borrow-prefix-samples c = search needs
+
+slice-aggregate-agrees-4 : tie.Need-slice-aggregate-agrees-4 Inv-loop μ-loop
+slice-aggregate-agrees-4 c =
+    let a = c .before .before .before .before .before in
+    prefix _ _ (a .before .before .before .before .before .loop .inv .4) (a .after .ensures .samples-lent)
+
+agrees-requires : tie.Need-agrees-requires Inv-loop μ-loop
+agrees-requires c κs = search needs
+
+array-read-record : tie.Need-array-read-record Inv-loop μ-loop
+array-read-record c = search needs
+
+record-requires : tie.Need-record-requires Inv-loop μ-loop
+record-requires c κs = search needs
+
+loop-less : tie.Need-loop-less Inv-loop μ-loop
+loop-less c = search needs
+
+loop-again : tie.Need-loop-again Inv-loop μ-loop
+loop-again c =
+    let o = c .before .before .before .before in
+    let ys = o .before .agrees .last in
+    let a = o .before .before .before .before .before .before .before in
+    let l = a .before .before .before .before .before .loop in
+    let n = a .after .result in
+    (
+      a .after .ensures,
+      back (l .older) (ys .1 .0) (n .older) (l .inv .1) (o .older2 .given),
+      back (l .newer) (ys .1 .1 .0) (n .newer) (l .inv .2) (c .before .before .before .newer2 .given),
+      back (l .work) (ys .1 .1 .1 .0) (n .work) (l .inv .3) (c .before .before .work2 .given),
+      back (l .samples) (ys .1 .1 .1 .1 .0) (n .samples) (l .inv .4) (c .before .samples2 .given),
+    )
+
+array-read-report : tie.Need-array-read-report Inv-loop μ-loop
+array-read-report c = search needs
+
+report-requires : tie.Need-report-requires Inv-loop μ-loop
+report-requires c κs = search needs
+
+returns : tie.Need-returns Inv-loop μ-loop
+returns c = search needs
+
+pub run-spec : {M : Type 1} → statement M
+run-spec =
+    tie.close
+    (tie.spec
+    Inv-loop
+    μ-loop
+    new-requires
+    new-requires-2
+    loop-holds
+    next-record-requires
+    after-requires
+    array-borrow-prefix-older
+    slice-aggregate-agrees
+    array-borrow-prefix-newer
+    slice-aggregate-agrees-2
+    array-borrow-prefix-work
+    slice-aggregate-agrees-3
+    array-borrow-prefix-samples
+    slice-aggregate-agrees-4
+    agrees-requires
+    array-read-record
+    record-requires
+    loop-less
+    loop-again
+    array-read-report
+    report-requires
+    returns)
