@@ -4,8 +4,8 @@ use mathlib.Core.Bool.{Bool, not, _&&_, cond}
 use Prim.Native.Nat.{ℕ, _+_, _-_}
 use lib.Dec.{leb, ltb, eqb}
 use Rattle.scheme.specs.declared.Grid.{Grid}
-use Rattle.scheme.specs.Instruments.{Kind, unknown, fixedString, halfFreeString, freeString, bar, membrane, roundMembrane, kindOf, kind, points}
-use Rattle.scheme.specs.Instruments.{inTable, atEdge, roundEdge}
+use Rattle.scheme.specs.Instruments.{Kind, unknown, fixedString, halfFreeString, freeString, bar, membrane, roundMembrane, kindOf}
+use Rattle.scheme.specs.Instruments.{kind, points, inTable, atEdge, roundEdge}
 use Rattle.kinds.specs.declared.runs.Run.{Run}
 use Rattle.kinds.specs.Search.{leading}
 

@@ -33,14 +33,14 @@ fn is_round_edge(c: usize, a: usize, b: usize) -> bool
 fn is_on_square(c: usize, a: usize, b: usize) -> bool
     ensures { λ r. ⌜ r ≡ onSquare c a b ⌝ }
 {
-    if c <= 64 {
-        return if a < c { b < c } else { false };
+    if 64 < c {
+        return false;
     }
-    false
+    if a < c { b < c } else { false }
 }
 
 // Whether column a of row b is a fixed point of a round membrane of c columns, of 64 at most.
-// Ruled out: > for ≥ at the round edge; a point that is not on the membrane.
+// Ruled out: > for ≥ at the round edge; a column past the last.
 pub fn is_round_fixed(c: usize, a: usize, b: usize) -> bool
     ensures { λ r. ⌜ r ≡ (onSquare c a b && roundEdge c a b) ⌝ }
 {

@@ -1,8 +1,8 @@
 -- A row of a round membrane from both of its ends.
-use mathlib.Core.Path.{_≡_, refl, sym, ap, _∙_, subst}
-use mathlib.Core.Bool.{Bool, true, false, not, _&&_, _||_, and-false, true≢false}
+use mathlib.Core.Path.{_≡_, refl, sym, ap, _∙_}
+use mathlib.Core.Bool.{Bool, true, false, not, _&&_, and-false, true≢false}
 use mathlib.Core.List.{List}
-use Prim.Native.Nat.{ℕ, zero, suc, _+_, _-_, _^_, _≤_, _<_}
+use Prim.Native.Nat.{ℕ, suc, _+_, _-_, _^_, _≤_, _<_}
 use native.Mathlib.Omega.{arith}
 use borrow.Author.Tests.{ltb-true, ltb-false, not-true}
 use lib.Bits.{bitOr, or-comm, or-add-and, and-le-r}
@@ -12,7 +12,7 @@ use lib.Signed.{mag}
 use mir.Syntax.{w64}
 use mir.Val.{ofZ}
 use Rattle.scheme.specs.Instruments.{roundEdge}
-use Rattle.scheme.proofs.Laws.Bools.{and-both, and-yes, and-no, or-no, cases, not-so}
+use Rattle.scheme.proofs.Laws.Bools.{and-both, and-yes, and-no, cases, not-so}
 use Rattle.scheme.proofs.Laws.Lists.{some-at, none-below}
 use Rattle.kinds.specs.Search.{Passed}
 use Rattle.kinds.proofs.RoundLaws.{offset-mirror, edge-inward}
@@ -64,7 +64,8 @@ module _ (xs : List ℤ) (s c b : ℕ) where
       zeros i h = and-both (not (notZero xs (s + i))) (not (notZero xs (s + (c - 1 - i)))) (and-both (roundEdge c i b) _ (p .each i h) .1)
 
       at-zero : (i j : ℕ) → i ≡ j → not (notZero xs (s + i)) ≡ true → (roundEdge c j b && notZero xs (s + j)) ≡ false
-      at-zero i j e z = ap (λ (t : Bool). roundEdge c j b && t) (ap (λ (n : ℕ). notZero xs (s + n)) (sym e) ∙ not-true (notZero xs (s + i)) z)
+      at-zero i j e z =
+          ap (λ (t : Bool). roundEdge c j b && t) (ap (λ (n : ℕ). notZero xs (s + n)) (sym e) ∙ not-true (notZero xs (s + i)) z)
           ∙ and-false (roundEdge c j b)
 
       from-left : (i : ℕ) → i < k → (roundEdge c i b && notZero xs (s + i)) ≡ false

@@ -140,7 +140,8 @@ fn rows_not_zero(g: Grid, xs: &[i64]) -> bool
 }
 
 // 12, of a level as long as a grid whose size the table has; of any other the answer is no.
-// Ruled out: a run's first columns looked at in place of those after it; as many rows looked at as there are columns.
+// Ruled out: a run's first columns looked at in place of those after it; as many rows looked at as there are columns;
+// the right of a round membrane's row by its row.
 pub fn is_unfixed(g: Grid, xs: &[i64]) -> bool
     ensures { λ r. ⌜ r ≡ unfixed g (now (xs .entry)) ⌝ }
 {

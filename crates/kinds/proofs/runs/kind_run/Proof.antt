@@ -1,5 +1,5 @@
 -- `kind_run` meets its contract: a round membrane apart from the others.
-use mathlib.Core.Path.{_≡_, sym, ap, _∙_}
+use mathlib.Core.Path.{sym, ap, _∙_}
 use native.Mathlib.Omega.{arith}
 use Rattle.scheme.specs.Instruments.{Kind, roundMembrane, sizeIn}
 use Rattle.scheme.proofs.Laws.Kinds.{sized}

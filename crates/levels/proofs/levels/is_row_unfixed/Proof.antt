@@ -17,7 +17,8 @@ round-not-zero-requires : tie.Need-round-not-zero-requires
 round-not-zero-requires c κs =
     let s = c .before in
     let g = s .args .g in
-    let w = round-size (g .columns) (g .rows) (ap (λ (K : Kind). sizeIn K (g .columns) (g .rows)) (sym (kind-is roundMembrane (c .if1 .taken))) ∙ s .pre .0) in
+    let round = sym (kind-is roundMembrane (c .if1 .taken)) in
+    let w = round-size (g .columns) (g .rows) (ap (λ (K : Kind). sizeIn K (g .columns) (g .rows)) round ∙ s .pre .0) in
     (w .0, omega (arith, w .1, s .pre .1), s .pre .3)
 
 returns : tie.Need-returns

@@ -94,7 +94,8 @@ returns-2 k =
     let t = o .before in
     let e = edge t (not-false _ (o .if1 .left)) in
     sym (one-not-zero (left t) (right t) (roundNotZero (xs t) (s t) (c t) (b t) ≡ true)
-    (left-found (xs t) (s t) (c t) (b t) (a t) (search needs) e) (right-found (xs t) (s t) (c t) (b t) (a t) (search needs) e) (k .if2 .taken))
+    (left-found (xs t) (s t) (c t) (b t) (a t) (search needs) e) (right-found (xs t) (s t) (c t) (b t) (a t) (search needs) e)
+    (k .if2 .taken))
 
 add-a : tie.Need-add-a Inv-loop μ-loop
 add-a c = search needs
@@ -106,7 +107,8 @@ loop-again : tie.Need-loop-again Inv-loop μ-loop
 loop-again k =
     let o = k .before .before .before in
     let t = o .before in
-    passed-more _ _ (search needs) (t .before .before .loop .inv) (clear-is (xs t) (s t) (c t) (b t) (a t) (edge t (not-false _ (o .if1 .left)))
+    passed-more _ _ (search needs) (t .before .before .loop .inv)
+    (clear-is (xs t) (s t) (c t) (b t) (a t) (edge t (not-false _ (o .if1 .left)))
     (both-zero (left t) (right t) (k .before .before .if22 .given) (k .before .if23 .given) (k .if2 .left)))
 
 returns-3 : tie.Need-returns-3 Inv-loop μ-loop
