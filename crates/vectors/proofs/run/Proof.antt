@@ -98,8 +98,7 @@ loop-again c =
     let ys = o .before .agrees .last in
     let a = o .before .before .before .before .before .before .before in
     let l = a .before .before .before .before .before .loop in
-    let n = a .after .result in
-    (
+    let n = a .after .result in (
       a .after .ensures,
       back (l .older) (ys .1 .1 .0) (n .older) (l .inv .1) (o .older2 .given),
       back (l .newer) (ys .1 .1 .1 .0) (n .newer) (l .inv .2) (c .before .before .before .newer2 .given),
