@@ -1,20 +1,23 @@
 // The moving columns of every row: worked out once, for all the steps of a block.
+ghost use mathlib.Core.Path.{_≡_};
+ghost use mathlib.Core.Bool.{true};
 ghost use Prim.Native.Nat.{_≤_};
 ghost use lib.ListN.{length};
+ghost use Rattle.scheme.specs.Instruments.{inTable};
 ghost use Rattle.block.specs.Edges.{EdgesOf};
-use kinds::movable_run;
+use kinds::row_run;
 use scheme::Grid;
 
 // For each row its first moving column, and the column after its last.
 // Ruled out: every row taken as the first.
 pub(crate) fn row_edges(g: Grid, from: &mut [usize], to: &mut [usize])
-    requires { ⌜ (g .rows ≤ length (now from)) × (g .rows ≤ length (now to)) ⌝ }
+    requires { ⌜ (inTable g ≡ true) × (g .rows ≤ length (now from)) × (g .rows ≤ length (now to)) ⌝ }
     ensures { λ _. ⌜ EdgesOf g (now (from .exit)) (now (to .exit)) ⌝ }
 {
     let rows = g.rows;
     let mut row = 0;
     while row < rows {
-        let run = movable_run(g, row);
+        let run = row_run(g.kind, g.columns, rows, row);
         from[row] = run.from;
         to[row] = run.to;
         row += 1;

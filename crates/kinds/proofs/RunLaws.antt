@@ -4,8 +4,9 @@ use mathlib.Core.Bool.{Bool, true, false, not, _&&_, _||_, and-false, Bool·not-
 use mathlib.Core.Logic.{_⊎_, inl, inr}
 use Prim.Native.Nat.{ℕ, zero, suc, _+_, _-_, _*_, _/_, _%_, _≤_, _<_, zero-le}
 use native.Mathlib.Nat.{mul-comm, mod-lt, div-add-mod', le-div-iff-mul-le, div-lt-iff-lt-mul}
+use native.Mathlib.Decide.{ℕ-discrete}
 use native.Mathlib.Omega.{arith}
-use borrow.Author.Tests.{ltb-true, ltb-false, leb-true, leb-false, eqb-false, lt-ltb, le-ltb, le-leb, ne-eqb, not-true}
+use borrow.Author.Tests.{ltb-true, ltb-false, leb-true, leb-false, eqb-false, lt-ltb, le-ltb, le-leb, eq-eqb, ne-eqb, not-true}
 use lib.Arith.{digits-lt, digits-div, digits-mod}
 use lib.Dec.{ltb, leb, eqb, leb·zero, eqb·suc-zero}
 use Rattle.integers.proofs.Order.{≤-totalℕ}
@@ -16,8 +17,8 @@ use Rattle.scheme.proofs.Laws.Bools.{and-both, and-yes, and-no, or-no, not-so, 
 use Rattle.scheme.proofs.Laws.Kinds.{Sized, sized}
 use Rattle.kinds.specs.declared.runs.Run.{Run}
 use Rattle.kinds.specs.Search.{leading}
-use Rattle.kinds.specs.Runs.{run, inRun, innerRun, roundRun, runIn, straightRun, runOf}
-use Rattle.kinds.proofs.KindLaws.{kind-is, kind-none}
+use Rattle.kinds.specs.Runs.{run, inRun, innerRun, onSquare, roundRun, runIn, straightRun, rowRun, runOf}
+use Rattle.kinds.proofs.KindLaws.{kind-is, kind-none, round-size}
 use Rattle.kinds.proofs.RoundLaws.{offset-mirror, edge-inward}
 use Rattle.kinds.proofs.SearchLaws.{leading-passed, leading-stops}
 
@@ -229,3 +230,26 @@ pub run-bounds : (g : Grid) (b : ℕ) → RunIn (g .columns) (runOf g b)
 unfolding runOf
 run-bounds g b = run-cond (g .columns) (inTable g && ltb b (g .rows)) (runIn (kind g) (g .columns) (g .rows) b) (run 0 0)
     (λ e. run-in (kind g) (g .columns) (g .rows) b (sized (kind g) (g .columns) (g .rows) (and-both _ _ e .0))) (run-none (g .columns))
+
+-- ---- by the number of a kind
+
+-- a round membrane apart from the others
+pub row-is : (g : Grid) (b : ℕ) → inTable g ≡ true → b < g .rows → rowRun (g .kind) (g .columns) (g .rows) b ≡ runOf g b
+unfolding runIn
+row-is g b size h = go (ℕ-discrete (g .kind) 6) ∙ sym (run-is g b size h)
+  where
+    go : Dec (g .kind ≡ 6) → rowRun (g .kind) (g .columns) (g .rows) b ≡ runIn (kind g) (g .columns) (g .rows) b
+    go (yes e) =
+        let K = kind-is roundMembrane e in
+        let s = round-size (g .columns) (g .rows) (ap (λ (K : Kind). sizeIn K (g .columns) (g .rows)) (sym K) ∙ size) in
+        let on : onSquare (g .columns) 0 b ≡ true =
+        and-yes (le-leb (g .columns) 64 (s .0)) ∙ and-yes (lt-ltb 0 (g .columns) (omega (arith, s .1))) ∙
+        lt-ltb b (g .columns) (omega (arith, s .1)) in
+        ap (λ (t : Bool). cond t (cond (onSquare (g .columns) 0 b) (roundRun (g .columns) b) (run 0 0))
+        (straightRun (g .kind) (g .columns) (g .rows) b)) (eq-eqb (g .kind) 6 e) ∙
+        ap (λ (t : Bool). cond t (roundRun (g .columns) b) (run 0 0)) on ∙
+        sym (ap (λ (K : Kind). runIn K (g .columns) (g .rows) b) K)
+    go (no n) =
+        ap (λ (t : Bool). cond t (cond (onSquare (g .columns) 0 b) (roundRun (g .columns) b) (run 0 0))
+        (straightRun (g .kind) (g .columns) (g .rows) b)) (ne-eqb (g .kind) 6 n) ∙
+        straight-is _ _ _ _ (omega (arith, sized _ _ _ size .columns-low)) h n

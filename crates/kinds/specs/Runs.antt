@@ -49,6 +49,10 @@ runIn roundMembrane c r b = roundRun c b
 unfoldable pub straightRun : ℕ → ℕ → ℕ → ℕ → Run
 straightRun k c r b = cond (ltb 0 c && (ltb b r && not (eqb k 6))) (runIn (kindOf k) c r b) (run 0 0)
 
+-- the same of every kind: in a round membrane of 64 columns at most, and a row of it (`row-is`: of a grid of the table, its moving columns)
+abbrev pub rowRun : ℕ → ℕ → ℕ → ℕ → Run
+rowRun k c r b = cond (eqb k 6) (cond (onSquare c 0 b) (roundRun c b) (run 0 0)) (straightRun k c r b)
+
 -- the moving columns of a row (`moving-run`): none in a grid whose size the table does not have, or in a row that the grid does not have
 unfoldable pub runOf : Grid → ℕ → Run
 runOf g b = cond (inTable g && ltb b (g .rows)) (runIn (kind g) (g .columns) (g .rows) b) (run 0 0)

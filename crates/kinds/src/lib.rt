@@ -6,6 +6,7 @@ pub use runs::Run;
 pub use runs::is_moving;
 pub use runs::is_round_fixed;
 pub use runs::movable_run;
+pub use runs::row_run;
 pub use runs::straight_run;
 pub use sizes::has_size;
 pub use sizes::is_stable;

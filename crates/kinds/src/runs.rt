@@ -1,9 +1,9 @@
 // Fixed or moving: the moving columns of each row, by a match over the kind number.
 ghost use mathlib.Core.Path.{_≡_};
-ghost use mathlib.Core.Bool.{true, _&&_};
+ghost use mathlib.Core.Bool.{_&&_};
 ghost use Prim.Native.Nat.{_≤_, _<_};
-ghost use Rattle.scheme.specs.Instruments.{kindOf, sizeIn, inTable, moving, roundEdge};
-ghost use Rattle.kinds.specs.Runs.{inRun, innerRun, onSquare, roundRun, runIn, straightRun, runOf, apart};
+ghost use Rattle.scheme.specs.Instruments.{inTable, moving, roundEdge};
+ghost use Rattle.kinds.specs.Runs.{inRun, innerRun, onSquare, roundRun, rowRun, straightRun, runOf, apart};
 use crate::sizes::has_size;
 use scheme::Grid;
 
@@ -101,15 +101,18 @@ pub fn straight_run(kind: u64, c: usize, r: usize, b: usize) -> Run
     }
 }
 
-// Row b of c columns and r rows, a size that the table has for the kind.
-fn kind_run(kind: u64, c: usize, r: usize, b: usize) -> Run
-    requires { ⌜ (sizeIn (kindOf kind) c r ≡ true) × (b < r) ⌝ }
-    ensures { λ x. ⌜ x ≡ runIn (kindOf kind) c r b ⌝ }
+// Row b of c columns and r rows of a kind, whatever its size: that of a grid of the table, which is not tested for again.
+// Ruled out: kind 5 taken as the round one; the rows taken for the columns.
+pub fn row_run(kind: u64, c: usize, r: usize, b: usize) -> Run
+    ensures { λ x. ⌜ x ≡ rowRun kind c r b ⌝ }
 {
-    if kind == 6 {
+    if kind != 6 {
+        return straight_run(kind, c, r, b);
+    }
+    if is_on_square(c, 0, b) {
         return round_run(c, b);
     }
-    straight_run(kind, c, r, b)
+    Run { from: 0, to: 0 }
 }
 
 // The moving columns of a row; none where the table does not have the grid's size, or the grid does not have the row.
@@ -123,7 +126,7 @@ pub fn movable_run(g: Grid, row: usize) -> Run
     if g.rows <= row {
         return Run { from: 0, to: 0 };
     }
-    kind_run(g.kind, g.columns, g.rows, row)
+    row_run(g.kind, g.columns, g.rows, row)
 }
 
 fn is_in(run: Run, a: usize) -> bool

@@ -59,7 +59,10 @@ slice-aggregate-row-edges-2 : tie.Need-slice-aggregate-row-edges-2
 slice-aggregate-row-edges-2 c = search needs
 
 row-edges-requires : tie.Need-row-edges-requires
-row-edges-requires c κs = let few = few-rows (c .before .before .make-plan .ensures .1) in (few, few)
+row-edges-requires c κs =
+    let plan = c .before .before .make-plan .ensures .1 in
+    let few = few-rows plan in
+    (plan .passes .size, few, few)
 
 clear-requires : tie.Need-clear-requires
 clear-requires c κs = search needs

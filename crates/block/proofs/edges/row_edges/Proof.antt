@@ -7,6 +7,7 @@ use borrow.Author.Count.{below-none, below-more}
 use lib.ListN.{length, length-set}
 use lib.Seq.{getD-set-same, getD-set-other}
 use Rattle.kinds.specs.Runs.{run, runOf}
+use Rattle.kinds.proofs.RunLaws.{row-is}
 use Rattle.block.specs.Edges.{runAt}
 use Rattle.block.proofs.edges.row_edges.Statement.{statement}
 use Rattle.block.proofs.edges.row_edges.Tie as tie
@@ -22,8 +23,8 @@ abbrev μ-loop : tie.MeasureT-loop
 loop-holds : tie.Need-loop-holds Inv-loop μ-loop
 loop-holds c = (search needs, refl, refl, below-none _)
 
-movable-run-requires : tie.Need-movable-run-requires Inv-loop μ-loop
-movable-run-requires c κs = search needs
+row-run-requires : tie.Need-row-run-requires Inv-loop μ-loop
+row-run-requires c κs = search needs
 
 mul-from : tie.Need-mul-from Inv-loop μ-loop
 mul-from c = search needs
@@ -53,7 +54,7 @@ loop-again c =
           (λ b h. ap₂ run (getD-set-other (l .from) (l .row) b _ 0 (λ e. omega arith))
           (getD-set-other (l .to) (l .row) b _ 0 (λ e. omega arith)) ∙ l .inv .3 b h)
           (ap₂ run (getD-set-same (l .from) (l .row) _ 0 (omega arith)) (getD-set-same (l .to) (l .row) _ 0 (omega arith))
-          ∙ c .movable-run .ensures),
+          ∙ c .row-run .ensures ∙ row-is _ _ (c .before .before .before .before .before .pre .0) (omega arith)),
     )
 
 same-length : tie.Need-same-length Inv-loop μ-loop
@@ -72,7 +73,7 @@ row-edges-spec =
     Inv-loop
     μ-loop
     loop-holds
-    movable-run-requires
+    row-run-requires
     mul-from
     slice-write-from
     mul-to
