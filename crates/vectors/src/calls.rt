@@ -46,7 +46,10 @@ fn block_agrees(
 ) -> bool {
     let instrument = instrument_in(n);
     let hit = hit_in(n);
-    is_block(n, block(instrument, older, newer, work, samples, n.n7 as usize, hit))
+    is_block(
+        n,
+        block(instrument, older, newer, work, samples, n.n7 as usize, hit),
+    )
 }
 
 // 4 kind columns rows centre halfwidth height refusal

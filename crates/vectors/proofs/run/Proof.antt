@@ -11,15 +11,18 @@ use Rattle.vectors.proofs.run.Statement.{statement}
 use Rattle.vectors.proofs.run.Tie as tie
 
 abbrev Inv-loop : tie.InvT-loop
-Inv-loop path text record₀ older₀ newer₀ work₀ samples₀ lent₀ tally₀ opcode₀ at₀ «record» older newer work samples lent tally opcode at =
+Inv-loop _ _ _ _ _ _ _ _ _ _ _ _ older newer work samples _ _ _ _ =
     (length older ≡ 4100)
     × (length newer ≡ 4100)
     × (length work ≡ 4100)
     × (length samples ≡ 4100)
 
 abbrev μ-loop : tie.MeasureT-loop
-μ-loop path text record₀ older₀ newer₀ work₀ samples₀ lent₀ tally₀ opcode₀ at₀ «record» older newer work samples lent tally opcode at =
-    length text - at
+μ-loop _ text _ _ _ _ _ _ _ _ _ _ _ _ _ _ _ _ _ at = length text - at
+
+-- the turn of the loop in which the lengths were cut
+abbrev turn : tie.After-least4 Inv-loop μ-loop → tie.At-loop Inv-loop μ-loop
+turn l = l .before .before .before .before .before .before .before .before .before
 
 -- a lent prefix has the length in which it is lent
 prefix : (xs : List ℤ) (k : ℕ) → length xs ≡ 4100 → k ≤ 4100 → k ≡ length (take k xs)
@@ -67,7 +70,7 @@ array-borrow-prefix-older c = search needs
 slice-aggregate-agrees : tie.Need-slice-aggregate-agrees Inv-loop μ-loop
 slice-aggregate-agrees c =
     let l = c .before .before in
-    prefix _ _ (l .before .before .before .before .before .before .before .before .before .loop .inv .0) (l .before .before .before .least .ensures .1)
+    prefix _ _ (turn l .loop .inv .0) (l .before .before .before .least .ensures .1)
 
 array-borrow-prefix-newer : tie.Need-array-borrow-prefix-newer Inv-loop μ-loop
 array-borrow-prefix-newer c = search needs
@@ -75,7 +78,7 @@ array-borrow-prefix-newer c = search needs
 slice-aggregate-agrees-2 : tie.Need-slice-aggregate-agrees-2 Inv-loop μ-loop
 slice-aggregate-agrees-2 c =
     let l = c .before .before .before in
-    prefix _ _ (l .before .before .before .before .before .before .before .before .before .loop .inv .1) (l .before .before .least2 .ensures .1)
+    prefix _ _ (turn l .loop .inv .1) (l .before .before .least2 .ensures .1)
 
 array-borrow-prefix-work : tie.Need-array-borrow-prefix-work Inv-loop μ-loop
 array-borrow-prefix-work c = search needs
@@ -83,7 +86,7 @@ array-borrow-prefix-work c = search needs
 slice-aggregate-agrees-3 : tie.Need-slice-aggregate-agrees-3 Inv-loop μ-loop
 slice-aggregate-agrees-3 c =
     let l = c .before .before .before .before in
-    prefix _ _ (l .before .before .before .before .before .before .before .before .before .loop .inv .2) (l .before .least3 .ensures .1)
+    prefix _ _ (turn l .loop .inv .2) (l .before .least3 .ensures .1)
 
 array-borrow-prefix-samples : tie.Need-array-borrow-prefix-samples Inv-loop μ-loop
 array-borrow-prefix-samples c = search needs
@@ -91,7 +94,7 @@ array-borrow-prefix-samples c = search needs
 slice-aggregate-agrees-4 : tie.Need-slice-aggregate-agrees-4 Inv-loop μ-loop
 slice-aggregate-agrees-4 c =
     let l = c .before .before .before .before .before in
-    prefix _ _ (l .before .before .before .before .before .before .before .before .before .loop .inv .3) (l .least4 .ensures .1)
+    prefix _ _ (turn l .loop .inv .3) (l .least4 .ensures .1)
 
 agrees-requires : tie.Need-agrees-requires Inv-loop μ-loop
 agrees-requires c κs = search needs
@@ -107,8 +110,7 @@ loop-again c =
     let o = c .before .before .before .before in
     let ys = o .before .agrees .last in
     let l = o .before .before .before .before .before .before .before in
-    let i = l .before .before .before .before .before .before .before .before .before .loop in
-    (
+    let i = turn l .loop in (
       back (i .older) (ys .1 .1 .0) (l .before .before .before .least .result) (i .inv .0) (o .older2 .given),
       back (i .newer) (ys .1 .1 .1 .0) (l .before .before .least2 .result) (i .inv .1) (c .before .before .before .newer2 .given),
       back (i .work) (ys .1 .1 .1 .1 .0) (l .before .least3 .result) (i .inv .2) (c .before .before .work2 .given),
