@@ -10,10 +10,7 @@ use engine::BlockAnswer;
 use engine::Grid;
 use engine::Hit;
 use engine::Instrument;
-use engine::ReadingAnswer;
-use engine::Refusal;
 use engine::Sheet;
-use engine::SheetAnswer;
 use engine::block;
 use engine::pluck;
 use engine::reading;
@@ -40,13 +37,32 @@ fn is_block(n: Numbers, answer: BlockAnswer) -> bool {
     (answer.steps as u64 == n.n11) & (refusal.number() == n.n12)
 }
 
+fn block_agrees(
+    n: Numbers,
+    older: &mut [i64],
+    newer: &mut [i64],
+    work: &mut [i64],
+    samples: &mut [i16],
+) -> bool {
+    let instrument = instrument_in(n);
+    let hit = hit_in(n);
+    is_block(
+        n,
+        block(instrument, older, newer, work, samples, n.n7 as usize, hit),
+    )
+}
+
 // 4 kind columns rows centre halfwidth height refusal
-fn is_pluck(n: Numbers, refusal: Refusal) -> bool {
+fn pluck_agrees(n: Numbers, older: &mut [i64], newer: &mut [i64]) -> bool {
+    let grid = grid_in(n);
+    let height = signed(n.n6);
+    let refusal = pluck(grid, older, newer, n.n4 as usize, n.n5 as usize, height);
     refusal.number() == n.n7
 }
 
 // 5 kind columns rows pickup valuebits refusal
-fn is_reading(n: Numbers, answer: ReadingAnswer) -> bool {
+fn reading_agrees(n: Numbers, newer: &[i64]) -> bool {
+    let answer = reading(grid_in(n), newer, n.n4 as usize);
     let refusal = answer.refusal;
     (bits_of(answer.value) == n.n5) & (refusal.number() == n.n6)
 }
@@ -65,51 +81,14 @@ fn sheet_in(n: Numbers) -> Sheet {
     )
 }
 
-fn is_sheet(n: Numbers, answer: SheetAnswer) -> bool {
+fn sheet_agrees(n: Numbers) -> bool {
+    let answer = settings_for(grid_in(n), sheet_in(n));
     let settings = answer.settings;
     let refusal = answer.refusal;
     (settings.q == n.n12)
         & (settings.m == n.n13)
         & (settings.s == n.n14)
         & (refusal.number() == n.n15)
-}
-
-fn call_agrees(
-    n: Numbers,
-    older: &mut [i64],
-    newer: &mut [i64],
-    work: &mut [i64],
-    samples: &mut [i16],
-) -> bool {
-    let opcode = n.n0;
-    match opcode {
-        3 => is_block(
-            n,
-            block(
-                instrument_in(n),
-                older,
-                newer,
-                work,
-                samples,
-                n.n7 as usize,
-                hit_in(n),
-            ),
-        ),
-        4 => is_pluck(
-            n,
-            pluck(
-                grid_in(n),
-                older,
-                newer,
-                n.n4 as usize,
-                n.n5 as usize,
-                signed(n.n6),
-            ),
-        ),
-        5 => is_reading(n, reading(grid_in(n), newer, n.n4 as usize)),
-        6 => is_sheet(n, settings_for(grid_in(n), sheet_in(n))),
-        _ => true,
-    }
 }
 
 // A record is carried out: a buffer filled or compared, or a call made. Whether what it expects is met.
@@ -121,12 +100,16 @@ pub fn agrees(
     work: &mut [i64],
     samples: &mut [i16],
 ) -> bool {
-    let buffer = n.buffer();
-    match buffer {
+    let target = n.target();
+    match target {
         0 => on_level(n, record, older),
         1 => on_level(n, record, newer),
         2 => on_level(n, record, work),
         3 => on_samples(n, record, samples),
-        _ => call_agrees(n, older, newer, work, samples),
+        4 => block_agrees(n, older, newer, work, samples),
+        5 => pluck_agrees(n, older, newer),
+        6 => reading_agrees(n, newer),
+        7 => sheet_agrees(n),
+        _ => true,
     }
 }

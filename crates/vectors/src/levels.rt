@@ -1,6 +1,5 @@
 // The lent buffers: lending them with new content, comparing them with what is expected.
 ghost use Prim.Native.Nat.{_≤_};
-ghost use Rattle.vectors.specs.Lent.{LentIn};
 use crate::records::Numbers;
 use crate::records::PLACES;
 use crate::records::signed;
@@ -16,7 +15,7 @@ pub struct Lent {
     pub samples: usize,
 }
 
-fn least(length: usize) -> usize
+pub(crate) fn least(length: usize) -> usize
     ensures { λ r. ⌜ (r ≤ length) × (r ≤ 4100) ⌝ }
 {
     match length {
@@ -26,9 +25,7 @@ fn least(length: usize) -> usize
 }
 
 impl Lent {
-    pub fn new() -> Lent
-        ensures { λ r. ⌜ LentIn r ⌝ }
-    {
+    pub fn new() -> Lent {
         Lent {
             older: 0,
             newer: 0,
@@ -38,13 +35,10 @@ impl Lent {
     }
 
     // The lengths after a record: one that lends has the buffer's number and its length.
-    pub(crate) fn after(mut self, n: Numbers) -> Lent
-        requires { ⌜ LentIn self ⌝ }
-        ensures { λ r. ⌜ LentIn r ⌝ }
-    {
-        let lent = n.buffer_lent();
-        let length = least(n.n2 as usize);
-        match lent {
+    pub fn after(mut self, n: Numbers) -> Lent {
+        let buffer = n.lent();
+        let length = n.n2 as usize;
+        match buffer {
             0 => self.older = length,
             1 => self.newer = length,
             2 => self.work = length,

@@ -10,6 +10,7 @@ ghost use lib.ListN.{length};
 use crate::calls::agrees;
 use crate::levels::Lent;
 use crate::levels::MOST;
+use crate::levels::least;
 use crate::records::PLACES;
 use crate::records::next_record;
 use crate::tally::Tally;
@@ -38,10 +39,10 @@ fn run(path: &[u8], text: &[u8]) {
         let next = next_record(text, at, &mut record);
         let n = next.numbers;
         lent = lent.after(n);
-        let n0 = lent.older;
-        let n1 = lent.newer;
-        let n2 = lent.work;
-        let n3 = lent.samples;
+        let n0 = least(lent.older);
+        let n1 = least(lent.newer);
+        let n2 = least(lent.work);
+        let n3 = least(lent.samples);
         let is_met = agrees(
             n,
             &record,
@@ -70,15 +71,11 @@ fn run_file(path: &[u8], fd: i32) {
     run(path, &text[..n]);
 }
 
-fn say_missing(path: &[u8]) {
-    say(path);
-    say(b": cannot be opened\n");
-}
-
 fn run_path(path: &[u8]) {
     let fd = os::open_read(path);
     if fd < 0 {
-        say_missing(path);
+        say(path);
+        say(b": cannot be opened\n");
     } else {
         run_file(path, fd);
         libc::close(fd);

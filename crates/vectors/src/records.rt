@@ -76,33 +76,45 @@ impl Numbers {
         self
     }
 
-    // The buffer that the record is on, 4 where it is on none.
-    pub fn buffer(self) -> u64 {
+    // What the record is on: 0 to 3 a buffer, 4 to 7 a call, 8 nothing.
+    pub fn target(self) -> u64 {
         let opcode = self.n0;
         match opcode {
             1 => self.n1,
             2 => self.n1,
-            _ => 4,
+            3 => 4,
+            4 => 5,
+            5 => 6,
+            6 => 7,
+            _ => 8,
         }
     }
 
     // The buffer that the record lends, 4 where it lends none.
-    pub fn buffer_lent(self) -> u64 {
+    pub fn lent(self) -> u64 {
         let opcode = self.n0;
         match opcode {
             1 => self.n1,
             _ => 4,
+        }
+    }
+
+    // How many numbers a record on a buffer has; 0 where the buffer is unknown.
+    fn size_on_buffer(self) -> u64 {
+        let buffer = self.n1;
+        match buffer {
+            0..=3 => wrapping_add_u64(3, self.n2),
+            _ => 0,
         }
     }
 
     // How many numbers the record has; 0 where its opcode is unknown.
     fn size(self) -> u64 {
         let opcode = self.n0;
-        let length = self.n2;
         match opcode {
             0 => 1,
-            1 => wrapping_add_u64(3, length),
-            2 => wrapping_add_u64(3, length),
+            1 => self.size_on_buffer(),
+            2 => self.size_on_buffer(),
             3 => 13,
             4 => 8,
             5 => 7,
@@ -112,12 +124,13 @@ impl Numbers {
     }
 }
 
-// A line up to some byte: its numbers, how many have ended, and the digits and sign of the next.
+// A line up to some byte: its numbers, how many have ended, and the digits, the sign and the value of the next.
 struct Line {
     numbers: Numbers,
     count: usize,
     digits: u64,
     is_negative: bool,
+    bits: u64,
     is_whole: bool,
 }
 
@@ -145,16 +158,12 @@ impl Line {
             count: 0,
             digits: 0,
             is_negative: false,
+            bits: 0,
             is_whole: false,
         }
     }
 
-    // The number that is being read.
-    fn bits(self) -> u64 {
-        with_sign(self.is_negative, self.digits)
-    }
-
-    // Where it goes.
+    // Where the next number goes.
     fn place(self) -> usize
         ensures { λ r. ⌜ r < 4104 ⌝ }
     {
@@ -168,10 +177,11 @@ impl Line {
     fn ended(self, is_whole: bool) -> Line {
         let numbers = self.numbers;
         Line {
-            numbers: numbers.with(self.count, self.bits()),
+            numbers: numbers.with(self.count, self.bits),
             count: wrapping_add_usize(self.count, 1),
             digits: 0,
             is_negative: false,
+            bits: 0,
             is_whole,
         }
     }
@@ -187,6 +197,7 @@ impl Line {
             }
             _ => {
                 self.digits = longer(self.digits, byte);
+                self.bits = with_sign(self.is_negative, self.digits);
                 self
             }
         }
@@ -214,7 +225,7 @@ fn read_line(text: &[u8], from: usize, record: &mut [u64; PLACES]) -> Read
     let mut next = from + 1;
     while next < text.len() && !line.is_whole {
         line = line.with(text[next]);
-        record[line.place()] = line.bits();
+        record[line.place()] = line.bits;
         next += 1;
     }
     Read { line, next }

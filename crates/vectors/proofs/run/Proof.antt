@@ -6,22 +6,23 @@ use native.Mathlib.Omega.{arith}
 use lib.IntN.{ℤ}
 use lib.ListN.{length, take, drop, length-append, take-append-drop}
 use lib.Seq.{length-take-le}
-use Rattle.vectors.specs.Lent.{LentIn}
 use borrow.Author.Needs.{needs}
 use Rattle.vectors.proofs.run.Statement.{statement}
 use Rattle.vectors.proofs.run.Tie as tie
 
 abbrev Inv-loop : tie.InvT-loop
-Inv-loop path text record₀ older₀ newer₀ work₀ samples₀ lent₀ tally₀ opcode₀ at₀ «record» older newer work samples lent tally opcode at =
-    LentIn lent
-    × (length older ≡ 4100)
+Inv-loop _ _ _ _ _ _ _ _ _ _ _ _ older newer work samples _ _ _ _ =
+    (length older ≡ 4100)
     × (length newer ≡ 4100)
     × (length work ≡ 4100)
     × (length samples ≡ 4100)
 
 abbrev μ-loop : tie.MeasureT-loop
-μ-loop path text record₀ older₀ newer₀ work₀ samples₀ lent₀ tally₀ opcode₀ at₀ «record» older newer work samples lent tally opcode at =
-    length text - at
+μ-loop _ text _ _ _ _ _ _ _ _ _ _ _ _ _ _ _ _ _ at = length text - at
+
+-- the turn of the loop in which the lengths were cut
+abbrev turn : tie.After-least4 Inv-loop μ-loop → tie.At-loop Inv-loop μ-loop
+turn l = l .before .before .before .before .before .before .before .before .before
 
 -- a lent prefix has the length in which it is lent
 prefix : (xs : List ℤ) (k : ℕ) → length xs ≡ 4100 → k ≤ 4100 → k ≡ length (take k xs)
@@ -51,37 +52,49 @@ next-record-requires c κs = search needs
 after-requires : tie.Need-after-requires Inv-loop μ-loop
 after-requires c κs = search needs
 
+least-requires : tie.Need-least-requires Inv-loop μ-loop
+least-requires c κs = search needs
+
+least-requires-2 : tie.Need-least-requires-2 Inv-loop μ-loop
+least-requires-2 c κs = search needs
+
+least-requires-3 : tie.Need-least-requires-3 Inv-loop μ-loop
+least-requires-3 c κs = search needs
+
+least-requires-4 : tie.Need-least-requires-4 Inv-loop μ-loop
+least-requires-4 c κs = search needs
+
 array-borrow-prefix-older : tie.Need-array-borrow-prefix-older Inv-loop μ-loop
 array-borrow-prefix-older c = search needs
 
 slice-aggregate-agrees : tie.Need-slice-aggregate-agrees Inv-loop μ-loop
 slice-aggregate-agrees c =
-    let a = c .before .before in
-    prefix _ _ (a .before .before .before .before .before .loop .inv .1) (a .after .ensures .older-lent)
+    let l = c .before .before in
+    prefix _ _ (turn l .loop .inv .0) (l .before .before .before .least .ensures .1)
 
 array-borrow-prefix-newer : tie.Need-array-borrow-prefix-newer Inv-loop μ-loop
 array-borrow-prefix-newer c = search needs
 
 slice-aggregate-agrees-2 : tie.Need-slice-aggregate-agrees-2 Inv-loop μ-loop
 slice-aggregate-agrees-2 c =
-    let a = c .before .before .before in
-    prefix _ _ (a .before .before .before .before .before .loop .inv .2) (a .after .ensures .newer-lent)
+    let l = c .before .before .before in
+    prefix _ _ (turn l .loop .inv .1) (l .before .before .least2 .ensures .1)
 
 array-borrow-prefix-work : tie.Need-array-borrow-prefix-work Inv-loop μ-loop
 array-borrow-prefix-work c = search needs
 
 slice-aggregate-agrees-3 : tie.Need-slice-aggregate-agrees-3 Inv-loop μ-loop
 slice-aggregate-agrees-3 c =
-    let a = c .before .before .before .before in
-    prefix _ _ (a .before .before .before .before .before .loop .inv .3) (a .after .ensures .work-lent)
+    let l = c .before .before .before .before in
+    prefix _ _ (turn l .loop .inv .2) (l .before .least3 .ensures .1)
 
 array-borrow-prefix-samples : tie.Need-array-borrow-prefix-samples Inv-loop μ-loop
 array-borrow-prefix-samples c = search needs
 
 slice-aggregate-agrees-4 : tie.Need-slice-aggregate-agrees-4 Inv-loop μ-loop
 slice-aggregate-agrees-4 c =
-    let a = c .before .before .before .before .before in
-    prefix _ _ (a .before .before .before .before .before .loop .inv .4) (a .after .ensures .samples-lent)
+    let l = c .before .before .before .before .before in
+    prefix _ _ (turn l .loop .inv .3) (l .least4 .ensures .1)
 
 agrees-requires : tie.Need-agrees-requires Inv-loop μ-loop
 agrees-requires c κs = search needs
@@ -96,14 +109,12 @@ loop-again : tie.Need-loop-again Inv-loop μ-loop
 loop-again c =
     let o = c .before .before .before .before in
     let ys = o .before .agrees .last in
-    let a = o .before .before .before .before .before .before .before in
-    let l = a .before .before .before .before .before .loop in
-    let n = a .after .result in (
-      a .after .ensures,
-      back (l .older) (ys .1 .1 .0) (n .older) (l .inv .1) (o .older2 .given),
-      back (l .newer) (ys .1 .1 .1 .0) (n .newer) (l .inv .2) (c .before .before .before .newer2 .given),
-      back (l .work) (ys .1 .1 .1 .1 .0) (n .work) (l .inv .3) (c .before .before .work2 .given),
-      back (l .samples) (ys .1 .1 .1 .1 .1 .0) (n .samples) (l .inv .4) (c .before .samples2 .given),
+    let l = o .before .before .before .before .before .before .before in
+    let i = turn l .loop in (
+      back (i .older) (ys .1 .1 .0) (l .before .before .before .least .result) (i .inv .0) (o .older2 .given),
+      back (i .newer) (ys .1 .1 .1 .0) (l .before .before .least2 .result) (i .inv .1) (c .before .before .before .newer2 .given),
+      back (i .work) (ys .1 .1 .1 .1 .0) (l .before .least3 .result) (i .inv .2) (c .before .before .work2 .given),
+      back (i .samples) (ys .1 .1 .1 .1 .1 .0) (l .least4 .result) (i .inv .3) (c .before .samples2 .given),
     )
 
 report-requires : tie.Need-report-requires Inv-loop μ-loop
@@ -123,6 +134,10 @@ run-spec =
     loop-holds
     next-record-requires
     after-requires
+    least-requires
+    least-requires-2
+    least-requires-3
+    least-requires-4
     array-borrow-prefix-older
     slice-aggregate-agrees
     array-borrow-prefix-newer

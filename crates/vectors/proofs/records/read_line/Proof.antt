@@ -32,9 +32,6 @@ shared-slice-read-with-2 c = search needs
 with-requires-2 : tie.Need-with-requires-2 Inv-loop μ-loop
 with-requires-2 c κs = search needs
 
-bits-requires : tie.Need-bits-requires Inv-loop μ-loop
-bits-requires c κs = search needs
-
 place-requires : tie.Need-place-requires Inv-loop μ-loop
 place-requires c κs = search needs
 
@@ -72,7 +69,6 @@ read-line-spec =
     loop-holds
     shared-slice-read-with-2
     with-requires-2
-    bits-requires
     place-requires
     mul-record
     element-write-record
