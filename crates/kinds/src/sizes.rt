@@ -39,7 +39,8 @@ pub fn has_size(g: Grid) -> bool
     }
 }
 
-// columns × rows, or 0 where the table does not have the size. Ruled out: columns × columns; a point where the table does not have the size.
+// columns × rows, or 0 where the table does not have the size.
+// Ruled out: columns × columns; a point where the table does not have the size.
 pub fn points_of(g: Grid) -> usize
     ensures { λ r. ⌜ r ≡ pointsOf g ⌝ }
 {
