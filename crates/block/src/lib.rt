@@ -1,14 +1,39 @@
 // A block: as many steps of an instrument as the lent sample buffer has places.
-mod arithmetic;
-mod bending;
-mod call;
-mod edges;
-mod level;
-mod plan;
-mod play;
-mod points;
-mod roles;
-mod slices;
-mod stretch;
+mod levels;
 
-pub use call::block;
+ghost use mathlib.Core.Path.{_≡_};
+ghost use Rattle.scheme.specs.Calls.{block, blockLeft};
+use crate::levels::settle;
+use scheme::BlockAnswer;
+use scheme::Hit;
+use scheme::Instrument;
+use slices::clear;
+use steps::steps_in_turn;
+
+// As many steps as samples has places, the hit in the first; or what refuses them.
+// Ruled out: a count that does not match the levels; levels never touched.
+pub fn block(
+    i: Instrument,
+    older: &mut [i64],
+    newer: &mut [i64],
+    work: &mut [i64],
+    samples: &mut [i16],
+    pick: usize,
+    hit: Hit,
+) -> BlockAnswer
+    ensures { λ r. ⌜ blockLeft r (now (older .exit)) (now (newer .exit)) (now (work .exit)) (now (samples .exit))
+        ≡ block i (now (older .entry)) (now (newer .entry)) (now (work .entry)) (now (samples .entry)) pick hit ⌝ }
+{
+    let turn = steps_in_turn(i, older, newer, work, samples, pick, hit);
+    let refusal = turn.refusal;
+    let answer = BlockAnswer {
+        steps: turn.steps,
+        refusal,
+    };
+    if !turn.begun {
+        return answer;
+    }
+    settle(older, newer, work, turn.phase);
+    clear(work);
+    answer
+}

@@ -1,0 +1,173 @@
+-- The neighbours that each loop reads are those of the neighbour rule, and L of L is L taken of the values of L.
+use mathlib.Core.Path.{_≡_, refl, sym, ap, _∙_, subst}
+use mathlib.Core.Bool.{true}
+use mathlib.Core.List.{List, [], _∷_}
+use mathlib.Core.Logic.{_⊎_, inl, inr}
+use Prim.Native.Nat.{ℕ, _+_, _-_, _*_, _≤_, _<_, zero-le}
+use native.Mathlib.Decide.{ℕ-discrete}
+use native.Mathlib.Omega.{arith}
+use lib.IntN.{ℤ, pos, _+ℤ_, _-ℤ_, _*ℤ_, zero-*ℤ}
+use lib.ListN.{length}
+use Rattle.integers.specs.Sum.{sumOver}
+use Rattle.integers.proofs.Ring.{#_, _⊕_, _≈_, ring}
+use Rattle.bounded.proofs.Expr.{E, at, _⊞_}
+use Rattle.scheme.specs.declared.Grid.{Grid}
+use Rattle.scheme.specs.declared.Instrument.{Instrument}
+use Rattle.scheme.specs.Lists.{point}
+use Rattle.scheme.specs.Instruments.{bar, ceiling, kind, points, moving}
+use Rattle.scheme.specs.Step.{neighbours, laplacian, biharmonic}
+use Rattle.scheme.specs.Passing.{InstrumentPasses}
+use Rattle.scheme.specs.Ranges.{AtMost}
+use Rattle.scheme.proofs.Laws.Neighbours.{line-inner, line-first, line-last, grid-inner, grid-below}
+use Rattle.steps.specs.Plan.{Neighbouring}
+use Rattle.steps.specs.Run.{Moves, OnLine, FreeEnd, clamp}
+use Rattle.steps.proofs.KindLaws.{Edge, line-long, wide, stiff, line-in, line-free, bar-inner, grid-soft, grid-free, grid-in}
+use Rattle.steps.proofs.StretchLaws.{clamp-before, clamp-inside, clamp-after}
+
+-- ---- points as the machine reads them, and the sum of those on either side of one as it adds them
+
+module _ (xs : List ℤ) (low : AtMost ceiling (point xs)) where
+  abbrev pub at# : ℕ → E
+  at# k = at (point xs k) ceiling (low k)
+
+  abbrev pub beside# : ℕ → E
+  beside# k = at# (k - 1) ⊞ at# (k + 1)
+
+-- ---- the sum over two and over four neighbours
+
+pub sum-two : (a : ℕ → ℤ) (j k : ℕ) → a j +ℤ a k ≡ sumOver (j ∷ k ∷ []) a
+unfolding sumOver
+sum-two a j k = ring 2 (λ x y. x ⊕ y ≈ x ⊕ (y ⊕ # 0)) refl (a j) (a k)
+
+sum-four : (a : ℕ → ℤ) (j k l m : ℕ) → a j +ℤ a k +ℤ a l +ℤ a m ≡ sumOver (j ∷ k ∷ l ∷ m ∷ []) a
+unfolding sumOver
+sum-four a j k l m = ring 4 (λ x y z w. x ⊕ y ⊕ z ⊕ w ≈ x ⊕ (y ⊕ (z ⊕ (w ⊕ # 0)))) refl (a j) (a k) (a l) (a m)
+
+-- L where there are two neighbours
+pub two-laplacian : (g : Grid) (a : ℕ → ℤ) (k j l : ℕ) → neighbours g k ≡ j ∷ l ∷ [] → laplacian g a k ≡ a j +ℤ a l -ℤ pos 2 *ℤ a k
+unfolding laplacian
+two-laplacian g a k j l e =
+    ap (λ (js : List ℕ). sumOver js a -ℤ pos (length js) *ℤ a k) e ∙ ap (λ (z : ℤ). z -ℤ pos 2 *ℤ a k) (sym (sum-two a j l))
+
+-- without stiffness L of L does not count
+soft-stiff : (m : ℕ) (b : ℤ) → m ≡ 0 → pos m *ℤ pos 0 ≡ pos m *ℤ b
+soft-stiff m b e = ap (λ (n : ℕ). pos n *ℤ pos 0) e ∙ sym (ap (λ (n : ℕ). pos n *ℤ b) e ∙ zero-*ℤ b)
+
+module _ (i : Instrument) (ok : InstrumentPasses i) where
+  abbrev g : Grid
+  g = i .grid
+
+  abbrev m : ℕ
+  m = i .settings .m
+
+  -- where L of L counts, the kind is a bar
+  pub is-bar : (m ≡ 0 → ⊥) → kind g ≡ bar
+  is-bar n = go (stiff i ok)
+    where
+      go : (m ≡ 0) ⊎ (kind g ≡ bar) → kind g ≡ bar
+      go (inl e) = absurd (n e)
+      go (inr e) = e
+
+  -- neighbours, where L of L does not count
+  soft-beside : (newer : List ℤ) (k : ℕ) (sum : ℤ) (js : List ℕ) → k < points g → m ≡ 0 → neighbours g k ≡ js → sum
+      ≡ sumOver js (point newer)
+      → Neighbouring i newer k sum (pos (length js)) (pos 0)
+  soft-beside newer k sum js h soft e s = record {
+    inside = h;
+    sum-is = s ∙ ap (λ (js : List ℕ). sumOver js (point newer)) (sym e);
+    count-is = ap (λ (js : List ℕ). pos (length js)) (sym e);
+    b-low = zero-le;
+    stiff = soft-stiff m (biharmonic g (point newer) k) soft;
+  }
+
+  -- ---- a line
+
+  -- an inner point, without stiffness
+  pub line-beside : {from to : ℕ} → OnLine g from to → m ≡ 0 → (newer : List ℤ) (k : ℕ) → from ≤ k → k < to
+      → Neighbouring i newer k (point newer (k - 1) +ℤ point newer (k + 1)) (pos 2) (pos 0)
+  line-beside on soft newer k first last =
+      soft-beside newer k _ _ (omega (arith, on .last, line-long g (on .line))) soft
+      (line-inner g k (on .line) (omega (arith, on .last)) (omega (arith, on .first)) (omega (arith, on .last)))
+      (sum-two (point newer) (k - 1) (k + 1))
+
+  -- ---- its ends
+
+  module _ (line : g .rows ≡ 1) {from to : ℕ} (all : Moves g from to) (some : from < to) where
+    -- a moving end is no bar's
+    end-soft : (k : ℕ) → moving g k ≡ true → Edge (g .columns) k → m ≡ 0
+    end-soft k mk o = go (stiff i ok) o
+      where
+        go : (m ≡ 0) ⊎ (kind g ≡ bar) → Edge (g .columns) k → m ≡ 0
+        go (inl e) p = e
+        go (inr b) (inl h) = absurd (omega (arith, bar-inner i ok line k mk b))
+        go (inr b) (inr h) = absurd (omega (arith, bar-inner i ok line k mk b))
+
+    -- the range ends within the line
+    pub within-line : to ≤ g .columns
+    within-line = omega (arith, line-in i ok line (to - 1) (all .each (to - 1) (omega arith) (omega arith)))
+
+    no-end : (near a : ℕ) → near < g .columns → FreeEnd i near a a
+    no-end near a h = record {
+      one = omega arith;
+      inside = omega (arith, line-long g line);
+      there = λ l. absurd (omega arith);
+      twice = λ l. absurd (omega arith);
+      soft = λ l. absurd (omega arith);
+    }
+
+    pub first-free : FreeEnd i 1 (clamp from to 0) (clamp from to 1)
+    first-free = subst (λ (a : ℕ). FreeEnd i 1 a (clamp from to 1)) (sym (clamp-before from to (omega arith) 0 zero-le))
+        (go (ℕ-discrete from 0))
+      where
+        go : Dec (from ≡ 0) → FreeEnd i 1 from (clamp from to 1)
+        go (no n) = subst (FreeEnd i 1 from) (sym (clamp-before from to (omega arith) 1 (omega arith)))
+            (no-end 1 from (omega (arith, wide i ok)))
+        go (yes e) =
+            let moves : moving g from ≡ true = all .each from (omega arith) some in
+            subst (FreeEnd i 1 from) (sym (clamp-inside from to (omega arith) 1 (omega arith) (omega arith)))
+            (record {
+              one = omega arith;
+              inside = omega (arith, line-long g line, wide i ok);
+              there = λ l. omega (arith, line-long g line, wide i ok);
+              twice = λ l. line-first g from line (omega (arith, wide i ok)) e (omega (arith, wide i ok))
+                  (line-free i ok line from moves (inl e)) ∙ ap (λ (j : ℕ). j ∷ j ∷ []) (omega arith);
+              soft = λ l. end-soft from moves (inl e);
+            })
+
+    pub last-free : (n : ℕ) → n ≡ g .columns → FreeEnd i (n - 2) (clamp from to (n - 1)) (clamp from to n)
+    last-free n long = subst (FreeEnd i (n - 2) (clamp from to (n - 1)))
+        (sym (clamp-after from to (omega arith) n (omega (arith, within-line)))) (go (ℕ-discrete to n))
+      where
+        go : Dec (to ≡ n) → FreeEnd i (n - 2) (clamp from to (n - 1)) to
+        go (no d) =
+            subst (λ (a : ℕ). FreeEnd i (n - 2) a to) (sym (clamp-after from to (omega arith) (n - 1) (omega (arith, within-line))))
+            (no-end (n - 2) to (omega (arith, wide i ok)))
+        go (yes e) =
+            let end : n - 1 + 1 ≡ g .columns = omega (arith, wide i ok) in
+            let moves : moving g (n - 1) ≡ true = all .each (n - 1) (omega arith) (omega arith) in
+            subst (λ (a : ℕ). FreeEnd i (n - 2) a to) (sym (clamp-inside from to (omega arith) (n - 1) (omega arith) (omega arith)))
+            (record {
+              one = omega arith;
+              inside = omega (arith, line-long g line, wide i ok);
+              there = λ l. omega (arith, line-long g line, wide i ok);
+              twice = λ l. line-last g (n - 1) line (omega arith) end (omega (arith, wide i ok))
+                  (line-free i ok line (n - 1) moves (inr end)) ∙ ap (λ (j : ℕ). j ∷ j ∷ []) (omega arith);
+              soft = λ l. end-soft (n - 1) moves (inr end);
+            })
+
+  -- the one neighbour of a free end, twice
+  pub end-beside : (newer : List ℤ) {near from to : ℕ} → FreeEnd i near from to → from < to
+      → Neighbouring i newer from (point newer near +ℤ point newer near) (pos 2) (pos 0)
+  end-beside newer {near} {from} e h =
+      soft-beside newer from _ (near ∷ near ∷ []) (e .there h) (e .soft h) (e .twice h) (sum-two (point newer) near near)
+
+  -- ---- a grid
+
+  pub grid-beside : (g .rows ≡ 1 → ⊥) → (newer : List ℤ) (k : ℕ) → moving g k ≡ true
+      → Neighbouring i newer k (point newer (k - 1) +ℤ point newer (k + 1) +ℤ point newer (k - g .columns) +ℤ point newer (k + g .columns))
+      (pos 4) (pos 0)
+  grid-beside grid newer k mk =
+      let n = grid-in i ok grid k mk in
+      soft-beside newer k _ _ (omega (arith, grid-below g k (n .1) (n .3))) (grid-soft i ok grid)
+      (grid-inner g k (grid-free i ok grid k) (n .0) (n .1) (n .2) (n .3))
+      (sum-four (point newer) (k - 1) (k + 1) (k - g .columns) (k + g .columns))

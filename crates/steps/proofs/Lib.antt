@@ -1,0 +1,14 @@
+pub mod Held
+pub mod FillLaws
+pub mod PlanLaws
+pub mod KindLaws
+pub mod StretchLaws
+pub mod BesideLaws
+pub mod PointLaws
+pub mod RoleLaws
+pub mod BendLaws
+pub mod LineLaws
+pub mod HitLaws
+pub mod RowLaws
+pub mod PlayLaws
+pub mod TurnLaws

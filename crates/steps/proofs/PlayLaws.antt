@@ -1,0 +1,234 @@
+-- The steps of a block one after the other: how they begin, go on and end.
+use mathlib.Core.Path.{_≡_, refl, sym, ap, ap₂, _∙_, subst}
+use mathlib.Core.Bool.{Bool, true, false, cond, not}
+use mathlib.Core.List.{List, [], _∷_, _++_}
+use Prim.Native.Nat.{ℕ, zero, suc, _+_, _≤_, _<_}
+use native.Mathlib.Omega.{arith}
+use borrow.Author.Tests.{lt-ltb, le-ltb, not-true, not-false}
+use lib.Dec.{ltb}
+use lib.IntN.{ℤ}
+use lib.ListN.{length, set, length-append}
+use Rattle.scheme.specs.declared.Grid.{Grid}
+use Rattle.scheme.specs.declared.Instrument.{Instrument}
+use Rattle.scheme.specs.declared.Hit.{Hit}
+use Rattle.scheme.specs.declared.Hit.the-variants.{Absent}
+use Rattle.scheme.specs.declared.Refusal.{Refusal}
+use Rattle.scheme.specs.declared.Refusal.the-variants.{Nothing, NextBeyond}
+use Rattle.scheme.specs.Lists.{point}
+use Rattle.scheme.specs.Step.{nextLevel, someBeyond, sampleOf}
+use Rattle.scheme.specs.Calls.{AfterSteps, ended, oneMore, play, hitAfter}
+use Rattle.scheme.specs.Claims.{LevelPasses}
+use Rattle.scheme.specs.Refusals.{notMoving, tooStrong}
+use Rattle.scheme.proofs.Laws.Refusals.{passes-still}
+use Rattle.scheme.proofs.Laws.Calls.{play-ends, play-goes, next-passes}
+use Rattle.steps.specs.declared.plan.Plan.{Plan}
+use Rattle.steps.specs.Roles.{Room, Steppable, Stepped, SteppedIn, Played, turnedOf, olderOf, newerOf, outOf}
+use Rattle.steps.proofs.RoleLaws.{turned-older, turned-newer, turned-out}
+
+-- ---- steps done before the rest
+
+-- steps done with these samples, before the rest
+pub after : List ℤ → AfterSteps → AfterSteps
+after [] rest = rest
+after (v ∷ vs) rest = oneMore v (after vs rest)
+
+after-more : (vs : List ℤ) (v : ℤ) (rest : AfterSteps) → after vs (oneMore v rest) ≡ after (vs ++ (v ∷ [])) rest
+unfolding after
+after-more [] v rest = refl
+after-more (x ∷ vs) v rest = ap (oneMore x) (after-more vs v rest)
+
+-- no further step
+record Ends (vs : List ℤ) (r : Refusal) (older newer places : List ℤ) : Type 0 where
+  steps : after vs (ended r older newer places) .answer .steps ≡ length vs
+  refusal : after vs (ended r older newer places) .answer .refusal ≡ r
+  older-is : after vs (ended r older newer places) .older ≡ older
+  newer-is : after vs (ended r older newer places) .newer ≡ newer
+  samples-are : after vs (ended r older newer places) .samples ≡ vs ++ places
+
+ends : (vs : List ℤ) (r : Refusal) (older newer places : List ℤ) → Ends vs r older newer places
+unfolding after
+ends [] r older newer places = record { steps = refl; refusal = refl; older-is = refl; newer-is = refl; samples-are = refl }
+ends (v ∷ vs) r older newer places =
+    let e = ends vs r older newer places in
+    record {
+      steps = ap suc (e .steps);
+      refusal = e .refusal;
+      older-is = e .older-is;
+      newer-is = e .newer-is;
+      samples-are = ap (v ∷_) (e .samples-are);
+    }
+
+-- a sample in the first free place
+set-next : (vs : List ℤ) (x v : ℤ) (xs : List ℤ) (j : ℕ) → length vs ≡ j → set (vs ++ (x ∷ xs)) j v ≡ (vs ++ (v ∷ [])) ++ xs
+set-next [] x v xs zero e = refl
+set-next [] x v xs (suc j) e = absurd (omega arith)
+set-next (y ∷ vs) x v xs zero e = absurd (omega arith)
+set-next (y ∷ vs) x v xs (suc j) e = ap (y ∷_) (set-next vs x v xs j (omega arith))
+
+-- ---- the loop over the places: j steps are done
+
+pub record Playing (i : Instrument) (pick : ℕ) (hit : Hit) (whole : AfterSteps) (n : ℕ) (older newer out samples : List ℤ) (j : ℕ) : Type
+    0 where
+  pub vs : List ℤ
+  pub places : List ℤ
+  pub count : length vs ≡ j
+  pub samples-are : samples ≡ vs ++ places
+  pub long : j + length places ≡ n
+  pub whole-is : whole ≡ after vs (play i pick (hitAfter hit j) older newer places)
+  pub older-passes : LevelPasses (i .grid) older
+  pub newer-passes : LevelPasses (i .grid) newer
+  pub room : Room (i .grid) out
+
+-- a level that passes is room for another
+room-of : (g : Grid) (xs : List ℤ) → LevelPasses g xs → Room g xs
+room-of g xs p = record { long = p .long; still = passes-still g xs p .still }
+
+module _ {p : Plan} {hit : Hit} {older newer out : List ℤ} (s : Steppable p hit older newer out) where
+  pub playing-start : (pick : ℕ) (samples : List ℤ)
+      → Playing (p .instrument) pick hit (play (p .instrument) pick hit older newer samples) (length samples) older newer out samples 0
+  unfolding after
+  playing-start pick samples = record {
+    vs = [];
+    places = samples;
+    count = refl;
+    samples-are = refl;
+    long = omega arith;
+    whole-is = refl;
+    older-passes = s .older-passes;
+    newer-passes = s .newer-passes;
+    room = s .room;
+  }
+
+  -- the next step may be taken: its hit is the block's or none
+  pub playing-steppable : {pick n j : ℕ} {whole : AfterSteps} {older′ newer′ out′ samples : List ℤ} {hit′ : Hit} → hit′ ≡ hitAfter hit j
+      → Playing (p .instrument) pick hit whole n older′ newer′ out′ samples j → Steppable p hit′ older′ newer′ out′
+  playing-steppable {j = j} same g = record {
+    planned = s .planned;
+    older-passes = g .older-passes;
+    newer-passes = g .newer-passes;
+    room = g .room;
+    hit-moving = ap (notMoving (p .instrument .grid)) same ∙ moves j;
+    hit-low = ap tooStrong same ∙ low j;
+  }
+    where
+      moves : (j : ℕ) → notMoving (p .instrument .grid) (hitAfter hit j) ≡ false
+      moves zero = s .hit-moving
+      moves (suc j) = refl
+
+      low : (j : ℕ) → tooStrong (hitAfter hit j) ≡ false
+      low zero = s .hit-low
+      low (suc j) = refl
+
+module _ {i : Instrument} {pick n j : ℕ} {hit : Hit} {whole : AfterSteps} {older newer out samples : List ℤ}
+    (g : Playing i pick hit whole n older newer out samples j) where
+  abbrev next : List ℤ
+  next = nextLevel i (hitAfter hit j) older newer
+
+  pub samples-long : length samples ≡ n
+  samples-long = ap length (g .samples-are) ∙ length-append (g .vs) (g .places) ∙ omega (arith, g .count, g .long)
+
+  -- no further step
+  ended-by : (r : Refusal) (places : List ℤ) → samples ≡ g .vs ++ places → whole ≡ after (g .vs) (ended r older newer places)
+      → r ≡ cond (ltb j n) NextBeyond Nothing → Played whole n j older newer samples
+  ended-by r places a w e =
+      let q = ends (g .vs) r older newer places in
+      record {
+        done-is = sym (g .count) ∙ sym (ap (λ (p : AfterSteps). p .answer .steps) w ∙ q .steps);
+        refusal-is = ap (λ (p : AfterSteps). p .answer .refusal) w ∙ q .refusal ∙ e;
+        older-is = sym (ap (λ (p : AfterSteps). p .older) w ∙ q .older-is);
+        newer-is = sym (ap (λ (p : AfterSteps). p .newer) w ∙ q .newer-is);
+        samples-are = a ∙ sym (ap (λ (p : AfterSteps). p .samples) w ∙ q .samples-are);
+      }
+
+  module _ (h : j < n) {out′ : List ℤ} {done : Bool} {hit′ : Hit} (same : hit′ ≡ hitAfter hit j)
+      (s : Stepped i hit′ older newer out′ done) where
+    t : Stepped i (hitAfter hit j) older newer out′ done
+    t = subst (λ (h : Hit). Stepped i h older newer out′ done) same s
+
+    -- the next level passes
+    module _ (d : not done ≡ false) where
+      low : someBeyond next ≡ false
+      low = not-true (someBeyond next) (sym (t .done-is) ∙ not-false done d)
+
+      next-is : out′ ≡ next
+      next-is = t .next-is (not-false done d)
+
+      pub stepped-passes : LevelPasses (i .grid) out′
+      stepped-passes = subst (LevelPasses (i .grid)) (sym next-is) (next-passes i (hitAfter hit j) older newer low)
+
+    -- one more step, with its sample
+    pub playing-on : not done ≡ false → (v : ℤ) → v ≡ sampleOf (point out′ pick)
+        → Playing i pick hit whole n newer out′ older (set samples j v) (j + 1)
+    playing-on d v e = go (g .places) (g .samples-are) (g .long) (g .whole-is)
+      where
+        step : suc j ≡ j + 1
+        step = omega arith
+
+        go : (places : List ℤ) → samples ≡ g .vs ++ places → j + length places ≡ n → whole
+            ≡ after (g .vs) (play i pick (hitAfter hit j) older newer places)
+            → Playing i pick hit whole n newer out′ older (set samples j v) (j + 1)
+        go [] a l w = absurd (omega (arith, l, h))
+        go (x ∷ xs) a l w = record {
+          vs = g .vs ++ (v ∷ []);
+          places = xs;
+          count = length-append (g .vs) (v ∷ []) ∙ ap (λ (k : ℕ). k + 1) (g .count);
+          samples-are = ap (λ (ys : List ℤ). set ys j v) a ∙ set-next (g .vs) x v xs j (g .count);
+          long = omega (arith, l);
+          whole-is = w ∙ ap (after (g .vs)) (play-goes i pick (hitAfter hit j) older newer x xs (low d))
+              ∙ after-more (g .vs) (sampleOf (point next pick)) (play i pick Absent newer next xs)
+              ∙ ap₂ (λ (z : ℤ) (ys : List ℤ). after (g .vs ++ (z ∷ [])) (play i pick Absent newer ys xs))
+              (ap (λ (ys : List ℤ). sampleOf (point ys pick)) (sym (next-is d)) ∙ sym e) (sym (next-is d))
+              ∙ ap (λ (k : ℕ). after (g .vs ++ (v ∷ [])) (play i pick (hitAfter hit k) newer out′ xs)) step;
+          older-passes = g .newer-passes;
+          newer-passes = stepped-passes d;
+          room = room-of (i .grid) older (g .older-passes);
+        }
+
+    -- the next step would pass the ceiling
+    pub playing-ends : not done ≡ true → Played whole n j older newer samples
+    playing-ends d = go (g .places) (g .samples-are) (g .long) (g .whole-is)
+      where
+        go : (places : List ℤ) → samples ≡ g .vs ++ places → j + length places ≡ n → whole
+            ≡ after (g .vs) (play i pick (hitAfter hit j) older newer places)
+            → Played whole n j older newer samples
+        go [] a l w = absurd (omega (arith, l, h))
+        go (x ∷ xs) a l w =
+            let beyond-next : someBeyond next ≡ true = not-false (someBeyond next) (sym (t .done-is) ∙ not-true done d) in
+            ended-by NextBeyond (x ∷ xs) a (w ∙ ap (after (g .vs)) (play-ends i pick (hitAfter hit j) older newer x xs beyond-next))
+            (sym (ap (λ (t : Bool). cond t NextBeyond Nothing) (lt-ltb j n h)))
+
+  -- every place has its sample
+  pub playing-done : n ≤ j → Played whole n j older newer samples
+  unfolding play
+  playing-done h = go (g .places) (g .samples-are) (g .long) (g .whole-is)
+    where
+      go : (places : List ℤ) → samples ≡ g .vs ++ places → j + length places ≡ n → whole
+          ≡ after (g .vs) (play i pick (hitAfter hit j) older newer places)
+          → Played whole n j older newer samples
+      go (x ∷ xs) a l w = absurd (omega (arith, l, h))
+      go [] a l w = ended-by Nothing [] a w (sym (ap (λ (t : Bool). cond t NextBeyond Nothing) (le-ltb j n h)))
+
+-- ---- the three slices by their roles
+
+module _ {p : ℕ} {i : Instrument} {h : Hit} {a₀ b₀ c₀ a b c : List ℤ} {done : Bool} (s : SteppedIn p i h a₀ b₀ c₀ a b c done) where
+  -- after a step
+  pub playing-turned : {p′ pick n j : ℕ} {hit : Hit} {whole : AfterSteps} {samples : List ℤ} → p′ ≡ turnedOf p
+      → Playing i pick hit whole n (newerOf p a₀ b₀ c₀) (outOf p a b c) (olderOf p a₀ b₀ c₀) samples j
+      → Playing i pick hit whole n (olderOf p′ a b c) (newerOf p′ a b c) (outOf p′ a b c) samples j
+  playing-turned {p′} {pick} {n} {j} {hit} {whole} {samples} e g =
+      let older : olderOf p′ a b c ≡ newerOf p a₀ b₀ c₀ = ap (λ (p : ℕ). olderOf p a b c) e ∙ turned-older p a b c ∙ s .newer-kept in
+      let newer : newerOf p′ a b c ≡ outOf p a b c = ap (λ (p : ℕ). newerOf p a b c) e ∙ turned-newer p a b c in
+      let out : outOf p′ a b c ≡ olderOf p a₀ b₀ c₀ = ap (λ (p : ℕ). outOf p a b c) e ∙ turned-out p a b c ∙ s .older-kept in
+      coe 1 0 (k. Playing i pick hit whole n (older k) (newer k) (out k) samples j) g
+
+  -- a step that is not done leaves the two levels
+  pub played-kept : {whole : AfterSteps} {n j : ℕ} {samples : List ℤ} → Played whole n j (olderOf p a₀ b₀ c₀) (newerOf p a₀ b₀ c₀) samples
+      → Played whole n j (olderOf p a b c) (newerOf p a b c) samples
+  played-kept {whole} {n} {j} {samples} q = coe 1 0 (k. Played whole n j (s .older-kept k) (s .newer-kept k) samples) q
+
+-- the lengths of the slices, by those of the roles
+pub long-in-roles : (p n : ℕ) (a b c : List ℤ) → length (olderOf p a b c) ≡ n → length (newerOf p a b c) ≡ n → length (outOf p a b c) ≡ n
+    → (length a ≡ n) × (length b ≡ n) × (length c ≡ n)
+long-in-roles zero n a b c x y z = (x, y, z)
+long-in-roles (suc zero) n a b c x y z = (z, x, y)
+long-in-roles (suc (suc k)) n a b c x y z = (y, z, x)

@@ -1,0 +1,168 @@
+-- `level_run` meets its contract: the rows passed have their next values.
+use mathlib.Core.Path.{_≡_, _∙_}
+use Prim.Native.Nat.{_+_, _-_, _≤_, _<_, zero-le}
+use native.Mathlib.Omega.{arith}
+use borrow.Author.Tests.{not-true, not-false}
+use Rattle.scheme.specs.declared.Grid.{Grid}
+use Rattle.scheme.specs.Instruments.{points}
+use Rattle.kinds.specs.declared.runs.Run.{Run}
+use Rattle.kinds.specs.Runs.{runOf}
+use Rattle.steps.specs.Edges.{runAt}
+use Rattle.steps.specs.Roles.{Steppable}
+use Rattle.steps.proofs.PlanLaws.{few-rows, few-points}
+use Rattle.steps.proofs.FillLaws.{ran-fine}
+use Rattle.steps.proofs.RowLaws.{RowRun, Rows, rows-start, rows-done, steppable-ready, run-here, row-room, run-moves, rows-stop}
+use Rattle.steps.proofs.RowLaws.{rows-more, stepped-all, stepped-not}
+use Rattle.steps.proofs.level.level_run.Statement.{statement}
+use Rattle.steps.proofs.level.level_run.Tie as tie
+
+-- the rows passed have their next values
+abbrev Inv-loop : tie.InvT-loop
+Inv-loop plan from to older newer out₀ hit columns rows row₀ start₀ out row start =
+    Rows (plan .instrument) hit older newer out₀ out row start
+
+abbrev μ-loop : tie.MeasureT-loop
+μ-loop plan from to older newer out₀ hit columns rows row₀ start₀ out row start = rows - row
+
+-- what the caller showed
+module _ (s : tie.Start Inv-loop μ-loop) where
+  abbrev g : Grid
+  g = s .args .plan .instrument .grid
+
+  given : Steppable (s .args .plan) (s .args .hit) (s .args .older .now) (s .args .newer .now) (s .args .out .now)
+  given = s .pre .0
+
+-- a row, and its run
+module _ (c : tie.In-loop Inv-loop μ-loop) where
+  abbrev start : tie.Start Inv-loop μ-loop
+  start = c .before .before
+
+  abbrev inv : Rows (start .args .plan .instrument) (start .args .hit) (start .args .older .now) (start .args .newer .now)
+      (start .args .out .now)
+      (c .before .loop .out) (c .before .loop .row) (c .before .loop .start)
+  inv = c .before .loop .inv
+
+  below : c .before .loop .row < g start .rows
+  below = c .loop-test .taken
+
+  abbrev here : Run
+  here = runAt (start .args .from .now) (start .args .to .now) (c .before .loop .row)
+
+  here-is : here ≡ runOf (g start) (c .before .loop .row)
+  here-is = start .pre .1 .each (c .before .loop .row) below
+
+  moves : RowRun (g start) (c .before .loop .start) here
+  moves = run-here (given start) inv below here here-is
+
+  -- the row lies in the level
+  room : c .before .loop .start + g start .columns ≤ points (g start)
+  room = row-room (given start) inv below here here-is
+
+  small : points (g start) ≤ 4096
+  small = few-points (given start .planned)
+
+  -- and has an entry
+  few : c .before .loop .row < 64
+  few = omega (arith, below, few-rows (given start .planned))
+
+loop-holds : tie.Need-loop-holds Inv-loop μ-loop
+loop-holds c = rows-start _ _ _ _ _
+
+mul-t14 : tie.Need-mul-t14 Inv-loop μ-loop
+mul-t14 c = record { fits = omega (arith, few c) }
+
+element-copy-out-t17 : tie.Need-element-copy-out-t17 Inv-loop μ-loop
+element-copy-out-t17 c = few c
+
+cast-t18 : tie.Need-cast-t18 Inv-loop μ-loop
+cast-t18 c = let t = c .before in record { fits = omega (arith, room t, small t, moves t .inside, moves t .rising) }
+
+add-t19 : tie.Need-add-t19 Inv-loop μ-loop
+add-t19 c = let t = c .before in record { fits = omega (arith, room t, small t, moves t .inside, moves t .rising) }
+
+mul-t20 : tie.Need-mul-t20 Inv-loop μ-loop
+mul-t20 c = record { fits = omega (arith, few (c .before)) }
+
+element-copy-out-t23 : tie.Need-element-copy-out-t23 Inv-loop μ-loop
+element-copy-out-t23 c = few (c .before)
+
+cast-t24 : tie.Need-cast-t24 Inv-loop μ-loop
+cast-t24 c = let t = c .before .before in record { fits = omega (arith, room t, small t, moves t .inside) }
+
+add-t25 : tie.Need-add-t25 Inv-loop μ-loop
+add-t25 c = let t = c .before .before in record { fits = omega (arith, room t, small t, moves t .inside) }
+
+row-run-requires : tie.Need-row-run-requires Inv-loop μ-loop
+row-run-requires c κs =
+    let t = c .before .before .before in
+    let p = given (start t) in (
+      (
+        steppable-ready p,
+        record {
+          order = omega (arith, moves t .rising);
+          above = zero-le;
+          room = omega (arith, moves t .inside, room t, inv t .ran .long, p .room .long);
+        },
+      ),
+      (run-moves p (inv t) (below t) (here t) (here-is t), p .hit-low),
+    )
+
+-- once the row is done
+abbrev at-row : tie.After-out Inv-loop μ-loop → tie.In-loop Inv-loop μ-loop
+at-row c = c .before .before .before .before .before
+
+same-length : tie.Need-same-length Inv-loop μ-loop
+same-length c = let t = at-row (c .before) in c .before .before .row-run .ensures .long ∙ inv t .ran .long
+
+returns : tie.Need-returns Inv-loop μ-loop
+returns c =
+    let t = at-row (c .before) in
+    let p = given (start t) in
+    stepped-not p (rows-stop p (inv t) (below t) (here t) (here-is t)
+    (ran-fine (not-true _ (c .if1 .taken)) (c .before .before .row-run .ensures)))
+
+add-row : tie.Need-add-row Inv-loop μ-loop
+add-row c = record { fits = omega (arith, few (at-row (c .before))) }
+
+add-start : tie.Need-add-start Inv-loop μ-loop
+add-start c = let t = at-row (c .before) in record { fits = omega (arith, room t, small t) }
+
+loop-less : tie.Need-loop-less Inv-loop μ-loop
+loop-less c = omega (arith, below (at-row (c .before)))
+
+loop-again : tie.Need-loop-again Inv-loop μ-loop
+loop-again c =
+    let t = at-row (c .before) in
+    rows-more (given (start t)) (inv t) (below t) (here t) (here-is t)
+    (ran-fine (not-false _ (c .if1 .left)) (c .before .before .row-run .ensures))
+
+same-length-2 : tie.Need-same-length-2 Inv-loop μ-loop
+same-length-2 c = c .before .loop .inv .ran .long
+
+returns-2 : tie.Need-returns-2 Inv-loop μ-loop
+returns-2 c = let p = given (c .before .before) in stepped-all p (rows-done p (c .before .loop .inv) (c .loop-test .left))
+
+pub level-run-spec : {M : Type 1} → statement M
+level-run-spec =
+    tie.close
+    (tie.spec
+    Inv-loop
+    μ-loop
+    loop-holds
+    mul-t14
+    element-copy-out-t17
+    cast-t18
+    add-t19
+    mul-t20
+    element-copy-out-t23
+    cast-t24
+    add-t25
+    row-run-requires
+    same-length
+    returns
+    add-row
+    add-start
+    loop-less
+    loop-again
+    same-length-2
+    returns-2)

@@ -1,0 +1,223 @@
+-- `play` meets its contract: j steps are done, and the rest is a play from where they left the levels.
+use mathlib.Core.Path.{_≡_, sym, ap, _∙_, subst}
+use mathlib.Core.List.{List}
+use Prim.Native.Nat.{_+_, _-_, _^_, _<_}
+use native.Mathlib.Omega.{arith}
+use lib.IntN.{ℤ}
+use lib.ListN.{length}
+use mir.Syntax.{w16}
+use mir.ValLaws.{toZ-ofZ}
+use Rattle.scheme.specs.declared.Grid.{Grid}
+use Rattle.scheme.specs.Instruments.{points}
+use Rattle.scheme.specs.Calls as Calls
+use Rattle.scheme.specs.Calls.{AfterSteps}
+use Rattle.scheme.specs.Claims.{LevelPasses}
+use Rattle.scheme.proofs.Laws.Refusals.{passes-low}
+use Rattle.steps.specs.Roles.{Steppable, SteppedIn, olderOf, newerOf, outOf}
+use Rattle.steps.proofs.PlayLaws.{Playing, playing-start, playing-steppable, samples-long, stepped-passes, playing-on, playing-ends}
+use Rattle.steps.proofs.PlayLaws.{playing-done, playing-turned, played-kept, long-in-roles}
+use Rattle.steps.proofs.play.play.Statement.{statement}
+use Rattle.steps.proofs.play.play.Tie as tie
+
+abbrev Inv-loop : tie.InvT-loop
+Inv-loop plan from to older₀ newer₀ work₀ samples₀ pick hit phase₀ j₀ older newer work samples phase j =
+    Playing (plan .instrument) pick hit (Calls.play (plan .instrument) pick hit older₀ newer₀ samples₀) (length samples₀)
+    (olderOf phase older newer work) (newerOf phase older newer work) (outOf phase older newer work) samples j
+
+abbrev μ-loop : tie.MeasureT-loop
+μ-loop plan from to older₀ newer₀ work₀ samples₀ pick hit phase₀ j₀ older newer work samples phase j =
+    length samples₀ - j
+
+-- what the caller showed
+module _ (s : tie.Start Inv-loop μ-loop) where
+  abbrev g : Grid
+  g = s .args .plan .instrument .grid
+
+  given : Steppable (s .args .plan) (s .args .hit) (s .args .older .now) (s .args .newer .now) (s .args .work .now)
+  given = s .pre .0 .0
+
+  -- three slices of the grid's length are as long as those that were lent
+  record Longs (a b c : List ℤ) : Type 0 where
+    older : length a ≡ length (s .args .older .now)
+    newer : length b ≡ length (s .args .newer .now)
+    work : length c ≡ length (s .args .work .now)
+
+  longs : {a b c : List ℤ} → (length a ≡ points g) × (length b ≡ points g) × (length c ≡ points g) → Longs a b c
+  longs l = record {
+    older = l .0 ∙ sym (given .older-passes .long);
+    newer = l .1 ∙ sym (given .newer-passes .long);
+    work = l .2 ∙ sym (given .room .long);
+  }
+
+-- where the loop stands
+module _ (c : tie.At-loop Inv-loop μ-loop) where
+  abbrev start : tie.Start Inv-loop μ-loop
+  start = c .before
+
+  abbrev whole : AfterSteps
+  whole = Calls.play (start .args .plan .instrument) (start .args .pick) (start .args .hit) (start .args .older .now)
+      (start .args .newer .now) (start .args .samples .now)
+
+  abbrev inv : Playing (start .args .plan .instrument) (start .args .pick) (start .args .hit) whole (length (start .args .samples .now))
+      (olderOf (c .loop .phase) (c .loop .older) (c .loop .newer) (c .loop .work))
+      (newerOf (c .loop .phase) (c .loop .older) (c .loop .newer) (c .loop .work))
+      (outOf (c .loop .phase) (c .loop .older) (c .loop .newer) (c .loop .work)) (c .loop .samples) (c .loop .j)
+  inv = c .loop .inv
+
+  loop-longs : Longs start (c .loop .older) (c .loop .newer) (c .loop .work)
+  loop-longs = longs start (long-in-roles (c .loop .phase) (points (g start)) _ _ _ (inv .older-passes .long) (inv .newer-passes .long)
+      (inv .room .long))
+
+-- a step
+module _ (c : tie.After-work Inv-loop μ-loop) where
+  abbrev struck : tie.After-hit-of Inv-loop μ-loop
+  struck = c .before .before .before .before .before .before .before
+
+  abbrev at : tie.At-loop Inv-loop μ-loop
+  at = struck .before .before
+
+  abbrev stepped : tie.After-step-in-roles Inv-loop μ-loop
+  stepped = c .before .before .before
+
+  abbrev older : List ℤ
+  older = stepped .step-in-roles .last .1 .1 .1 .0
+
+  abbrev newer : List ℤ
+  newer = stepped .step-in-roles .last .1 .1 .1 .1 .0
+
+  abbrev work : List ℤ
+  work = stepped .step-in-roles .last .1 .1 .1 .1 .1 .0
+
+  abbrev left : SteppedIn (at .loop .phase) (start at .args .plan .instrument) (struck .hit-of .result) (at .loop .older) (at .loop .newer)
+      (at .loop .work)
+      older newer work (stepped .step-in-roles .result)
+  left = stepped .step-in-roles .ensures
+
+  place : at .loop .j < length (start at .args .samples .now)
+  place = omega (arith, struck .before .loop-test .taken, samples-long (inv at))
+
+  step-longs : Longs (start at) older newer work
+  step-longs =
+      longs (start at) (long-in-roles (at .loop .phase) (points (g (start at))) older newer work
+      (ap length (left .older-kept) ∙ inv at .older-passes .long)
+      (ap length (left .newer-kept) ∙ inv at .newer-passes .long) (left .stepped .long))
+
+-- one that was done
+module _ (c : tie.Else1 Inv-loop μ-loop) where
+  passes : LevelPasses (g (start (at (c .before))))
+      (outOf (at (c .before) .loop .phase) (older (c .before)) (newer (c .before)) (work (c .before)))
+  passes = let w = c .before in stepped-passes (inv (at w)) (place w) (struck w .hit-of .ensures) (left w .stepped) (c .if1 .left)
+
+  place-low : at (c .before) .loop .j < 2 ^ 62
+  place-low = omega (arith, place (c .before), start (at (c .before)) .good .1 .1 .1 .1 .1 .1 .0 .1)
+
+-- its sample is read, and written
+abbrev done : tie.After-sample-in-roles Inv-loop μ-loop → tie.Else1 Inv-loop μ-loop
+done c = c .before .before .before .before
+
+abbrev written : tie.After-turned Inv-loop μ-loop → tie.After-put Inv-loop μ-loop
+written c = c .before .before
+
+loop-holds : tie.Need-loop-holds Inv-loop μ-loop
+loop-holds c = playing-start (given c) (c .args .pick) (c .args .samples .now)
+
+hit-of-requires : tie.Need-hit-of-requires Inv-loop μ-loop
+hit-of-requires c κs = tt
+
+step-in-roles-requires : tie.Need-step-in-roles-requires Inv-loop μ-loop
+step-in-roles-requires c κs =
+    let h = c .before .before .before in
+    let t = h .before .before in
+    (playing-steppable (given (start t)) (h .hit-of .ensures) (inv t), start t .pre .1)
+
+same-length : tie.Need-same-length Inv-loop μ-loop
+same-length c = step-longs (c .before) .older
+
+same-length-2 : tie.Need-same-length-2 Inv-loop μ-loop
+same-length-2 c = step-longs (c .before) .newer
+
+same-length-3 : tie.Need-same-length-3 Inv-loop μ-loop
+same-length-3 c = step-longs (c .before) .work
+
+same-length-4 : tie.Need-same-length-4 Inv-loop μ-loop
+same-length-4 c = samples-long (inv (at (c .before)))
+
+returns : tie.Need-returns Inv-loop μ-loop
+returns c =
+    let w = c .before in
+    played-kept (left w) (playing-ends (inv (at w)) (place w) (struck w .hit-of .ensures) (left w .stepped) (c .if1 .taken))
+
+sample-in-roles-requires : tie.Need-sample-in-roles-requires Inv-loop μ-loop
+sample-in-roles-requires c κs =
+    let e = c .before .before .before in
+    let s = start (at (e .before)) in
+    (omega (arith, passes e .long, s .pre .0 .1), passes-low (g s) _ (passes e))
+
+put-requires : tie.Need-put-requires Inv-loop μ-loop
+put-requires c κs = omega (arith, struck (done (c .before) .before) .before .loop-test .taken)
+
+turned-requires : tie.Need-turned-requires Inv-loop μ-loop
+turned-requires c κs = tt
+
+add-j : tie.Need-add-j Inv-loop μ-loop
+add-j c = omega (arith, place-low (done (written c .before .before)))
+
+loop-less : tie.Need-loop-less Inv-loop μ-loop
+loop-less c = omega (arith, place (done (written c .before .before) .before))
+
+loop-again : tie.Need-loop-again Inv-loop μ-loop
+loop-again c =
+    let p = written c in
+    let r = p .before .before .sample-in-roles in
+    let e = done (p .before .before) in
+    let w = e .before in
+    let s = start (at w) in
+    subst
+    (λ (xs : List ℤ). Playing (s .args .plan .instrument) (s .args .pick) (s .args .hit) (whole (at w)) (length (s .args .samples .now))
+    (olderOf (c .turned .result) (older w) (newer w) (work w)) (newerOf (c .turned .result) (older w) (newer w) (work w))
+    (outOf (c .turned .result) (older w) (newer w) (work w)) xs (at w .loop .j + 1))
+    (sym (p .put .ensures))
+    (playing-turned (left w) (c .turned .ensures)
+    (playing-on (inv (at w)) (place w) (struck w .hit-of .ensures) (left w .stepped) (e .if1 .left) _
+    (toZ-ofZ w16 (r .result) (record { sfits = r .ok }) ∙ r .ensures)))
+
+same-length-5 : tie.Need-same-length-5 Inv-loop μ-loop
+same-length-5 c = loop-longs (c .before) .older
+
+same-length-6 : tie.Need-same-length-6 Inv-loop μ-loop
+same-length-6 c = loop-longs (c .before) .newer
+
+same-length-7 : tie.Need-same-length-7 Inv-loop μ-loop
+same-length-7 c = loop-longs (c .before) .work
+
+same-length-8 : tie.Need-same-length-8 Inv-loop μ-loop
+same-length-8 c = samples-long (inv (c .before))
+
+returns-2 : tie.Need-returns-2 Inv-loop μ-loop
+returns-2 c = playing-done (inv (c .before)) (omega (arith, c .loop-test .left, samples-long (inv (c .before))))
+
+pub play-spec : {M : Type 1} → statement M
+play-spec =
+    tie.close
+    (tie.spec
+    Inv-loop
+    μ-loop
+    loop-holds
+    hit-of-requires
+    step-in-roles-requires
+    same-length
+    same-length-2
+    same-length-3
+    same-length-4
+    returns
+    sample-in-roles-requires
+    put-requires
+    turned-requires
+    add-j
+    loop-less
+    loop-again
+    same-length-5
+    same-length-6
+    same-length-7
+    same-length-8
+    returns-2)

@@ -1,0 +1,182 @@
+-- `next_point` meets its contract: its numerator is the scheme's, and so is the value that it is rounded to.
+use mathlib.Core.Path.{_≡_, sym, ap, _∙_, subst}
+use mathlib.Core.Bool.{not, Bool·not-not}
+use Prim.Native.Nat.{ℕ, _*_, _^_, _≤_}
+use native.Mathlib.Omega.{arith}
+use borrow.Author.Needs.{needs}
+use lib.IntN.{ℤ, natAbs, _-ℤ_, _*ℤ_}
+use mir.Syntax.{w64}
+use mir.Val.{toZ, ofZ}
+use Rattle.bounded.specs.Between.{Between}
+use Rattle.bounded.proofs.Num.{back}
+use Rattle.bounded.proofs.Expr.{E, at, is, said}
+use Rattle.scheme.specs.declared.Settings.{Settings}
+use Rattle.scheme.specs.Lists.{point}
+use Rattle.scheme.specs.Instruments.{ceiling, beyond}
+use Rattle.scheme.specs.Step.{numeratorOf, roundAway, divisor}
+use Rattle.scheme.proofs.Laws.Ranges.{partial-sums}
+use Rattle.steps.specs.Plan.{Updatable, Ready, Neighbouring}
+use Rattle.steps.specs.Run.{valueAt}
+use Rattle.steps.proofs.Held.{held, held-below}
+use Rattle.steps.proofs.FillLaws.{point-beyond, point-written, point-tested}
+use Rattle.steps.proofs.PlanLaws.{divisor-between}
+use Rattle.steps.proofs.PointLaws.{updatable, value-is}
+use Rattle.steps.proofs.points.next_point.Statement.{statement}
+use Rattle.steps.proofs.points.next_point.Tie as tie
+
+-- what the caller showed
+module _ (s : tie.Start) where
+  abbrev c : Settings
+  c = s .args .plan .instrument .settings
+
+  ready : Ready (s .args .plan) (s .args .s .force) (s .args .older .now) (s .args .newer .now)
+  ready = s .pre .0 .0
+
+  beside : Neighbouring (s .args .plan .instrument) (s .args .newer .now) (s .args .at) (s .args .sum) (s .args .count) (s .args .b)
+  beside = s .pre .0 .1
+
+  -- each number as the machine has it
+  abbrev u : ℤ
+  u = point (s .args .newer .now) (s .args .at)
+
+  abbrev p : ℤ
+  p = point (s .args .older .now) (s .args .at)
+
+  abbrev f : ℤ
+  f = s .args .s .force
+
+  given : Updatable c u (s .args .sum) (s .args .count) (s .args .b) p f
+  given = updatable ready beside
+
+  u-is : toZ w64 (ofZ w64 u) ≡ u
+  u-is = held (given .u-low)
+
+  sum-is : toZ w64 (ofZ w64 (s .args .sum)) ≡ s .args .sum
+  sum-is = held-below (4 * ceiling) tt (given .sum-low)
+
+  count-is : toZ w64 (ofZ w64 (s .args .count)) ≡ s .args .count
+  count-is = held-below 4 tt (given .count-low)
+
+  b-is : toZ w64 (ofZ w64 (s .args .b)) ≡ s .args .b
+  b-is = held-below (64 * ceiling) tt (given .b-low)
+
+  p-is : toZ w64 (ofZ w64 p) ≡ p
+  p-is = held (given .p-low)
+
+  f-is : toZ w64 (ofZ w64 f) ≡ f
+  f-is = held (given .f-low)
+
+  abbrev numerator-there : ℤ
+  numerator-there = numeratorOf c u (s .args .sum -ℤ s .args .count *ℤ u) (s .args .b) p f
+
+  abbrev value : ℕ → ℤ
+  value = valueAt (s .args .plan .instrument) f (s .args .older .now) (s .args .newer .now)
+
+  abbrev divisor# : E
+  divisor# = at (s .args .plan .divisor) (2 ^ 31) (divisor-between (ready .planned) .high)
+
+-- the numerator is the scheme's
+module _ (c : tie.After-numerator) where
+  abbrev start : tie.Start
+  start = c .before .before .before .before
+
+  abbrev stored : ℤ
+  stored = toZ w64 (ofZ w64 (c .numerator .result))
+
+  numerator-is : stored ≡ numerator-there start
+  numerator-is =
+      let s = start in
+      back (c .numerator .result) (c .numerator .ok) ∙ c .numerator .ensures ∙
+      (λ j. numeratorOf (s .args .plan .instrument .settings) (u-is s j) (sum-is s j -ℤ count-is s j *ℤ u-is s j) (b-is s j) (p-is s j)
+      (f-is s j))
+
+  -- what it is rounded to is the point's value
+  rounded : roundAway stored (divisor (start .args .plan .instrument .settings)) ≡ value start (start .args .at)
+  rounded = ap (λ (n : ℤ). roundAway n (divisor (start .args .plan .instrument .settings))) numerator-is
+      ∙ value-is (ready start) (beside start)
+
+  numerator-low : natAbs stored ≤ 2 ^ 62
+  numerator-low = subst (λ (z : ℤ). natAbs z ≤ 2 ^ 62) (sym numerator-is) (partial-sums _ _ _ _ _ _ (given start .terms) .five)
+
+-- whether it lies beyond the ceiling
+module _ (c : tie.After-is-within) where
+  abbrev s : tie.Start
+  s = start (c .before)
+
+  beyond-is : beyond (value s (s .args .at)) ≡ not (c .is-within .result)
+  beyond-is =
+      ap beyond (sym (rounded (c .before))) ∙ sym (Bool·not-not _) ∙ ap not (sym (c .is-within .ensures))
+
+mul-numerator : tie.Need-mul-numerator
+mul-numerator c = search needs
+
+shared-slice-copy-out-numerator : tie.Need-shared-slice-copy-out-numerator
+shared-slice-copy-out-numerator c = search needs
+
+mul-numerator-2 : tie.Need-mul-numerator-2
+mul-numerator-2 c = search needs
+
+shared-slice-copy-out-numerator-2 : tie.Need-shared-slice-copy-out-numerator-2
+shared-slice-copy-out-numerator-2 c = search needs
+
+numerator-requires : tie.Need-numerator-requires
+numerator-requires c κs =
+    let s = c .before .before .before in (
+      ready s .planned,
+      coe 1 0 (j. Updatable (s .args .plan .instrument .settings) (u-is s j) (sum-is s j) (count-is s j) (b-is s j) (p-is s j) (f-is s j))
+          (given s),
+    )
+
+is-within-requires : tie.Need-is-within-requires
+is-within-requires c κs = search needs
+
+returns : tie.Need-returns
+returns c = point-beyond _ _ (beyond-is (c .before) ∙ c .if1 .taken)
+
+round-away-requires : tie.Need-round-away-requires
+round-away-requires c κs = let n = c .before .before .before .before in
+    (numerator-low n, said (Between 1 (2 ^ 31)) (divisor# (start n)) tt (divisor-between (ready (start n) .planned)))
+
+sub-t20 : tie.Need-sub-t20
+sub-t20 c = search needs
+
+mul-t21 : tie.Need-mul-t21
+mul-t21 c = search needs
+
+slice-set-from-out : tie.Need-slice-set-from-out
+slice-set-from-out c = search needs
+
+same-length : tie.Need-same-length
+same-length c = search needs
+
+returns-2 : tie.Need-returns-2
+returns-2 c =
+    let w = c .before .before .before .before .before in
+    let n = w .before in
+    let s = start n in
+    point-written _ _ _ (c .before .before .before .if2 .taken) (omega (arith, s .pre .1)) (omega (arith, s .pre .1))
+    (back (c .before .round-away .result) (c .before .round-away .ok) ∙ c .before .round-away .ensures ∙
+    ap (λ (d : ℤ). roundAway (stored n) (natAbs d)) (is (divisor# s) tt ∙ ready s .planned .divisor-is) ∙ rounded n)
+    (beyond-is w ∙ c .before .before .before .before .if1 .left)
+
+returns-3 : tie.Need-returns-3
+returns-3 c = point-tested _ _ (c .if2 .left) (beyond-is (c .before .before) ∙ c .before .if1 .left)
+
+pub next-point-spec : {M : Type 1} → statement M
+next-point-spec =
+    tie.close
+    (tie.spec
+    mul-numerator
+    shared-slice-copy-out-numerator
+    mul-numerator-2
+    shared-slice-copy-out-numerator-2
+    numerator-requires
+    is-within-requires
+    returns
+    round-away-requires
+    sub-t20
+    mul-t21
+    slice-set-from-out
+    same-length
+    returns-2
+    returns-3)

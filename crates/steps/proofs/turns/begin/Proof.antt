@@ -1,0 +1,103 @@
+-- `begin` meets its contract: work begins at 0, and the steps are the paper's.
+use mathlib.Core.Path.{_≡_}
+use borrow.Author.Needs.{needs}
+use lib.ListN.{length}
+use Rattle.scheme.specs.declared.Refusal.the-variants.{Nothing}
+use Rattle.scheme.specs.Refusals.{wrongLength, blockRefusal}
+use Rattle.scheme.proofs.Laws.Refusals.{instrument-passes, block-passes}
+use Rattle.steps.specs.declared.plan.Plan.{Plan}
+use Rattle.steps.proofs.PlanLaws.{few-rows}
+use Rattle.steps.proofs.TurnLaws.{pick-inside, first-steppable, own-steps}
+use Rattle.steps.proofs.turns.begin.Statement.{statement}
+use Rattle.steps.proofs.turns.begin.Tie as tie
+
+-- where the steps begin: how the call began, and the plan
+module _ (c : tie.After-play-arg4) where
+  abbrev edged : tie.After-row-edges
+  edged = c .before .before .before .before .before .before .before .before .before .before .before
+
+  abbrev planned : tie.After-make-plan
+  planned = edged .before .before .before
+
+  abbrev start : tie.Start
+  start = planned .before
+
+  abbrev plan : Plan
+  plan = planned .make-plan .result
+
+  -- no refusal applies
+  passes : blockRefusal (start .args .i) (start .args .older .now) (start .args .newer .now)
+      (wrongLength (start .args .i .grid) (length (start .args .work .now)))
+      (start .args .pick) (start .args .hit) ≡ Nothing
+  passes = start .pre
+
+make-plan-requires : tie.Need-make-plan-requires
+make-plan-requires c κs =
+    let a = c .args in
+    instrument-passes (a .i)
+    (block-passes (a .i) (a .older .now) (a .newer .now) (wrongLength (a .i .grid) (length (a .work .now))) (a .pick) (a .hit)
+    (c .pre) .instrument)
+
+slice-aggregate-row-edges : tie.Need-slice-aggregate-row-edges
+slice-aggregate-row-edges c = search needs
+
+slice-aggregate-row-edges-2 : tie.Need-slice-aggregate-row-edges-2
+slice-aggregate-row-edges-2 c = search needs
+
+row-edges-requires : tie.Need-row-edges-requires
+row-edges-requires c κs =
+    let plan = c .before .before .make-plan .ensures .1 in
+    let few = few-rows plan in
+    (plan .passes .size, few, few)
+
+clear-requires : tie.Need-clear-requires
+clear-requires c κs = search needs
+
+play-requires : tie.Need-play-requires
+play-requires c κs =
+    let a = start c .args in
+    let m = planned c .make-plan in (
+      (
+        first-steppable (a .i) (a .older .now) (a .newer .now) (a .work .now) (a .pick) (a .hit) (passes c) (plan c) (m .ensures .0)
+            (m .ensures .1) _
+            (c .before .before .before .before .before .before .before .clear .ensures),
+        pick-inside (a .i) (a .older .now) (a .newer .now) (a .work .now) (a .pick) (a .hit) (passes c) (plan c) (m .ensures .0),
+      ),
+      edged c .row-edges .ensures,
+    )
+
+same-length : tie.Need-same-length
+same-length c = search needs
+
+same-length-2 : tie.Need-same-length-2
+same-length-2 c = search needs
+
+same-length-3 : tie.Need-same-length-3
+same-length-3 c = search needs
+
+same-length-4 : tie.Need-same-length-4
+same-length-4 c = search needs
+
+returns : tie.Need-returns
+returns c =
+    let q = c .before .before .before .before in
+    let b = q .before in
+    let a = start b .args in
+    own-steps (a .i) (a .older .now) (a .newer .now) (a .work .now) (a .pick) (a .hit) (passes b) (plan b) (planned b .make-plan .ensures .0)
+    (a .samples .now) (q .play .ensures)
+
+pub begin-spec : {M : Type 1} → statement M
+begin-spec =
+    tie.close
+    (tie.spec
+    make-plan-requires
+    slice-aggregate-row-edges
+    slice-aggregate-row-edges-2
+    row-edges-requires
+    clear-requires
+    play-requires
+    same-length
+    same-length-2
+    same-length-3
+    same-length-4
+    returns)

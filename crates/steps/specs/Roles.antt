@@ -1,0 +1,80 @@
+-- Whole levels by their roles: what a step and the steps of a block leave in the lent slices. Vocabulary of private functions.
+use mathlib.Core.Path.{_≡_}
+use mathlib.Core.Bool.{Bool, true, false, cond, not}
+use mathlib.Core.List.{List}
+use Prim.Native.Nat.{ℕ, zero, suc}
+use lib.Dec.{ltb}
+use lib.IntN.{ℤ, pos}
+use lib.ListN.{length}
+use Rattle.scheme.specs.declared.Grid.{Grid}
+use Rattle.scheme.specs.declared.Instrument.{Instrument}
+use Rattle.scheme.specs.declared.Hit.{Hit}
+use Rattle.scheme.specs.Lists.{point}
+use Rattle.scheme.specs.Instruments.{points, moving}
+use Rattle.scheme.specs.Step.{nextLevel, someBeyond}
+use Rattle.scheme.specs.Refusals.{notMoving, tooStrong}
+use Rattle.scheme.specs.declared.Refusal.the-variants.{Nothing, NextBeyond}
+use Rattle.scheme.specs.Calls.{AfterSteps}
+use Rattle.scheme.specs.Claims.{LevelPasses}
+use Rattle.steps.specs.declared.plan.Plan.{Plan}
+use Rattle.steps.specs.Plan.{Planned}
+
+-- room for a level of the grid: 0 where nothing moves
+pub record Room (g : Grid) (out : List ℤ) : Type 0 where
+  pub long : length out ≡ points g
+  pub still : (k : ℕ) → moving g k ≡ false → point out k ≡ pos 0
+
+-- what a step is given
+pub record Steppable (p : Plan) (h : Hit) (older newer out : List ℤ) : Type 0 where
+  pub planned : Planned p
+  pub older-passes : LevelPasses (p .instrument .grid) older
+  pub newer-passes : LevelPasses (p .instrument .grid) newer
+  pub room : Room (p .instrument .grid) out
+  pub hit-moving : notMoving (p .instrument .grid) h ≡ false
+  pub hit-low : tooStrong h ≡ false
+
+-- what a step leaves: the next level in out where it lies within the ceiling
+pub record Stepped (i : Instrument) (h : Hit) (older newer out : List ℤ) (done : Bool) : Type 0 where
+  pub done-is : done ≡ not (someBeyond (nextLevel i h older newer))
+  pub next-is : done ≡ true → out ≡ nextLevel i h older newer
+  pub long : length out ≡ points (i .grid)
+
+-- ---- three slices in turn: after a step the newer level is older, the next one newer, and the older one's place is free
+
+-- the phase: 0, 1 or 2
+abbrev pub turnedOf : ℕ → ℕ
+turnedOf zero = 1
+turnedOf (suc zero) = 2
+turnedOf (suc (suc k)) = 0
+
+-- of three slices, the one in the role of older
+abbrev pub olderOf : ℕ → (a b c : List ℤ) → List ℤ
+olderOf zero a b c = a
+olderOf (suc zero) a b c = b
+olderOf (suc (suc k)) a b c = c
+
+-- in the role of newer
+abbrev pub newerOf : ℕ → (a b c : List ℤ) → List ℤ
+newerOf zero a b c = b
+newerOf (suc zero) a b c = c
+newerOf (suc (suc k)) a b c = a
+
+-- that the next level is put into
+abbrev pub outOf : ℕ → (a b c : List ℤ) → List ℤ
+outOf zero a b c = c
+outOf (suc zero) a b c = a
+outOf (suc (suc k)) a b c = b
+
+-- what a step leaves in the slices: the next level in its place, the other two as they were
+pub record SteppedIn (phase : ℕ) (i : Instrument) (h : Hit) (a₀ b₀ c₀ a b c : List ℤ) (done : Bool) : Type 0 where
+  pub stepped : Stepped i h (olderOf phase a₀ b₀ c₀) (newerOf phase a₀ b₀ c₀) (outOf phase a b c) done
+  pub older-kept : olderOf phase a b c ≡ olderOf phase a₀ b₀ c₀
+  pub newer-kept : newerOf phase a b c ≡ newerOf phase a₀ b₀ c₀
+
+-- what the steps of a block leave, with n places for samples: p is what the definition says
+pub record Played (p : AfterSteps) (n done : ℕ) (older newer samples : List ℤ) : Type 0 where
+  pub done-is : done ≡ p .answer .steps
+  pub refusal-is : p .answer .refusal ≡ cond (ltb done n) NextBeyond Nothing
+  pub older-is : older ≡ p .older
+  pub newer-is : newer ≡ p .newer
+  pub samples-are : samples ≡ p .samples

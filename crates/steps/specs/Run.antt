@@ -1,0 +1,113 @@
+-- Runs of points, and the list that their values are put into. Vocabulary of private functions.
+use mathlib.Core.Path.{_≡_}
+use mathlib.Core.Bool.{Bool, true, false, cond}
+use mathlib.Core.List.{List, [], _∷_}
+use mathlib.Core.Logic.{_⊎_}
+use Prim.Native.Nat.{ℕ, _+_, _-_, _*_, _≤_, _<_}
+use lib.Dec.{ltb}
+use lib.IntN.{ℤ, pos, _+ℤ_, _-ℤ_, _*ℤ_}
+use lib.ListN.{length}
+use Rattle.scheme.specs.declared.Grid.{Grid}
+use Rattle.scheme.specs.declared.Instrument.{Instrument}
+use Rattle.scheme.specs.declared.Hit.{Hit}
+use Rattle.scheme.specs.Lists.{point}
+use Rattle.scheme.specs.Instruments.{beyond, points, atEdge, moving}
+use Rattle.scheme.specs.Step.{neighbours, numerator, roundAway, divisor, forceOf, nextAt}
+use Rattle.steps.specs.declared.plan.Plan.{Plan}
+use Rattle.steps.specs.declared.stretch.Stretch.{Stretch}
+
+-- the next value of point k with the force f there, moving or not
+unfoldable pub valueAt : Instrument → ℤ → (older newer : List ℤ) → ℕ → ℤ
+valueAt i f older newer k = roundAway (numerator i (point newer) (point older) (λ j. f) k) (divisor (i .settings))
+
+-- ---- what the loops keep
+
+-- the values v of the points from..to stand in out, point k at place k − base, if they are written; every other place of out is as it was
+pub record Filled (v : ℕ → ℤ) (write : Bool) (base : ℕ) (out₀ out : List ℤ) (from to : ℕ) : Type 0 where
+  pub long : length out ≡ length out₀
+  pub written : write ≡ true → (k : ℕ) → from ≤ k → k < to → point out (k - base) ≡ v k
+  pub kept : (j : ℕ) → (write ≡ false) ⊎ ((j + base < from) ⊎ (to ≤ j + base)) → point out j ≡ point out₀ j
+
+-- none of the points from..to has a value beyond the ceiling
+abbrev pub NoneBeyond : (v : ℕ → ℤ) (from to : ℕ) → Type 0
+NoneBeyond v from to = (k : ℕ) → from ≤ k → k < to → beyond (v k) ≡ false
+
+-- one of them has
+pub record OneBeyond (v : ℕ → ℤ) (from to : ℕ) : Type 0 where
+  pub at : ℕ
+  pub first : from ≤ at
+  pub last : at < to
+  pub beyond-there : beyond (v at) ≡ true
+
+-- what a run of the points from..to answers and leaves: fine, every value within the ceiling and in its place; else one beyond
+pub record Ran (v : ℕ → ℤ) (write : Bool) (base : ℕ) (out₀ out : List ℤ) (from to : ℕ) (fine : Bool) : Type 0 where
+  pub long : length out ≡ length out₀
+  pub filled : fine ≡ true → Filled v write base out₀ out from to
+  pub low : fine ≡ true → NoneBeyond v from to
+  pub stopped : fine ≡ false → OneBeyond v from to
+
+-- the same of points of a stretch
+abbrev pub Advanced : Plan → Stretch → (older newer out₀ out : List ℤ) → (from to : ℕ) → Bool → Type 0
+Advanced p s older newer out₀ out from to fine =
+    Ran (valueAt (p .instrument) (s .force) older newer) (s .write) (s .base) out₀ out from to fine
+
+-- the same of points with the forces of a hit
+abbrev pub Stepping : Instrument → Hit → (write : Bool) (base : ℕ) (older newer out₀ out : List ℤ) → (from to : ℕ) → Bool → Type 0
+Stepping i h write base older newer out₀ out from to fine = Ran (nextAt i h older newer) write base out₀ out from to fine
+
+-- ---- where a run lies
+
+-- a stretch whose values find their places among n
+pub record Placed (s : Stretch) (n : ℕ) : Type 0 where
+  pub order : s .from ≤ s .to
+  pub above : s .base ≤ s .from
+  pub room : s .to ≤ s .base + n
+
+-- moving points
+pub record Moves (g : Grid) (from to : ℕ) : Type 0 where
+  pub order : from ≤ to
+  pub each : (k : ℕ) → from ≤ k → k < to → moving g k ≡ true
+
+-- inner points of a line
+pub record OnLine (g : Grid) (from to : ℕ) : Type 0 where
+  pub line : g .rows ≡ 1
+  pub first : 1 ≤ from
+  pub last : to + 1 ≤ g .columns
+
+-- one end of a line where it is free, or none of its points: the one neighbour is `near`
+pub record FreeEnd (i : Instrument) (near from to : ℕ) : Type 0 where
+  pub one : to ≤ from + 1
+  pub inside : near < points (i .grid)
+  pub there : from < to → from < points (i .grid)
+  pub twice : from < to → neighbours (i .grid) from ≡ near ∷ near ∷ []
+  pub soft : from < to → i .settings .m ≡ 0
+
+-- k, or the end of from..to that is nearer to it
+unfoldable pub clamp : (from to : ℕ) → ℕ → ℕ
+clamp from to k = let a = cond (ltb from k) k from in cond (ltb a to) a to
+
+-- what lies of a stretch in a..e
+abbrev pub partOf : Stretch → (a e : ℕ) → Stretch
+partOf s a e = record {
+  from = clamp (s .from) (s .to) a;
+  to = clamp (s .from) (s .to) e;
+  force = s .force;
+  base = s .base;
+  write = s .write;
+}
+
+-- where a stretch may end: one force on all its points
+pub record Ends (h : Hit) (a e r : ℕ) : Type 0 where
+  pub some : a < r
+  pub upto : r ≤ e
+  pub one-force : (k : ℕ) → a ≤ k → k < r → forceOf h k ≡ forceOf h a
+
+-- ---- stiffness, on a line
+
+-- L on a line, from the points beside
+abbrev pub lineLaplacian : List ℤ → ℕ → ℤ
+lineLaplacian xs k = point xs (k - 1) +ℤ point xs (k + 1) -ℤ pos 2 *ℤ point xs k
+
+-- L of a bar, 0 at its supported ends
+abbrev pub barLaplacian : List ℤ → ℕ → ℤ
+barLaplacian xs k = cond (atEdge (length xs) k) (pos 0) (lineLaplacian xs k)

@@ -1,0 +1,14 @@
+// The steps of a block, on three slices whose roles turn.
+mod arithmetic;
+mod bending;
+mod edges;
+mod level;
+mod plan;
+mod play;
+mod points;
+mod roles;
+mod stretch;
+mod turns;
+
+pub use turns::InTurn;
+pub use turns::steps_in_turn;

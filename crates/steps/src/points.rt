@@ -1,0 +1,165 @@
+// The next values of a stretch of moving points, put into a slice that is neither older nor newer.
+// Each function answers whether all of them lie within the ceiling: at the first that does not it stops.
+ghost use mathlib.Core.Path.{_≡_};
+ghost use Prim.Native.Nat.{_+_, _-_, _≤_, _<_};
+ghost use lib.ListN.{length};
+ghost use Rattle.steps.specs.Plan.{Ready, Neighbouring};
+ghost use Rattle.scheme.specs.Instruments.{bar, kind};
+ghost use Rattle.steps.specs.Run.{Advanced, Placed, Moves, OnLine, FreeEnd};
+use crate::arithmetic::numerator;
+use crate::arithmetic::round_away;
+use crate::bending::laplacian_at;
+use crate::plan::Plan;
+use crate::plan::is_within;
+use crate::stretch::Stretch;
+use crate::stretch::part;
+
+// One point: sum and count are its neighbours', b is L of L there.
+fn next_point(
+    plan: Plan,
+    older: &[i64],
+    newer: &[i64],
+    at: usize,
+    sum: i64,
+    count: i64,
+    b: i64,
+    s: Stretch,
+    out: &mut [i64],
+) -> bool
+    requires { ⌜ Ready plan (s .force) (now older) (now newer) × Neighbouring (plan .instrument) (now newer) at sum count b ⌝ }
+    requires { ⌜ Placed s (length (now out)) × (s .from ≤ at) × (at < s .to) ⌝ }
+    ensures { λ r. ⌜ Advanced plan s (now (older .entry)) (now (newer .entry)) (now (out .entry)) (now (out .exit)) at (at + 1) r ⌝ }
+{
+    let n = numerator(plan, newer[at], sum, count, b, older[at], s.force);
+    if !is_within(plan, n) {
+        return false;
+    }
+    if s.write {
+        out[at - s.base] = round_away(n, plan.divisor);
+    }
+    true
+}
+
+// Inner points of a line, without stiffness.
+fn line_run(plan: Plan, older: &[i64], newer: &[i64], s: Stretch, out: &mut [i64]) -> bool
+    requires { ⌜ Ready plan (s .force) (now older) (now newer) × Placed s (length (now out)) ⌝ }
+    requires { ⌜ OnLine (plan .instrument .grid) (s .from) (s .to) × (plan .instrument .settings .m ≡ 0) ⌝ }
+    ensures { λ r. ⌜ Advanced plan s (now (older .entry)) (now (newer .entry)) (now (out .entry)) (now (out .exit)) (s .from) (s .to) r ⌝ }
+{
+    let mut at = s.from;
+    while at < s.to {
+        let sum = newer[at - 1] + newer[at + 1];
+        if !next_point(plan, older, newer, at, sum, 2, 0, s, out) {
+            return false;
+        }
+        at += 1;
+    }
+    true
+}
+
+// Points of a bar: L of L by the values of L before, here and after.
+fn bar_run(plan: Plan, older: &[i64], newer: &[i64], s: Stretch, out: &mut [i64]) -> bool
+    requires { ⌜ Ready plan (s .force) (now older) (now newer) × Placed s (length (now out)) ⌝ }
+    requires { ⌜ OnLine (plan .instrument .grid) (s .from) (s .to) × (kind (plan .instrument .grid) ≡ bar) ⌝ }
+    ensures { λ r. ⌜ Advanced plan s (now (older .entry)) (now (newer .entry)) (now (out .entry)) (now (out .exit)) (s .from) (s .to) r ⌝ }
+{
+    let mut at = s.from;
+    let mut left = laplacian_at(newer, at - 1);
+    let mut here = laplacian_at(newer, at);
+    while at < s.to {
+        let right = laplacian_at(newer, at + 1);
+        let sum = newer[at - 1] + newer[at + 1];
+        let b = left + right - 2 * here;
+        if !next_point(plan, older, newer, at, sum, 2, b, s, out) {
+            return false;
+        }
+        left = here;
+        here = right;
+        at += 1;
+    }
+    true
+}
+
+// Inner points of a line. Only a bar is stiff.
+fn inner_points(plan: Plan, older: &[i64], newer: &[i64], s: Stretch, out: &mut [i64]) -> bool
+    requires { ⌜ Ready plan (s .force) (now older) (now newer) × Placed s (length (now out)) ⌝ }
+    requires { ⌜ OnLine (plan .instrument .grid) (s .from) (s .to) ⌝ }
+    ensures { λ r. ⌜ Advanced plan s (now (older .entry)) (now (newer .entry)) (now (out .entry)) (now (out .exit)) (s .from) (s .to) r ⌝ }
+{
+    if plan.m == 0 {
+        return line_run(plan, older, newer, s, out);
+    }
+    bar_run(plan, older, newer, s, out)
+}
+
+// The part of a stretch that is one end of a line, if it has one: at a free end the one neighbour counts twice.
+fn free_end(
+    plan: Plan,
+    older: &[i64],
+    newer: &[i64],
+    near: usize,
+    s: Stretch,
+    out: &mut [i64],
+) -> bool
+    requires { ⌜ Ready plan (s .force) (now older) (now newer) × Placed s (length (now out)) ⌝ }
+    requires { ⌜ FreeEnd (plan .instrument) near (s .from) (s .to) ⌝ }
+    ensures { λ r. ⌜ Advanced plan s (now (older .entry)) (now (newer .entry)) (now (out .entry)) (now (out .exit)) (s .from) (s .to) r ⌝ }
+{
+    if s.from == s.to {
+        return true;
+    }
+    let x = newer[near];
+    next_point(plan, older, newer, s.from, x + x, 2, 0, s, out)
+}
+
+// Moving points of a line: its first, if it is one of them, the inner ones, its last.
+fn line_points(plan: Plan, older: &[i64], newer: &[i64], s: Stretch, out: &mut [i64]) -> bool
+    requires { ⌜ Ready plan (s .force) (now older) (now newer) × Placed s (length (now out)) ⌝ }
+    requires { ⌜ (plan .instrument .grid .rows ≡ 1) × Moves (plan .instrument .grid) (s .from) (s .to) × (s .from < s .to) ⌝ }
+    ensures { λ r. ⌜ Advanced plan s (now (older .entry)) (now (newer .entry)) (now (out .entry)) (now (out .exit)) (s .from) (s .to) r ⌝ }
+{
+    let n = newer.len();
+    if !free_end(plan, older, newer, 1, part(s, 0, 1), out) {
+        return false;
+    }
+    if !inner_points(plan, older, newer, part(s, 1, n - 1), out) {
+        return false;
+    }
+    free_end(plan, older, newer, n - 2, part(s, n - 1, n), out)
+}
+
+// Moving points of a row of a grid.
+fn grid_run(plan: Plan, older: &[i64], newer: &[i64], s: Stretch, out: &mut [i64]) -> bool
+    requires { ⌜ Ready plan (s .force) (now older) (now newer) × Placed s (length (now out)) ⌝ }
+    requires { ⌜ (plan .instrument .grid .rows ≡ 1 → ⊥) × Moves (plan .instrument .grid) (s .from) (s .to) ⌝ }
+    ensures { λ r. ⌜ Advanced plan s (now (older .entry)) (now (newer .entry)) (now (out .entry)) (now (out .exit)) (s .from) (s .to) r ⌝ }
+{
+    let columns = plan.instrument.grid.columns;
+    let mut at = s.from;
+    while at < s.to {
+        let sum = newer[at - 1] + newer[at + 1] + newer[at - columns] + newer[at + columns];
+        if !next_point(plan, older, newer, at, sum, 4, 0, s, out) {
+            return false;
+        }
+        at += 1;
+    }
+    true
+}
+
+// Moving points of a row.
+pub(crate) fn points_run(
+    plan: Plan,
+    older: &[i64],
+    newer: &[i64],
+    s: Stretch,
+    out: &mut [i64],
+) -> bool
+    requires { ⌜ Ready plan (s .force) (now older) (now newer) × Placed s (length (now out)) ⌝ }
+    requires { ⌜ Moves (plan .instrument .grid) (s .from) (s .to) × (s .from < s .to) ⌝ }
+    ensures { λ r. ⌜ Advanced plan s (now (older .entry)) (now (newer .entry)) (now (out .entry)) (now (out .exit)) (s .from) (s .to) r ⌝ }
+{
+    if plan.instrument.grid.rows == 1 {
+        return line_points(plan, older, newer, s, out);
+    }
+    grid_run(plan, older, newer, s, out)
+}

@@ -1,0 +1,100 @@
+// The steps of a call: its checks, and its steps where nothing refuses them.
+ghost use mathlib.Core.Path.{_≡_};
+ghost use mathlib.Core.Bool.{cond};
+ghost use lib.Dec.{ltb};
+ghost use lib.ListN.{length};
+ghost use Rattle.scheme.specs.declared.Refusal.the-variants.{Nothing, NextBeyond};
+ghost use Rattle.scheme.specs.Refusals.{wrongLength, blockRefusal};
+ghost use Rattle.scheme.specs.Calls.{block};
+ghost use Rattle.scheme.specs.Calls as Calls;
+ghost use Rattle.steps.specs.Roles.{Played, olderOf, newerOf};
+ghost use Rattle.steps.specs.Turns.{Turned};
+use crate::edges::row_edges;
+use crate::plan::make_plan;
+use crate::play::Steps;
+use crate::play::play;
+use checks::block_refusal;
+use checks::is_nothing;
+use checks::wrong_length;
+use scheme::Hit;
+use scheme::Instrument;
+use scheme::Refusal;
+use slices::clear;
+
+// What the steps of a call leave: whether it was carried out, the steps done, what refused or ended them,
+// and the phase that the three slices are in.
+pub struct InTurn {
+    pub begun: bool,
+    pub steps: usize,
+    pub refusal: Refusal,
+    pub phase: usize,
+}
+
+// 13 where fewer steps were done than there are places.
+fn ending(done: usize, places: usize) -> Refusal
+    ensures { λ r. ⌜ r ≡ cond (ltb done places) NextBeyond Nothing ⌝ }
+{
+    if done < places {
+        Refusal::NextBeyond
+    } else {
+        Refusal::Nothing
+    }
+}
+
+// The steps of a block that 1 to 12 let pass.
+fn begin(
+    i: Instrument,
+    older: &mut [i64],
+    newer: &mut [i64],
+    work: &mut [i64],
+    samples: &mut [i16],
+    pick: usize,
+    hit: Hit,
+) -> Steps
+    requires { ⌜ blockRefusal i (now older) (now newer) (wrongLength (i .grid) (length (now work))) pick hit ≡ Nothing ⌝ }
+    ensures { λ r. ⌜ Played (Calls.play i pick hit (now (older .entry)) (now (newer .entry)) (now (samples .entry)))
+        (length (now (samples .entry))) (r .done) (olderOf (r .phase) (now (older .exit)) (now (newer .exit)) (now (work .exit)))
+        (newerOf (r .phase) (now (older .exit)) (now (newer .exit)) (now (work .exit))) (now (samples .exit)) ⌝ }
+{
+    let plan = make_plan(i);
+    let mut from = [0u16; 64];
+    let mut to = [0u16; 64];
+    row_edges(plan.instrument.grid, &mut from, &mut to);
+    clear(work);
+    play(plan, &from, &to, older, newer, work, samples, pick, hit)
+}
+
+// As many steps as samples has places, the hit in the first, each level left in the slice that the phase tells; or what refuses them.
+// Ruled out: every sample put in the first place; a level put in place though its last point passes the ceiling.
+pub fn steps_in_turn(
+    i: Instrument,
+    older: &mut [i64],
+    newer: &mut [i64],
+    work: &mut [i64],
+    samples: &mut [i16],
+    pick: usize,
+    hit: Hit,
+) -> InTurn
+    ensures { λ r. ⌜ Turned
+        (blockRefusal i (now (older .entry)) (now (newer .entry)) (wrongLength (i .grid) (length (now (work .entry)))) pick hit)
+        (block i (now (older .entry)) (now (newer .entry)) (now (work .entry)) (now (samples .entry)) pick hit)
+        r (now (older .exit)) (now (newer .exit)) (now (work .exit)) (now (samples .exit)) ⌝ }
+{
+    let wrong = wrong_length(i.grid, work.len());
+    let refusal = block_refusal(i, older, newer, wrong, pick, hit);
+    if !is_nothing(refusal) {
+        return InTurn {
+            begun: false,
+            steps: 0,
+            refusal,
+            phase: 0,
+        };
+    }
+    let steps = begin(i, older, newer, work, samples, pick, hit);
+    InTurn {
+        begun: true,
+        steps: steps.done,
+        refusal: ending(steps.done, samples.len()),
+        phase: steps.phase,
+    }
+}
