@@ -22,7 +22,7 @@ fn common(m: usize, n: usize) -> usize
     if m < n { m } else { n }
 }
 
-// Copies as many points as both slices have. Ruled out: point 0 left as it was; the first point put everywhere.
+// Copies as many points as both slices have. Ruled out: point 0 left as it was; the length of xs not looked at.
 pub fn copy(xs: &[i64], ys: &mut [i64])
     ensures { λ _. ⌜ now (ys .exit) ≡ copied (now (xs .entry)) (now (ys .entry)) ⌝ }
 {
