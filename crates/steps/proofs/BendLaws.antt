@@ -20,7 +20,7 @@ use Rattle.scheme.specs.Ranges.{AtMost}
 use Rattle.scheme.proofs.Laws.Bools.{or-neither}
 use Rattle.scheme.proofs.Laws.Neighbours.{line-inner}
 use Rattle.steps.specs.Plan.{Neighbouring}
-use Rattle.steps.specs.Run.{OnLine, lineLaplacian, barLaplacian}
+use Rattle.steps.specs.Run.{OnLine, twoBeside, lineLaplacian, barLaplacian}
 use Rattle.steps.proofs.KindLaws.{line-long}
 use Rattle.steps.proofs.BesideLaws.{at#, beside#, sum-two, two-laplacian}
 
@@ -83,7 +83,7 @@ module _ (g : Grid) (line : g .rows ≡ 1) (is-bar : kind g ≡ bar) (xs : List 
 -- a point of a bar: its two neighbours, and L of L
 pub bar-beside : (i : Instrument) → kind (i .grid) ≡ bar → (newer : List ℤ) → length newer ≡ points (i .grid) → AtMost ceiling (point newer)
     → {from to : ℕ} → OnLine (i .grid) from to → (k : ℕ) → from ≤ k → k < to
-    → Neighbouring i newer k (point newer (k - 1) +ℤ point newer (k + 1)) (pos 2) (bendingOf newer k)
+    → Neighbouring i newer k (twoBeside newer k) (pos 2) (bendingOf newer k)
 bar-beside i is-bar newer long low on k first last =
     let g = i .grid in
     let h : 0 < k = omega (arith, on .first) in

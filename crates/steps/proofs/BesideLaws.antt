@@ -10,7 +10,7 @@ use lib.IntN.{ℤ, pos, _+ℤ_, _-ℤ_, _*ℤ_, zero-*ℤ}
 use lib.ListN.{length}
 use Rattle.integers.specs.Sum.{sumOver}
 use Rattle.integers.proofs.Ring.{#_, _⊕_, _≈_, ring}
-use Rattle.bounded.proofs.Expr.{E, at, _⊞_}
+use Rattle.bounded.proofs.Expr.{E, at, via, _⊞_, size}
 use Rattle.scheme.specs.declared.Grid.{Grid}
 use Rattle.scheme.specs.declared.Instrument.{Instrument}
 use Rattle.scheme.specs.Lists.{point}
@@ -20,7 +20,7 @@ use Rattle.scheme.specs.Passing.{InstrumentPasses}
 use Rattle.scheme.specs.Ranges.{AtMost}
 use Rattle.scheme.proofs.Laws.Neighbours.{line-inner, line-first, line-last, grid-inner, grid-below}
 use Rattle.steps.specs.Plan.{Neighbouring}
-use Rattle.steps.specs.Run.{Moves, OnLine, FreeEnd, clamp}
+use Rattle.steps.specs.Run.{Moves, OnLine, FreeEnd, clamp, twoBeside, fourBeside}
 use Rattle.steps.proofs.KindLaws.{Edge, line-long, wide, stiff, line-in, line-free, bar-inner, grid-soft, grid-free, grid-in}
 use Rattle.steps.proofs.StretchLaws.{clamp-before, clamp-inside, clamp-after}
 
@@ -32,6 +32,10 @@ module _ (xs : List ℤ) (low : AtMost ceiling (point xs)) where
 
   abbrev pub beside# : ℕ → E
   beside# k = at# (k - 1) ⊞ at# (k + 1)
+
+  -- that sum, as a function answered it
+  abbrev pub two# : (k : ℕ) {r : ℤ} → r ≡ twoBeside xs k → E
+  two# k {r} e = via {r = r} {z = twoBeside xs k} {B = 2 * ceiling} (record { is = e; size = size (beside# k) tt })
 
 -- ---- the sum over two and over four neighbours
 
@@ -84,7 +88,7 @@ module _ (i : Instrument) (ok : InstrumentPasses i) where
 
   -- an inner point, without stiffness
   pub line-beside : {from to : ℕ} → OnLine g from to → m ≡ 0 → (newer : List ℤ) (k : ℕ) → from ≤ k → k < to
-      → Neighbouring i newer k (point newer (k - 1) +ℤ point newer (k + 1)) (pos 2) (pos 0)
+      → Neighbouring i newer k (twoBeside newer k) (pos 2) (pos 0)
   line-beside on soft newer k first last =
       soft-beside newer k _ _ (omega (arith, on .last, line-long g (on .line))) soft
       (line-inner g k (on .line) (omega (arith, on .last)) (omega (arith, on .first)) (omega (arith, on .last)))
@@ -164,8 +168,7 @@ module _ (i : Instrument) (ok : InstrumentPasses i) where
   -- ---- a grid
 
   pub grid-beside : (g .rows ≡ 1 → ⊥) → (newer : List ℤ) (k : ℕ) → moving g k ≡ true
-      → Neighbouring i newer k (point newer (k - 1) +ℤ point newer (k + 1) +ℤ point newer (k - g .columns) +ℤ point newer (k + g .columns))
-      (pos 4) (pos 0)
+      → Neighbouring i newer k (fourBeside newer (g .columns) k) (pos 4) (pos 0)
   grid-beside grid newer k mk =
       let n = grid-in i ok grid k mk in
       soft-beside newer k _ _ (omega (arith, grid-below g k (n .1) (n .3))) (grid-soft i ok grid)

@@ -102,11 +102,19 @@ pub record Ends (h : Hit) (a e r : ℕ) : Type 0 where
   pub upto : r ≤ e
   pub one-force : (k : ℕ) → a ≤ k → k < r → forceOf h k ≡ forceOf h a
 
--- ---- stiffness, on a line
+-- ---- neighbours
 
--- L on a line, from the points beside
+-- the points to the left and to the right, summed
+abbrev pub twoBeside : List ℤ → ℕ → ℤ
+twoBeside xs k = point xs (k - 1) +ℤ point xs (k + 1)
+
+-- these, and the points above and below
+abbrev pub fourBeside : List ℤ → (columns : ℕ) → ℕ → ℤ
+fourBeside xs columns k = twoBeside xs k +ℤ point xs (k - columns) +ℤ point xs (k + columns)
+
+-- L on a line
 abbrev pub lineLaplacian : List ℤ → ℕ → ℤ
-lineLaplacian xs k = point xs (k - 1) +ℤ point xs (k + 1) -ℤ pos 2 *ℤ point xs k
+lineLaplacian xs k = twoBeside xs k -ℤ pos 2 *ℤ point xs k
 
 -- L of a bar, 0 at its supported ends
 abbrev pub barLaplacian : List ℤ → ℕ → ℤ

@@ -1,8 +1,8 @@
 // The steps of a block, on three slices whose roles turn.
 mod arithmetic;
-mod bending;
 mod edges;
 mod level;
+mod neighbours;
 mod plan;
 mod play;
 mod points;

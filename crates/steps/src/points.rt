@@ -8,7 +8,9 @@ ghost use Rattle.scheme.specs.Instruments.{bar, kind};
 ghost use Rattle.steps.specs.Run.{Advanced, Placed, Moves, OnLine, FreeEnd};
 use crate::arithmetic::numerator;
 use crate::arithmetic::round_away;
-use crate::bending::laplacian_at;
+use crate::neighbours::around;
+use crate::neighbours::beside;
+use crate::neighbours::laplacian_at;
 use crate::plan::Plan;
 use crate::plan::is_within;
 use crate::stretch::Stretch;
@@ -48,7 +50,7 @@ fn line_run(plan: Plan, older: &[i64], newer: &[i64], s: Stretch, out: &mut [i64
 {
     let mut at = s.from;
     while at < s.to {
-        let sum = newer[at - 1] + newer[at + 1];
+        let sum = beside(newer, at);
         if !next_point(plan, older, newer, at, sum, 2, 0, s, out) {
             return false;
         }
@@ -68,7 +70,7 @@ fn bar_run(plan: Plan, older: &[i64], newer: &[i64], s: Stretch, out: &mut [i64]
     let mut here = laplacian_at(newer, at);
     while at < s.to {
         let right = laplacian_at(newer, at + 1);
-        let sum = newer[at - 1] + newer[at + 1];
+        let sum = beside(newer, at);
         let b = left + right - 2 * here;
         if !next_point(plan, older, newer, at, sum, 2, b, s, out) {
             return false;
@@ -137,7 +139,7 @@ fn grid_run(plan: Plan, older: &[i64], newer: &[i64], s: Stretch, out: &mut [i64
     let columns = plan.instrument.grid.columns;
     let mut at = s.from;
     while at < s.to {
-        let sum = newer[at - 1] + newer[at + 1] + newer[at - columns] + newer[at + columns];
+        let sum = around(newer, at, columns);
         if !next_point(plan, older, newer, at, sum, 4, 0, s, out) {
             return false;
         }

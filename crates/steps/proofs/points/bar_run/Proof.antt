@@ -14,7 +14,6 @@ use Rattle.scheme.specs.Instruments.{bar, kind}
 use Rattle.steps.specs.Plan.{Ready, Neighbouring}
 use Rattle.steps.specs.Run.{valueAt, OnLine, barLaplacian}
 use Rattle.steps.proofs.KindLaws.{line-long}
-use Rattle.steps.proofs.BesideLaws.{beside#}
 use Rattle.steps.proofs.BendLaws.{bar#, bar-beside}
 use Rattle.steps.proofs.FillLaws.{placed-after, Running, running-start, running-on, running-stops, running-done, ran-fine}
 use Rattle.steps.proofs.points.bar_run.Statement.{statement}
@@ -88,10 +87,7 @@ module _ (c : tie.After-laplacian-at3 Inv-loop μ-loop) where
   right-is : toZ w64 (ofZ w64 (c .laplacian-at3 .result)) ≡ L s (k turn + 1)
   right-is = back (c .laplacian-at3 .result) (c .laplacian-at3 .ok) ∙ c .laplacian-at3 .ensures
 
-  -- the neighbours and L of L, as the machine adds them
-  abbrev sum# : E
-  sum# = beside# (s .args .newer .now) (ready s .newer-low) (k turn)
-
+  -- L of L, as the machine adds it
   abbrev outer# : E
   outer# =
       bar# (s .args .newer .now) (ready s .newer-low) (k turn - 1) (turn .before .before .loop .inv .1)
@@ -100,16 +96,21 @@ module _ (c : tie.After-laplacian-at3 Inv-loop μ-loop) where
   abbrev twice# : E
   twice# = num 2 ⊠ bar# (s .args .newer .now) (ready s .newer-low) (k turn) (turn .before .before .loop .inv .2)
 
-  beside : Neighbouring (s .args .plan .instrument) (s .args .newer .now) (k turn) (red sum#) (pos 2) (red (outer# ⊟ twice#))
-  beside =
-      coe 1 0 (j. Neighbouring (s .args .plan .instrument) (s .args .newer .now) (k turn) (is sum# tt j) (pos 2)
-      (is (outer# ⊟ twice#) tt j))
-      (bar-beside (s .args .plan .instrument) (is-bar s) (s .args .newer .now) (ready s .newer-long) (ready s .newer-low) (on s) (k turn)
-      (first turn) (last turn))
+-- once its neighbours are there
+beside : (c : tie.After-beside Inv-loop μ-loop) → let r = c .before in
+    Neighbouring (s r .args .plan .instrument) (s r .args .newer .now) (k (turn r)) (toZ w64 (ofZ w64 (c .beside .result))) (pos 2)
+    (red (outer# r ⊟ twice# r))
+beside c =
+    let r = c .before in
+    let t = turn r in
+    let sum = back (c .beside .result) (c .beside .ok) ∙ c .beside .ensures in
+    coe 1 0 (j. Neighbouring (s r .args .plan .instrument) (s r .args .newer .now) (k t) (sum j) (pos 2) (is (outer# r ⊟ twice# r) tt j))
+    (bar-beside (s r .args .plan .instrument) (is-bar (s r)) (s r .args .newer .now) (ready (s r) .newer-long) (ready (s r) .newer-low)
+    (on (s r)) (k t) (first t) (last t))
 
 -- once the point is done
 abbrev right : tie.After-out Inv-loop μ-loop → tie.After-laplacian-at3 Inv-loop μ-loop
-right c = c .before .before .before .before .before
+right c = c .before .before .before .before
 
 sub-laplacian-at : tie.Need-sub-laplacian-at Inv-loop μ-loop
 sub-laplacian-at c = on c .first
@@ -136,42 +137,24 @@ add-laplacian-at c = let h = inside c in search needs
 laplacian-at-requires-3 : tie.Need-laplacian-at-requires-3 Inv-loop μ-loop
 laplacian-at-requires-3 c κs = (inside c, ready (start c) .newer-low)
 
-sub-sum : tie.Need-sub-sum Inv-loop μ-loop
-sub-sum c = above (turn c)
-
-mul-sum : tie.Need-mul-sum Inv-loop μ-loop
-mul-sum c = let h = inside (turn c) in search needs
-
-shared-slice-copy-out-sum : tie.Need-shared-slice-copy-out-sum Inv-loop μ-loop
-shared-slice-copy-out-sum c = omega (arith, inside (turn c))
-
-add-sum : tie.Need-add-sum Inv-loop μ-loop
-add-sum c = let h = inside (turn (c .before)) in search needs
-
-mul-sum-2 : tie.Need-mul-sum-2 Inv-loop μ-loop
-mul-sum-2 c = let h = inside (turn (c .before)) in search needs
-
-shared-slice-copy-out-sum-2 : tie.Need-shared-slice-copy-out-sum-2 Inv-loop μ-loop
-shared-slice-copy-out-sum-2 c = inside (turn (c .before))
-
-add-sum-2 : tie.Need-add-sum-2 Inv-loop μ-loop
-add-sum-2 c = fits (sum# (c .before .before)) tt
+beside-requires : tie.Need-beside-requires Inv-loop μ-loop
+beside-requires c κs = let t = turn c in (above t, inside t, ready (start t) .newer-low)
 
 add-b : tie.Need-add-b Inv-loop μ-loop
-add-b c = fits (outer# (c .before .before)) tt
+add-b c = fits (outer# (c .before)) tt
 
 mul-b : tie.Need-mul-b Inv-loop μ-loop
-mul-b c = fits (twice# (c .before .before)) tt
+mul-b c = fits (twice# (c .before)) tt
 
 sub-b : tie.Need-sub-b Inv-loop μ-loop
-sub-b c = fits (outer# (c .before .before) ⊟ twice# (c .before .before)) tt
+sub-b c = fits (outer# (c .before) ⊟ twice# (c .before)) tt
 
 next-point-requires : tie.Need-next-point-requires Inv-loop μ-loop
 next-point-requires c κs =
-    let r = c .before .before .before in
-    let t = turn r in
+    let b = c .before in
+    let t = turn (b .before) in
     let s = start t in
-    ((ready s, beside r), (placed-after (s .pre .0 .1) (inv t .ran .long), first t, last t))
+    ((ready s, beside b), (placed-after (s .pre .0 .1) (inv t .ran .long), first t, last t))
 
 same-length : tie.Need-same-length Inv-loop μ-loop
 same-length c = search needs
@@ -217,13 +200,7 @@ bar-run-spec =
     loop-holds
     add-laplacian-at
     laplacian-at-requires-3
-    sub-sum
-    mul-sum
-    shared-slice-copy-out-sum
-    add-sum
-    mul-sum-2
-    shared-slice-copy-out-sum-2
-    add-sum-2
+    beside-requires
     add-b
     mul-b
     sub-b

@@ -1,19 +1,21 @@
 -- `grid_run` meets its contract: each point has its four neighbours in the grid.
-use mathlib.Core.Path.{_≡_}
+use mathlib.Core.Path.{_≡_, sym, _∙_, subst}
 use Prim.Native.Nat.{ℕ, _+_, _-_, _≤_, _<_}
 use native.Mathlib.Omega.{arith}
 use borrow.Author.Needs.{needs}
 use borrow.Author.Tests.{not-true, not-false}
 use lib.IntN.{ℤ, pos}
 use lib.ListN.{length}
-use Rattle.bounded.proofs.Expr.{E, _⊞_, fits, said, red}
+use mir.Syntax.{w64}
+use mir.Val.{toZ, ofZ}
+use Rattle.bounded.proofs.Num.{back}
 use Rattle.scheme.specs.declared.Grid.{Grid}
 use Rattle.scheme.specs.Instruments.{column, row}
 use Rattle.scheme.proofs.Laws.Neighbours.{grid-above, grid-below}
 use Rattle.steps.specs.Plan.{Ready, Neighbouring}
 use Rattle.steps.specs.Run.{valueAt, Moves}
 use Rattle.steps.proofs.KindLaws.{grid-in}
-use Rattle.steps.proofs.BesideLaws.{at#, beside#, grid-beside}
+use Rattle.steps.proofs.BesideLaws.{grid-beside}
 use Rattle.steps.proofs.FillLaws.{placed-after, Running, running-start, running-on, running-stops, running-done, ran-fine}
 use Rattle.steps.proofs.points.grid_run.Statement.{statement}
 use Rattle.steps.proofs.points.grid_run.Tie as tie
@@ -75,82 +77,33 @@ module _ (c : tie.Then1 Inv-loop μ-loop) where
   below : k + g start .columns < length (start .args .newer .now)
   below = omega (arith, ready start .newer-long, grid-below (g start) k (inner .1) (inner .3))
 
-  -- its neighbours, as the machine adds them
-  abbrev value# : ℕ → E
-  value# = at# (start .args .newer .now) (ready start .newer-low)
-
-  abbrev two# : E
-  two# = beside# (start .args .newer .now) (ready start .newer-low) k
-
-  abbrev three# : E
-  three# = two# ⊞ value# (k - g start .columns)
-
-  abbrev sum# : E
-  sum# = three# ⊞ value# (k + g start .columns)
-
-  beside : Neighbouring (start .args .plan .instrument) (start .args .newer .now) k (red sum#) (pos 4) (pos 0)
-  beside =
-      said (λ (z : ℤ). Neighbouring (start .args .plan .instrument) (start .args .newer .now) k z (pos 4) (pos 0)) sum# tt
-      (grid-beside (start .args .plan .instrument) (ready start .planned .passes) (grid start) (start .args .newer .now) k
-      (moves start .each k first last))
+-- its neighbours, as they were stored
+beside : (c : tie.After-around Inv-loop μ-loop) → let t = c .before in
+    Neighbouring (start t .args .plan .instrument) (start t .args .newer .now) (k t) (toZ w64 (ofZ w64 (c .around .result))) (pos 4) (pos 0)
+beside c =
+    let t = c .before in
+    let s = start t in
+    subst (λ (z : ℤ). Neighbouring (s .args .plan .instrument) (s .args .newer .now) (k t) z (pos 4) (pos 0))
+    (sym (back (c .around .result) (c .around .ok) ∙ c .around .ensures))
+    (grid-beside (s .args .plan .instrument) (ready s .planned .passes) (grid s) (s .args .newer .now) (k t)
+    (moves s .each (k t) (first t) (last t)))
 
 -- the same, once the point is done
 abbrev turn : tie.After-out Inv-loop μ-loop → tie.Then1 Inv-loop μ-loop
-turn c = c .before .before .before .before .before .before .before
+turn c = c .before .before .before .before
 
 loop-holds : tie.Need-loop-holds Inv-loop μ-loop
 loop-holds c = let p = c .pre .0 .1 in running-start _ _ _ (p .above) (p .order)
 
-sub-sum : tie.Need-sub-sum Inv-loop μ-loop
-sub-sum c = omega (arith, wide c, above c)
-
-mul-sum : tie.Need-mul-sum Inv-loop μ-loop
-mul-sum c = let h = below c in search needs
-
-shared-slice-copy-out-sum : tie.Need-shared-slice-copy-out-sum Inv-loop μ-loop
-shared-slice-copy-out-sum c = omega (arith, below c)
-
-add-sum : tie.Need-add-sum Inv-loop μ-loop
-add-sum c = let w = wide (c .before) in let h = below (c .before) in search needs
-
-mul-sum-2 : tie.Need-mul-sum-2 Inv-loop μ-loop
-mul-sum-2 c = let w = wide (c .before) in let h = below (c .before) in search needs
-
-shared-slice-copy-out-sum-2 : tie.Need-shared-slice-copy-out-sum-2 Inv-loop μ-loop
-shared-slice-copy-out-sum-2 c = omega (arith, wide (c .before), below (c .before))
-
-add-sum-2 : tie.Need-add-sum-2 Inv-loop μ-loop
-add-sum-2 c = fits (two# (c .before .before)) tt
-
-sub-sum-2 : tie.Need-sub-sum-2 Inv-loop μ-loop
-sub-sum-2 c = omega (arith, above (c .before .before))
-
-mul-sum-3 : tie.Need-mul-sum-3 Inv-loop μ-loop
-mul-sum-3 c = let h = below (c .before .before) in search needs
-
-shared-slice-copy-out-sum-3 : tie.Need-shared-slice-copy-out-sum-3 Inv-loop μ-loop
-shared-slice-copy-out-sum-3 c = omega (arith, below (c .before .before))
-
-add-sum-3 : tie.Need-add-sum-3 Inv-loop μ-loop
-add-sum-3 c = fits (three# (c .before .before .before)) tt
-
-add-sum-4 : tie.Need-add-sum-4 Inv-loop μ-loop
-add-sum-4 c = let h = below (c .before .before .before) in search needs
-
-mul-sum-4 : tie.Need-mul-sum-4 Inv-loop μ-loop
-mul-sum-4 c = let h = below (c .before .before .before) in search needs
-
-shared-slice-copy-out-sum-4 : tie.Need-shared-slice-copy-out-sum-4 Inv-loop μ-loop
-shared-slice-copy-out-sum-4 c = omega (arith, below (c .before .before .before))
-
-add-sum-5 : tie.Need-add-sum-5 Inv-loop μ-loop
-add-sum-5 c = fits (sum# (c .before .before .before .before)) tt
+around-requires : tie.Need-around-requires Inv-loop μ-loop
+around-requires c κs = (omega (arith, wide c), above c, below c, ready (start c) .newer-low)
 
 next-point-requires : tie.Need-next-point-requires Inv-loop μ-loop
 next-point-requires c κs =
-    let t = c .before .before .before .before .before in
+    let b = c .before in
+    let t = b .before in
     let s = start t in
-    ((ready s, beside t), (placed-after (s .pre .0 .1) (inv t .ran .long), first t, last t))
+    ((ready s, beside b), (placed-after (s .pre .0 .1) (inv t .ran .long), first t, last t))
 
 same-length : tie.Need-same-length Inv-loop μ-loop
 same-length c = search needs
@@ -186,21 +139,7 @@ grid-run-spec =
     Inv-loop
     μ-loop
     loop-holds
-    sub-sum
-    mul-sum
-    shared-slice-copy-out-sum
-    add-sum
-    mul-sum-2
-    shared-slice-copy-out-sum-2
-    add-sum-2
-    sub-sum-2
-    mul-sum-3
-    shared-slice-copy-out-sum-3
-    add-sum-3
-    add-sum-4
-    mul-sum-4
-    shared-slice-copy-out-sum-4
-    add-sum-5
+    around-requires
     next-point-requires
     same-length
     returns

@@ -1,16 +1,18 @@
 -- `line_run` meets its contract: each point has its two neighbours on the line.
-use mathlib.Core.Path.{_≡_}
+use mathlib.Core.Path.{_≡_, sym, _∙_, subst}
 use Prim.Native.Nat.{ℕ, _+_, _-_, _≤_, _<_}
 use native.Mathlib.Omega.{arith}
 use borrow.Author.Needs.{needs}
 use borrow.Author.Tests.{not-true, not-false}
 use lib.IntN.{ℤ, pos}
 use lib.ListN.{length}
-use Rattle.bounded.proofs.Expr.{E, fits, said, red}
+use mir.Syntax.{w64}
+use mir.Val.{toZ, ofZ}
+use Rattle.bounded.proofs.Num.{back}
 use Rattle.steps.specs.Plan.{Ready, Neighbouring}
 use Rattle.steps.specs.Run.{valueAt, OnLine}
 use Rattle.steps.proofs.KindLaws.{line-long}
-use Rattle.steps.proofs.BesideLaws.{beside#, line-beside}
+use Rattle.steps.proofs.BesideLaws.{line-beside}
 use Rattle.steps.proofs.FillLaws.{placed-after, Running, running-start, running-on, running-stops, running-done, ran-fine}
 use Rattle.steps.proofs.points.line_run.Statement.{statement}
 use Rattle.steps.proofs.points.line_run.Tie as tie
@@ -65,49 +67,32 @@ module _ (c : tie.Then1 Inv-loop μ-loop) where
   inside : k + 1 < length (start .args .newer .now)
   inside = omega (arith, last, room start)
 
-  -- its neighbours, as the machine adds them
-  abbrev sum# : E
-  sum# = beside# (start .args .newer .now) (ready start .newer-low) k
-
-  beside : Neighbouring (start .args .plan .instrument) (start .args .newer .now) k (red sum#) (pos 2) (pos 0)
-  beside =
-      said (λ (z : ℤ). Neighbouring (start .args .plan .instrument) (start .args .newer .now) k z (pos 2) (pos 0)) sum# tt
-      (line-beside (start .args .plan .instrument) (ready start .planned .passes) (on start) (soft start) (start .args .newer .now) k first
-      last)
+-- its neighbours, as they were stored
+beside : (c : tie.After-beside Inv-loop μ-loop) → let t = c .before in
+    Neighbouring (start t .args .plan .instrument) (start t .args .newer .now) (k t) (toZ w64 (ofZ w64 (c .beside .result))) (pos 2) (pos 0)
+beside c =
+    let t = c .before in
+    let s = start t in
+    subst (λ (z : ℤ). Neighbouring (s .args .plan .instrument) (s .args .newer .now) (k t) z (pos 2) (pos 0))
+    (sym (back (c .beside .result) (c .beside .ok) ∙ c .beside .ensures))
+    (line-beside (s .args .plan .instrument) (ready s .planned .passes) (on s) (soft s) (s .args .newer .now) (k t) (first t) (last t))
 
 -- the same, once the point is done
 abbrev turn : tie.After-out Inv-loop μ-loop → tie.Then1 Inv-loop μ-loop
-turn c = c .before .before .before .before .before
+turn c = c .before .before .before .before
 
 loop-holds : tie.Need-loop-holds Inv-loop μ-loop
 loop-holds c = let p = c .pre .0 .1 in running-start _ _ _ (p .above) (p .order)
 
-sub-sum : tie.Need-sub-sum Inv-loop μ-loop
-sub-sum c = above c
-
-mul-sum : tie.Need-mul-sum Inv-loop μ-loop
-mul-sum c = let h = inside c in search needs
-
-shared-slice-copy-out-sum : tie.Need-shared-slice-copy-out-sum Inv-loop μ-loop
-shared-slice-copy-out-sum c = omega (arith, inside c)
-
-add-sum : tie.Need-add-sum Inv-loop μ-loop
-add-sum c = let h = inside (c .before) in search needs
-
-mul-sum-2 : tie.Need-mul-sum-2 Inv-loop μ-loop
-mul-sum-2 c = let h = inside (c .before) in search needs
-
-shared-slice-copy-out-sum-2 : tie.Need-shared-slice-copy-out-sum-2 Inv-loop μ-loop
-shared-slice-copy-out-sum-2 c = inside (c .before)
-
-add-sum-2 : tie.Need-add-sum-2 Inv-loop μ-loop
-add-sum-2 c = fits (sum# (c .before .before)) tt
+beside-requires : tie.Need-beside-requires Inv-loop μ-loop
+beside-requires c κs = (above c, inside c, ready (start c) .newer-low)
 
 next-point-requires : tie.Need-next-point-requires Inv-loop μ-loop
 next-point-requires c κs =
-    let t = c .before .before .before in
+    let b = c .before in
+    let t = b .before in
     let s = start t in
-    ((ready s, beside t), (placed-after (s .pre .0 .1) (inv t .ran .long), first t, last t))
+    ((ready s, beside b), (placed-after (s .pre .0 .1) (inv t .ran .long), first t, last t))
 
 same-length : tie.Need-same-length Inv-loop μ-loop
 same-length c = search needs
@@ -143,13 +128,7 @@ line-run-spec =
     Inv-loop
     μ-loop
     loop-holds
-    sub-sum
-    mul-sum
-    shared-slice-copy-out-sum
-    add-sum
-    mul-sum-2
-    shared-slice-copy-out-sum-2
-    add-sum-2
+    beside-requires
     next-point-requires
     same-length
     returns

@@ -1,0 +1,38 @@
+// The sum of a point's neighbours, and L along a bar.
+ghost use mathlib.Core.Path.{_≡_};
+ghost use Prim.Native.Nat.{_+_, _≤_, _<_};
+ghost use lib.ListN.{length};
+ghost use Rattle.scheme.specs.Lists.{point};
+ghost use Rattle.scheme.specs.Instruments.{ceiling};
+ghost use Rattle.scheme.specs.Ranges.{AtMost};
+ghost use Rattle.steps.specs.Run.{twoBeside, fourBeside, barLaplacian};
+
+// The points to the left and to the right.
+pub(crate) fn beside(xs: &[i64], k: usize) -> i64
+    requires { ⌜ (1 ≤ k) × (k + 1 < length (now xs)) × AtMost ceiling (point (now xs)) ⌝ }
+    ensures { λ r. ⌜ r ≡ twoBeside (now (xs .entry)) k ⌝ }
+{
+    xs[k - 1] + xs[k + 1]
+}
+
+// These, and the points above and below in a grid.
+pub(crate) fn around(xs: &[i64], k: usize, columns: usize) -> i64
+    requires { ⌜ (1 ≤ columns) × (columns ≤ k) × (k + columns < length (now xs)) × AtMost ceiling (point (now xs)) ⌝ }
+    ensures { λ r. ⌜ r ≡ fourBeside (now (xs .entry)) columns k ⌝ }
+{
+    beside(xs, k) + xs[k - columns] + xs[k + columns]
+}
+
+// L at a point of a bar: 0 at its supported ends.
+pub(crate) fn laplacian_at(xs: &[i64], k: usize) -> i64
+    requires { ⌜ (k < length (now xs)) × AtMost ceiling (point (now xs)) ⌝ }
+    ensures { λ r. ⌜ r ≡ barLaplacian (now (xs .entry)) k ⌝ }
+{
+    if k == 0 {
+        return 0;
+    }
+    if k + 1 == xs.len() {
+        return 0;
+    }
+    beside(xs, k) - 2 * xs[k]
+}
