@@ -15,15 +15,15 @@ use crate::tests::not_moving;
 use crate::tests::too_strong;
 use crate::tests::wrong_coefficient;
 use crate::tests::wrong_width;
-use kinds::has_size;
-use kinds::is_stable;
-use kinds::is_within;
 use levels::is_unfixed;
 use levels::some_beyond;
 use scheme::Grid;
 use scheme::Hit;
 use scheme::Instrument;
 use scheme::Refusal;
+use sizes::has_size;
+use sizes::is_stable;
+use sizes::is_within;
 
 // Whether a call is carried out. Ruled out: 13 taken for nothing; nothing taken for a refusal.
 pub fn is_nothing(r: Refusal) -> bool

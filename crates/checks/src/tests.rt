@@ -5,12 +5,12 @@ ghost use Rattle.scheme.specs.Instruments.{inTable};
 ghost use Rattle.scheme.specs.Refusals.{wrongCoefficient, notMoving, tooStrong, notGridPoint, wrongWidth};
 ghost use Rattle.checks.specs.Refused.{notLong};
 use kinds::is_moving;
-use kinds::is_within;
-use kinds::points_of;
 use levels::is_beyond;
 use scheme::Grid;
 use scheme::Hit;
 use scheme::Settings;
+use sizes::is_within;
+use sizes::points_of;
 
 pub(crate) fn either(a: bool, b: bool) -> bool
     ensures { λ r. ⌜ r ≡ (a || b) ⌝ }

@@ -18,7 +18,7 @@ use Rattle.scheme.proofs.Laws.Kinds.{Sized, sized}
 use Rattle.kinds.specs.declared.runs.Run.{Run}
 use Rattle.kinds.specs.Search.{leading}
 use Rattle.kinds.specs.Runs.{run, inRun, innerRun, onSquare, roundRun, runIn, straightRun, rowRun, runOf}
-use Rattle.kinds.proofs.KindLaws.{kind-is, kind-none, round-size}
+use Rattle.sizes.proofs.KindLaws.{kind-is, kind-none, round-size}
 use Rattle.kinds.proofs.RoundLaws.{offset-mirror, edge-inward}
 use Rattle.kinds.proofs.SearchLaws.{leading-passed, leading-stops}
 

@@ -4,8 +4,8 @@ ghost use mathlib.Core.Bool.{_&&_};
 ghost use Prim.Native.Nat.{_≤_, _<_};
 ghost use Rattle.scheme.specs.Instruments.{inTable, moving, roundEdge};
 ghost use Rattle.kinds.specs.Runs.{inRun, innerRun, onSquare, roundRun, rowRun, straightRun, runOf, apart};
-use crate::sizes::has_size;
 use scheme::Grid;
+use sizes::has_size;
 
 // The columns a with from ≤ a < to.
 pub struct Run {

@@ -4,8 +4,8 @@ use mathlib.Core.Bool.{Bool, cond}
 use native.Mathlib.Omega.{arith}
 use Rattle.scheme.specs.Instruments.{points}
 use Rattle.scheme.proofs.Laws.Kinds.{sized}
-use Rattle.kinds.proofs.sizes.points_of.Statement.{statement}
-use Rattle.kinds.proofs.sizes.points_of.Tie as tie
+use Rattle.sizes.proofs.points_of.Statement.{statement}
+use Rattle.sizes.proofs.points_of.Tie as tie
 
 has-size-requires : tie.Need-has-size-requires
 has-size-requires c κs = tt

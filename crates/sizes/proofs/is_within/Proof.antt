@@ -2,8 +2,8 @@
 use mathlib.Core.Path.{sym}
 use borrow.Author.Tests.{le-leb, lt-leb}
 use Rattle.scheme.proofs.Laws.Bools.{and-yes, and-no}
-use Rattle.kinds.proofs.sizes.is_within.Statement.{statement}
-use Rattle.kinds.proofs.sizes.is_within.Tie as tie
+use Rattle.sizes.proofs.is_within.Statement.{statement}
+use Rattle.sizes.proofs.is_within.Tie as tie
 
 returns : tie.Need-returns
 returns c = sym (and-yes (le-leb _ _ (c .if1 .taken)))

@@ -1,8 +1,8 @@
 -- `is_sized` meets its contract: both ranges are asked.
 use mathlib.Core.Path.{sym, _∙_}
 use Rattle.scheme.proofs.Laws.Bools.{and-yes, and-no}
-use Rattle.kinds.proofs.sizes.is_sized.Statement.{statement}
-use Rattle.kinds.proofs.sizes.is_sized.Tie as tie
+use Rattle.sizes.proofs.is_sized.Statement.{statement}
+use Rattle.sizes.proofs.is_sized.Tie as tie
 
 is-within-requires : tie.Need-is-within-requires
 is-within-requires c κs = tt

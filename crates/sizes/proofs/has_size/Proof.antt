@@ -4,9 +4,9 @@ use mathlib.Core.Bool.{Bool, _&&_}
 use native.Mathlib.Omega.{arith}
 use Rattle.scheme.specs.Instruments.{membrane, roundMembrane, within, sizeIn}
 use Rattle.scheme.proofs.Laws.Kinds.{within-one}
-use Rattle.kinds.proofs.KindLaws.{kind-is, kind-none, line-size}
-use Rattle.kinds.proofs.sizes.has_size.Statement.{statement}
-use Rattle.kinds.proofs.sizes.has_size.Tie as tie
+use Rattle.sizes.proofs.KindLaws.{kind-is, kind-none, line-size}
+use Rattle.sizes.proofs.has_size.Statement.{statement}
+use Rattle.sizes.proofs.has_size.Tie as tie
 
 is-sized-requires : tie.Need-is-sized-requires
 is-sized-requires c κs = tt

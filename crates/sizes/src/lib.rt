@@ -2,7 +2,7 @@
 ghost use mathlib.Core.Path.{_≡_};
 ghost use mathlib.Core.Bool.{_&&_};
 ghost use Rattle.scheme.specs.Instruments.{kindOf, within, inTable, stableIn};
-ghost use Rattle.kinds.specs.Runs.{pointsOf};
+ghost use Rattle.sizes.specs.Sizes.{pointsOf};
 use scheme::Grid;
 use scheme::Settings;
 

@@ -5,9 +5,9 @@ use borrow.Author.Needs.{needs}
 use borrow.Author.Tests.{le-leb, lt-leb}
 use Rattle.scheme.specs.Instruments.{bar, stableIn}
 use Rattle.scheme.proofs.Laws.Bools.{and-yes, and-no}
-use Rattle.kinds.proofs.KindLaws.{kind-is, kind-none, string-stable, membrane-stable, q-past, m-past}
-use Rattle.kinds.proofs.sizes.is_stable.Statement.{statement}
-use Rattle.kinds.proofs.sizes.is_stable.Tie as tie
+use Rattle.sizes.proofs.KindLaws.{kind-is, kind-none, string-stable, membrane-stable, q-past, m-past}
+use Rattle.sizes.proofs.is_stable.Statement.{statement}
+use Rattle.sizes.proofs.is_stable.Tie as tie
 
 returns : tie.Need-returns
 returns c = sym (q-past _ _ _ (c .if1 .taken))
