@@ -1,18 +1,16 @@
 // What refuses a call: its groups of tests, in their order.
 ghost use mathlib.Core.Path.{_≡_};
-ghost use Rattle.scheme.specs.Refusals.{lowest, inputChecks, blockRefusal, pluckChecks, readingRefusal};
+ghost use Rattle.scheme.specs.Refusals.{lowest, inputChecks, pluckChecks, readingRefusal};
 use crate::groups::first;
-use crate::groups::grid_refusal;
 use crate::groups::hit_refusal;
-use crate::groups::instrument_refusal;
-use crate::groups::is_nothing;
 use crate::groups::length_refusal;
 use crate::groups::level_refusal;
 use crate::groups::pick_refusal;
-use crate::groups::state_refusal;
 use crate::groups::width_refusal;
-use crate::tests::either;
-use crate::tests::wrong_length;
+use instruments::grid_refusal;
+use instruments::instrument_refusal;
+use instruments::is_nothing;
+use instruments::wrong_length;
 use scheme::Grid;
 use scheme::Hit;
 use scheme::Instrument;
@@ -31,27 +29,6 @@ pub fn input_refusal(i: Instrument, wrong: bool, pick: usize, h: Hit) -> Refusal
         length_refusal(wrong),
         first(hit_refusal(g, h), pick_refusal(g, pick)),
     )
-}
-
-// A block's 1, 2, 4 to 9, 11 and 12: `wrong` is 6's test of what is lent beside the two levels.
-// Ruled out: the length of older not looked at; work of any length.
-pub fn block_refusal(
-    i: Instrument,
-    older: &[i64],
-    newer: &[i64],
-    wrong: bool,
-    pick: usize,
-    h: Hit,
-) -> Refusal
-    ensures { λ r. ⌜ r ≡ blockRefusal i (now (older .entry)) (now (newer .entry)) wrong pick h ⌝ }
-{
-    let g = i.grid;
-    let levels = either(wrong_length(g, older.len()), wrong_length(g, newer.len()));
-    let r = input_refusal(i, either(levels, wrong), pick, h);
-    if !is_nothing(r) {
-        return r;
-    }
-    state_refusal(g, older, newer)
 }
 
 // A pluck's 1, 2, 6, 7, 8 and 10, by a test of the two lengths. Ruled out: kind 5 plucked; the height not looked at.

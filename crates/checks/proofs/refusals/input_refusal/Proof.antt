@@ -4,7 +4,7 @@ use mathlib.Core.Bool.{true}
 use mathlib.Core.List.{List, _++_}
 use Rattle.scheme.specs.Instruments.{inTable}
 use Rattle.scheme.specs.Refusals.{Check, lengthChecks, hitChecks, pickChecks, instrumentChecks, instrumentRefusal}
-use Rattle.checks.proofs.RefusalLaws.{append-is, passed, refused-by, goes-on, instrument-in}
+use Rattle.instruments.proofs.RefusalLaws.{append-is, passed, refused-by, goes-on, instrument-in}
 use borrow.Author.Needs.{needs}
 use Rattle.checks.proofs.refusals.input_refusal.Statement.{statement}
 use Rattle.checks.proofs.refusals.input_refusal.Tie as tie

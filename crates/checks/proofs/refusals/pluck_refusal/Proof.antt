@@ -7,7 +7,7 @@ use Rattle.bounded.proofs.Num.{back}
 use Rattle.scheme.specs.declared.Hit.the-variants.{At}
 use Rattle.scheme.specs.Instruments.{inTable}
 use Rattle.scheme.specs.Refusals.{lastPlucked, Check, lowest, gridChecks, lengthChecks, hitChecks, widthChecks}
-use Rattle.checks.proofs.RefusalLaws.{append-is, passed, refused-by, goes-on, grid-in}
+use Rattle.instruments.proofs.RefusalLaws.{append-is, passed, refused-by, goes-on, grid-in}
 use borrow.Author.Needs.{needs}
 use Rattle.checks.proofs.refusals.pluck_refusal.Statement.{statement}
 use Rattle.checks.proofs.refusals.pluck_refusal.Tie as tie

@@ -8,7 +8,8 @@ use Rattle.scheme.specs.Step.{someBeyond}
 use Rattle.scheme.specs.Refusals.{lastKind, wrongLength, fixedNotZero, Check, lowest, gridChecks, lengthChecks, pickChecks, stateChecks}
 use Rattle.scheme.specs.Refusals.{readingRefusal}
 use Rattle.scheme.proofs.Laws.Refusals.{NoneApplies, right-length}
-use Rattle.checks.proofs.RefusalLaws.{append-is, passed, refused-by, goes-on, grid-in, long-is, unfixed-is}
+use Rattle.instruments.proofs.RefusalLaws.{append-is, passed, refused-by, goes-on, grid-in, long-is}
+use Rattle.checks.proofs.RefusalLaws.{unfixed-is}
 use borrow.Author.Needs.{needs}
 use Rattle.checks.proofs.refusals.reading_refusal.Statement.{statement}
 use Rattle.checks.proofs.refusals.reading_refusal.Tie as tie
