@@ -3,10 +3,8 @@ ghost use mathlib.Core.Path.{_≡_};
 ghost use mathlib.Core.Bool.{true};
 ghost use Rattle.scheme.specs.Instruments.{inTable};
 ghost use Rattle.scheme.specs.Step.{someBeyond};
-ghost use Rattle.scheme.specs.Refusals.{lowest, lengthChecks, hitChecks, pickChecks, widthChecks, stateChecks};
+ghost use Rattle.scheme.specs.Refusals.{lowest, hitChecks, pickChecks, widthChecks, stateChecks};
 ghost use Rattle.levels.specs.Levels.{unfixed};
-ghost use Rattle.instruments.specs.Refused.{firstOf};
-use instruments::is_nothing;
 use kinds::is_moving;
 use levels::is_beyond;
 use levels::is_unfixed;
@@ -16,24 +14,6 @@ use scheme::Hit;
 use scheme::Refusal;
 use sizes::is_within;
 use sizes::points_of;
-
-// The first of two answers that refuses.
-pub(crate) fn first(a: Refusal, b: Refusal) -> Refusal
-    ensures { λ r. ⌜ r ≡ firstOf a b ⌝ }
-{
-    if is_nothing(a) { b } else { a }
-}
-
-// 6
-pub(crate) fn length_refusal(wrong: bool) -> Refusal
-    ensures { λ r. ⌜ r ≡ lowest (lengthChecks wrong) ⌝ }
-{
-    if wrong {
-        Refusal::WrongLength
-    } else {
-        Refusal::Nothing
-    }
-}
 
 // 7 and 8.
 pub(crate) fn hit_refusal(g: Grid, h: Hit) -> Refusal

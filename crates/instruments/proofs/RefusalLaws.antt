@@ -15,28 +15,32 @@ use Rattle.scheme.specs.Instruments.{points, inTable}
 use Rattle.scheme.specs.Refusals.{number, wrongLength, Check, _⇒_, lowest, gridChecks, instrumentChecks}
 use Rattle.scheme.specs.Calls.{accepted}
 use Rattle.scheme.proofs.Laws.Refusals.{refusing, NoneApplies, none-applies, accepted-is}
-use Rattle.instruments.specs.Refused.{notLong, firstOf}
+use Rattle.instruments.specs.Refused.{notLong}
 
--- ---- one check and two checks: the answer by what each test said
+-- ---- one check before others, and two checks: the answer by what each test said
 
-module _ (x : Refusal) (t : Bool) where
-  pub refused-one : t ≡ true → x ≡ lowest (t ⇒ x ∷ [])
-  refused-one e = sym (ap (λ (b : Bool). lowest (b ⇒ x ∷ [])) e)
+module _ (x : Refusal) (cs : List Check) (t : Bool) where
+  pub refused-here : t ≡ true → x ≡ lowest (t ⇒ x ∷ cs)
+  refused-here e = sym (ap (λ (b : Bool). lowest (b ⇒ x ∷ cs)) e)
 
-  pub refused-none : t ≡ false → Nothing ≡ lowest (t ⇒ x ∷ [])
-  refused-none e = sym (ap (λ (b : Bool). lowest (b ⇒ x ∷ [])) e)
+  pub passed-here : {r : Refusal} → t ≡ false → r ≡ lowest cs → r ≡ lowest (t ⇒ x ∷ cs)
+  passed-here e f = f ∙ sym (ap (λ (b : Bool). lowest (b ⇒ x ∷ cs)) e)
 
 module _ (x y : Refusal) (t u : Bool) where
   pub refused-first : t ≡ true → x ≡ lowest (t ⇒ x ∷ u ⇒ y ∷ [])
-  refused-first e = sym (ap (λ (b : Bool). lowest (b ⇒ x ∷ u ⇒ y ∷ [])) e)
+  refused-first = refused-here x (u ⇒ y ∷ []) t
 
   pub refused-second : t ≡ false → u ≡ true → y ≡ lowest (t ⇒ x ∷ u ⇒ y ∷ [])
-  refused-second e f = sym (ap₂ (λ (b c : Bool). lowest (b ⇒ x ∷ c ⇒ y ∷ [])) e f)
+  refused-second e f = passed-here x (u ⇒ y ∷ []) t e (refused-here y [] u f)
 
   pub refused-neither : t ≡ false → u ≡ false → Nothing ≡ lowest (t ⇒ x ∷ u ⇒ y ∷ [])
-  refused-neither e f = sym (ap₂ (λ (b c : Bool). lowest (b ⇒ x ∷ c ⇒ y ∷ [])) e f)
+  refused-neither e f = passed-here x (u ⇒ y ∷ []) t e (passed-here y [] u f refl)
 
 -- ---- one list of checks after another
+
+-- the first of two answers that refuses
+abbrev firstOf : Refusal → Refusal → Refusal
+firstOf a b = cond (accepted a) b a
 
 pub lowest-append : (cs ds : List Check) → T (refusing cs) → lowest (cs ++ ds) ≡ firstOf (lowest cs) (lowest ds)
 lowest-append [] ds t = refl

@@ -8,7 +8,7 @@ ghost use Rattle.scheme.specs.Table.{ShapeRule};
 ghost use Rattle.scheme.specs.Pluck.{pluckLevel};
 ghost use Rattle.scheme.specs.Calls.{pluckLeft};
 ghost use Rattle.scheme.specs.Calls as Calls;
-ghost use Rattle.checks.specs.Refused.{notLong};
+ghost use Rattle.instruments.specs.Refused.{notLong};
 use crate::shape::Shape;
 use crate::shape::fill;
 use crate::table::TABLE;

@@ -1,6 +1,6 @@
 -- `settings_refusal` meets its contract: the coefficients first, then whether they are stable.
-use mathlib.Core.Path.{_≡_, sym, ap, _∙_}
-use mathlib.Core.Bool.{Bool, false, not}
+use mathlib.Core.Path.{sym, ap, _∙_}
+use mathlib.Core.Bool.{not}
 use Rattle.scheme.specs.declared.Refusal.the-variants.{Coefficient, Unstable}
 use Rattle.scheme.specs.Refusals.{wrongCoefficient, unstable}
 use Rattle.instruments.proofs.RefusalLaws.{refused-first, refused-second, refused-neither}

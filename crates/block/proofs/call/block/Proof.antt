@@ -9,7 +9,8 @@ use Rattle.scheme.specs.Refusals.{wrongLength, blockRefusal}
 use Rattle.scheme.specs.Calls.{accepted, blockLeft}
 use Rattle.scheme.proofs.Laws.Refusals.{accepted-is}
 use Rattle.scheme.proofs.Laws.Calls.{block-refused}
-use Rattle.checks.proofs.RefusalLaws.{long-is, block-same}
+use Rattle.instruments.proofs.RefusalLaws.{long-is}
+use Rattle.block_checks.proofs.BlockLaws.{block-same}
 use Rattle.block.proofs.call.block.Statement.{statement}
 use Rattle.block.proofs.call.block.Tie as tie
 

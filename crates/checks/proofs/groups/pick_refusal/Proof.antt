@@ -1,13 +1,13 @@
 -- `pick_refusal` meets its contract: the grid has passed 2, so that `points_of` answers its points.
-use mathlib.Core.Path.{_≡_, sym, ap, _∙_}
+use mathlib.Core.Path.{_≡_, refl, sym, ap, _∙_}
 use mathlib.Core.Bool.{Bool, not, cond}
-use Prim.Native.Nat.{ℕ}
+use mathlib.Core.List.{[]}
 use borrow.Author.Tests.{lt-ltb, le-ltb}
 use lib.Dec.{ltb}
 use Rattle.scheme.specs.declared.Refusal.the-variants.{PickUp}
 use Rattle.scheme.specs.Instruments.{points}
 use Rattle.scheme.specs.Refusals.{notGridPoint}
-use Rattle.instruments.proofs.RefusalLaws.{refused-one, refused-none}
+use Rattle.instruments.proofs.RefusalLaws.{refused-here, passed-here}
 use Rattle.checks.proofs.groups.pick_refusal.Statement.{statement}
 use Rattle.checks.proofs.groups.pick_refusal.Tie as tie
 
@@ -24,12 +24,12 @@ points-of-requires c κs = tt
 returns : tie.Need-returns
 returns c =
     let a = c .before .before .args in
-    refused-none PickUp (notGridPoint (a .g) (a .pick)) (test-is (c .before) (lt-ltb _ _ (c .if1 .taken)))
+    passed-here PickUp [] (notGridPoint (a .g) (a .pick)) (test-is (c .before) (lt-ltb _ _ (c .if1 .taken))) refl
 
 returns-2 : tie.Need-returns-2
 returns-2 c =
     let a = c .before .before .args in
-    refused-one PickUp (notGridPoint (a .g) (a .pick)) (test-is (c .before) (le-ltb _ _ (c .if1 .left)))
+    refused-here PickUp [] (notGridPoint (a .g) (a .pick)) (test-is (c .before) (le-ltb _ _ (c .if1 .left)))
 
 pub pick-refusal-spec : {M : Type 1} → statement M
 pick-refusal-spec = tie.close (tie.spec points-of-requires returns returns-2)
