@@ -1,9 +1,6 @@
-// Which points of a grid move, by its kind.
+// What is fixed by the kind of a grid: the moving columns of a straight row, and the edge of a round membrane.
 mod runs;
 
 pub use runs::Run;
-pub use runs::is_moving;
 pub use runs::is_round_fixed;
-pub use runs::movable_run;
-pub use runs::row_run;
 pub use runs::straight_run;

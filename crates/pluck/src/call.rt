@@ -15,7 +15,7 @@ use crate::table::TABLE;
 use checks::pluck_refusal;
 use instruments::is_nothing;
 use instruments::wrong_length;
-use kinds::movable_run;
+use runs::movable_run;
 use scheme::Grid;
 use scheme::Refusal;
 

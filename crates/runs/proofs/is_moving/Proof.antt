@@ -6,12 +6,12 @@ use native.Mathlib.Omega.{arith}
 use borrow.Author.Tests.{not-true, not-false}
 use Rattle.scheme.proofs.Laws.Bools.{and-yes, and-no}
 use Rattle.scheme.proofs.Laws.Kinds.{sized}
 use Rattle.kinds.specs.declared.runs.Run.{Run}
 use Rattle.scheme.specs.Instruments.{inTable}
 use Rattle.kinds.specs.Runs.{inRun}
 use Rattle.kinds.proofs.RunLaws.{moving-at}
-use Rattle.kinds.proofs.runs.is_moving.Statement.{statement}
-use Rattle.kinds.proofs.runs.is_moving.Tie as tie
+use Rattle.runs.proofs.is_moving.Statement.{statement}
+use Rattle.runs.proofs.is_moving.Tie as tie
 
 -- the table has the grid's size, so it has a column
 size : (c : tie.Else1) → inTable (c .before .before .args .g) ≡ true

@@ -2,8 +2,8 @@
 use mathlib.Core.Path.{sym}
 use borrow.Author.Tests.{le-leb, lt-leb}
 use Rattle.scheme.proofs.Laws.Bools.{and-yes, and-no}
-use Rattle.kinds.proofs.runs.is_in.Statement.{statement}
-use Rattle.kinds.proofs.runs.is_in.Tie as tie
+use Rattle.runs.proofs.is_in.Statement.{statement}
+use Rattle.runs.proofs.is_in.Tie as tie
 
 returns : tie.Need-returns
 returns c = sym (and-yes (le-leb _ _ (c .before .if1 .taken)))

@@ -1,9 +1,9 @@
 -- `movable_run` meets its contract: a grid of the table and a row of it have the run of their kind, others have none.
 use mathlib.Core.Path.{sym, _∙_}
 use borrow.Author.Tests.{not-true, not-false}
 use Rattle.kinds.proofs.RunLaws.{run-unlisted, run-past, row-is}
-use Rattle.kinds.proofs.runs.movable_run.Statement.{statement}
-use Rattle.kinds.proofs.runs.movable_run.Tie as tie
+use Rattle.runs.proofs.movable_run.Statement.{statement}
+use Rattle.runs.proofs.movable_run.Tie as tie
 
 has-size-requires : tie.Need-has-size-requires
 has-size-requires c κs = tt
