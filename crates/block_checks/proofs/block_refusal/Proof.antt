@@ -36,8 +36,8 @@ module _ (c : tie.After-input-refusal) where
       (long-is (s .args .i .grid) (length (s .args .older .now)) size) (long-is (s .args .i .grid) (length (s .args .newer .now)) size)
 
   input-is : c .input-refusal .result ≡ lowest input
-  input-is = c .input-refusal .ensures ∙ input-same (s .args .i) (c .before .wrong-lengths .result) (levels || s .args .wrong) (s .args .pick)
-      (s .args .h) test-is
+  input-is = c .input-refusal .ensures ∙ input-same (s .args .i) (c .before .wrong-lengths .result) (levels || s .args .wrong)
+      (s .args .pick) (s .args .h) test-is
 
 wrong-lengths-requires : tie.Need-wrong-lengths-requires
 wrong-lengths-requires c κs = search needs

@@ -20,7 +20,8 @@ loose s = unfixed (s .args .g) (s .args .older .now) || unfixed (s .args .g) (s 
 high-is : (c : tie.After-either) {b : Bool} → c .either .result ≡ b → high (c .before .before .before) ≡ b
 high-is c e = sym (c .either .ensures ∙ ap₂ _||_ (c .before .before .some-beyond .ensures) (c .before .some-beyond2 .ensures)) ∙ e
 
-loose-is : (c : tie.After-either2) {b : Bool} → c .either2 .result ≡ b → loose (c .before .before .before .before .before .before .before) ≡ b
+loose-is : (c : tie.After-either2) {b : Bool} → c .either2 .result ≡ b
+    → loose (c .before .before .before .before .before .before .before) ≡ b
 loose-is c e = sym (c .either2 .ensures ∙ ap₂ _||_ (c .before .before .is-unfixed .ensures) (c .before .is-unfixed2 .ensures)) ∙ e
 
 some-beyond-requires : tie.Need-some-beyond-requires

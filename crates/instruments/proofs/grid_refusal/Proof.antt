@@ -32,13 +32,15 @@ returns-2 : tie.Need-returns-2
 returns-2 c =
     let e = c .before .before in
     let s = e .before .before in
-    refused-neither UnknownKind WrongSize (kind-test s) (size-test s) (passed e) (ap not (sym (c .before .has-size .ensures) ∙ c .if2 .taken))
+    refused-neither UnknownKind WrongSize (kind-test s) (size-test s) (passed e)
+    (ap not (sym (c .before .has-size .ensures) ∙ c .if2 .taken))
 
 returns-3 : tie.Need-returns-3
 returns-3 c =
     let e = c .before .before in
     let s = e .before .before in
-    refused-second UnknownKind WrongSize (kind-test s) (size-test s) (passed e) (ap not (sym (c .before .has-size .ensures) ∙ c .if2 .left))
+    refused-second UnknownKind WrongSize (kind-test s) (size-test s) (passed e)
+    (ap not (sym (c .before .has-size .ensures) ∙ c .if2 .left))
 
 pub grid-refusal-spec : {M : Type 1} → statement M
 grid-refusal-spec = tie.close (tie.spec is-within-requires returns has-size-requires returns-2 returns-3)

@@ -27,8 +27,8 @@ returns-2 : tie.Need-returns-2
 unfolding instrumentRefusal
 returns-2 c =
     let i = c .before .before .before .args .i in
-    refused-by (gridChecks lastKind (i .grid)) (settingsChecks i) tt (c .before .before .grid-refusal .ensures) (c .before .is-nothing .ensures)
-    (ap not (c .if1 .left))
+    refused-by (gridChecks lastKind (i .grid)) (settingsChecks i) tt (c .before .before .grid-refusal .ensures)
+    (c .before .is-nothing .ensures) (ap not (c .if1 .left))
 
 pub instrument-refusal-spec : {M : Type 1} → statement M
 instrument-refusal-spec =

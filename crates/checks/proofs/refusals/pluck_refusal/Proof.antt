@@ -76,7 +76,8 @@ returns-3 c =
     let e = n .before .before in
     let s = e .before .before .before .before in
     further (e .before) (passed-here WrongLength (hit s ++ width s) (s .args .wrong) (e .if2 .left)
-    (goes-on (hit s) (width s) tt (hit-is (n .before)) (n .is-nothing2 .ensures) (ap not (c .before .if3 .taken)) (c .width-refusal .ensures)))
+    (goes-on (hit s) (width s) tt (hit-is (n .before)) (n .is-nothing2 .ensures) (ap not (c .before .if3 .taken))
+    (c .width-refusal .ensures)))
 
 returns-4 : tie.Need-returns-4
 returns-4 c =
