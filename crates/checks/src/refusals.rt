@@ -1,18 +1,14 @@
 // What refuses a call: its groups of tests, in their order.
 ghost use mathlib.Core.Path.{_≡_};
-ghost use Rattle.scheme.specs.Refusals.{lowest, inputChecks, blockRefusal, pluckChecks, readingRefusal};
-use crate::groups::first;
-use crate::groups::grid_refusal;
+ghost use Rattle.scheme.specs.Refusals.{lowest, inputChecks, pluckChecks, readingRefusal};
 use crate::groups::hit_refusal;
-use crate::groups::instrument_refusal;
-use crate::groups::is_nothing;
-use crate::groups::length_refusal;
 use crate::groups::level_refusal;
 use crate::groups::pick_refusal;
-use crate::groups::state_refusal;
 use crate::groups::width_refusal;
-use crate::tests::either;
-use crate::tests::wrong_length;
+use instruments::grid_refusal;
+use instruments::instrument_refusal;
+use instruments::is_nothing;
+use instruments::wrong_length;
 use scheme::Grid;
 use scheme::Hit;
 use scheme::Instrument;
@@ -26,32 +22,15 @@ pub fn input_refusal(i: Instrument, wrong: bool, pick: usize, h: Hit) -> Refusal
     if !is_nothing(r) {
         return r;
     }
-    let g = i.grid;
-    first(
-        length_refusal(wrong),
-        first(hit_refusal(g, h), pick_refusal(g, pick)),
-    )
-}
-
-// A block's 1, 2, 4 to 9, 11 and 12: `wrong` is 6's test of what is lent beside the two levels.
-// Ruled out: the length of older not looked at; work of any length.
-pub fn block_refusal(
-    i: Instrument,
-    older: &[i64],
-    newer: &[i64],
-    wrong: bool,
-    pick: usize,
-    h: Hit,
-) -> Refusal
-    ensures { λ r. ⌜ r ≡ blockRefusal i (now (older .entry)) (now (newer .entry)) wrong pick h ⌝ }
-{
-    let g = i.grid;
-    let levels = either(wrong_length(g, older.len()), wrong_length(g, newer.len()));
-    let r = input_refusal(i, either(levels, wrong), pick, h);
-    if !is_nothing(r) {
-        return r;
+    if wrong {
+        return Refusal::WrongLength;
     }
-    state_refusal(g, older, newer)
+    let r = hit_refusal(i.grid, h);
+    if is_nothing(r) {
+        pick_refusal(i.grid, pick)
+    } else {
+        r
+    }
 }
 
 // A pluck's 1, 2, 6, 7, 8 and 10, by a test of the two lengths. Ruled out: kind 5 plucked; the height not looked at.
@@ -62,14 +41,19 @@ pub fn pluck_refusal(g: Grid, wrong: bool, centre: usize, half_width: usize, hei
     if !is_nothing(r) {
         return r;
     }
+    if wrong {
+        return Refusal::WrongLength;
+    }
     let h = Hit::At {
         point: centre,
         force: height,
     };
-    first(
-        length_refusal(wrong),
-        first(hit_refusal(g, h), width_refusal(g, half_width)),
-    )
+    let r = hit_refusal(g, h);
+    if is_nothing(r) {
+        width_refusal(g, half_width)
+    } else {
+        r
+    }
 }
 
 // The float reading's 1, 2, 6, 9, 11 and 12. Ruled out: membranes not read; the pick-up taken for the length.
@@ -80,12 +64,13 @@ pub fn reading_refusal(g: Grid, newer: &[i64], pick: usize) -> Refusal
     if !is_nothing(r) {
         return r;
     }
-    let r = first(
-        length_refusal(wrong_length(g, newer.len())),
-        pick_refusal(g, pick),
-    );
-    if !is_nothing(r) {
-        return r;
+    if wrong_length(g, newer.len()) {
+        return Refusal::WrongLength;
     }
-    level_refusal(g, newer)
+    let r = pick_refusal(g, pick);
+    if is_nothing(r) {
+        level_refusal(g, newer)
+    } else {
+        r
+    }
 }

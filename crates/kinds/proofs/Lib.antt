@@ -1,4 +1,3 @@
-pub mod KindLaws
 pub mod SearchLaws
 pub mod RoundLaws
 pub mod RunLaws

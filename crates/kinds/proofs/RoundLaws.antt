@@ -4,7 +4,7 @@ use mathlib.Core.Bool.{true, false}
 use Prim.Native.Nat.{ℕ, zero, suc, _+_, _-_, _*_, _≤_, _<_}
 use native.Mathlib.Nat.{mul-le-mul}
 use native.Mathlib.Omega.{arith}
-use borrow.Author.Tests.{leb-true, le-leb, lt-ltb, le-ltb}
+use borrow.Author.Tests.{ltb-true, leb-true, le-leb, lt-ltb, le-ltb}
 use lib.Dec.{ltb, leb, ltb→lt, nltb→le}
 use lib.IntN.{ℤ, pos, negsuc, natAbs, _+ℤ_, _-ℤ_}
 use lib.Signed.{leZ}
@@ -12,8 +12,9 @@ use Rattle.integers.proofs.Ring.{_⊕_, _⊖_, #_, _≈_, ring}
 use Rattle.integers.proofs.Size.{cond-ind}
 use Rattle.scheme.specs.Lists.{square}
 use Rattle.scheme.specs.Instruments.{offCentre, roundEdge}
+use Rattle.scheme.proofs.Laws.Bools.{and-both, and-yes, not-so}
 use Rattle.kinds.specs.Search.{Passed}
-use Rattle.kinds.specs.Runs.{run, roundRun, apart}
+use Rattle.kinds.specs.Runs.{run, onSquare, roundRun, apart}
 use Rattle.kinds.proofs.SearchLaws.{leading-is}
 
 -- ---- the round edge in numbers that are not negative
@@ -58,6 +59,17 @@ pub edge-inward : (G b a c : ℕ) → 1 ≤ G → offset G a ≤ offset G c → 
 edge-inward G b a c h l e =
     let far = leb-true ((G - 1) * (G - 1)) (reach G a b) (sym (round-edge-is G a b h) ∙ e) in
     round-edge-is G c b h ∙ le-leb ((G - 1) * (G - 1)) (reach G c b) (omega (arith, far, mul-le-mul l l))
+
+-- ---- a point on a round membrane
+
+pub on-square : (c a b : ℕ) → c ≤ 64 → a < c → b < c → onSquare c a b ≡ true
+on-square c a b l p q = and-yes (le-leb c 64 l) ∙ and-yes (lt-ltb a c p) ∙ lt-ltb b c q
+
+pub off-square : (c a b : ℕ) → (c ≤ 64 → c ≤ b) → onSquare c a b ≡ false
+off-square c a b h = not-so (λ e.
+    let p = and-both (leb c 64) _ e in
+    let q = and-both (ltb a c) (ltb b c) (p .1) in
+    omega (arith, h (leb-true c 64 (p .0)), ltb-true b c (q .1)))
 
 -- ---- the search in a row
 

@@ -18,11 +18,11 @@ use Rattle.scheme.proofs.Laws.Kinds.{Sized, sized}
 use Rattle.kinds.specs.declared.runs.Run.{Run}
 use Rattle.kinds.specs.Search.{leading}
 use Rattle.kinds.specs.Runs.{run, inRun, innerRun, onSquare, roundRun, runIn, straightRun, rowRun, runOf}
-use Rattle.kinds.proofs.KindLaws.{kind-is, kind-none, round-size}
-use Rattle.kinds.proofs.RoundLaws.{offset-mirror, edge-inward}
+use Rattle.sizes.proofs.KindLaws.{kind-is, kind-none, round-size}
+use Rattle.kinds.proofs.RoundLaws.{offset-mirror, edge-inward, on-square}
 use Rattle.kinds.proofs.SearchLaws.{leading-passed, leading-stops}
 
-none-in : (a : ℕ) → inRun (run 0 0) a ≡ false
+pub none-in : (a : ℕ) → inRun (run 0 0) a ≡ false
 none-in a = ap (λ (b : Bool). leb 0 a && b) (le-ltb a 0 zero-le) ∙ and-false (leb 0 a)
 
 -- a run of columns of c
@@ -243,8 +243,7 @@ row-is g b size h = go (ℕ-discrete (g .kind) 6) ∙ sym (run-is g b size h)
         let K = kind-is roundMembrane e in
         let s = round-size (g .columns) (g .rows) (ap (λ (K : Kind). sizeIn K (g .columns) (g .rows)) (sym K) ∙ size) in
         let on : onSquare (g .columns) 0 b ≡ true =
-        and-yes (le-leb (g .columns) 64 (s .0)) ∙ and-yes (lt-ltb 0 (g .columns) (omega (arith, s .1))) ∙
-        lt-ltb b (g .columns) (omega (arith, s .1)) in
+        on-square (g .columns) 0 b (s .0) (omega (arith, s .1)) (omega (arith, s .1)) in
         ap (λ (t : Bool). cond t (cond (onSquare (g .columns) 0 b) (roundRun (g .columns) b) (run 0 0))
         (straightRun (g .kind) (g .columns) (g .rows) b)) (eq-eqb (g .kind) 6 e) ∙
         ap (λ (t : Bool). cond t (roundRun (g .columns) b) (run 0 0)) on ∙

@@ -5,13 +5,9 @@ use Prim.Native.Nat.{ℕ, _+_, _-_}
 use lib.Dec.{leb, ltb, eqb}
 use Rattle.scheme.specs.declared.Grid.{Grid}
 use Rattle.scheme.specs.Instruments.{Kind, unknown, fixedString, halfFreeString, freeString, bar, membrane, roundMembrane, kindOf}
-use Rattle.scheme.specs.Instruments.{kind, points, inTable, atEdge, roundEdge}
+use Rattle.scheme.specs.Instruments.{kind, inTable, atEdge, roundEdge}
 use Rattle.kinds.specs.declared.runs.Run.{Run}
 use Rattle.kinds.specs.Search.{leading}
-
--- columns × rows, where the table has the size
-abbrev pub pointsOf : Grid → ℕ
-pointsOf g = cond (inTable g) (points g) 0
 
 abbrev pub run : ℕ → ℕ → Run
 run a b = record { from = a; to = b }

@@ -1,14 +1,6 @@
-// What goes by the kind of a grid: its sizes, its limits of stability, which of its points move.
+// What is fixed by the kind of a grid: the moving columns of a straight row, and the edge of a round membrane.
 mod runs;
-mod sizes;
 
 pub use runs::Run;
-pub use runs::is_moving;
 pub use runs::is_round_fixed;
-pub use runs::movable_run;
-pub use runs::row_run;
 pub use runs::straight_run;
-pub use sizes::has_size;
-pub use sizes::is_stable;
-pub use sizes::is_within;
-pub use sizes::points_of;

@@ -1,11 +1,9 @@
-// Fixed or moving: the moving columns of each row, by a match over the kind number.
+// Fixed or moving: the moving columns of a straight row, by a match over the kind number, and the fixed points of a round membrane.
 ghost use mathlib.Core.Path.{_≡_};
 ghost use mathlib.Core.Bool.{_&&_};
 ghost use Prim.Native.Nat.{_≤_, _<_};
-ghost use Rattle.scheme.specs.Instruments.{inTable, moving, roundEdge};
-ghost use Rattle.kinds.specs.Runs.{inRun, innerRun, onSquare, roundRun, rowRun, straightRun, runOf, apart};
-use crate::sizes::has_size;
-use scheme::Grid;
+ghost use Rattle.scheme.specs.Instruments.{roundEdge};
+ghost use Rattle.kinds.specs.Runs.{innerRun, onSquare, straightRun, apart};
 
 // The columns a with from ≤ a < to.
 pub struct Run {
@@ -51,21 +49,6 @@ pub fn is_round_fixed(c: usize, a: usize, b: usize) -> bool
     }
 }
 
-// Row b of a round membrane of c columns: from its first moving column, and as far from the right.
-fn round_run(c: usize, b: usize) -> Run
-    requires { ⌜ (c ≤ 64) × (b < c) ⌝ }
-    ensures { λ r. ⌜ r ≡ roundRun c b ⌝ }
-{
-    let mut a = 0;
-    while a < c {
-        if !is_round_edge(c, a, b) {
-            return Run { from: a, to: c - a };
-        }
-        a += 1;
-    }
-    Run { from: 0, to: 0 }
-}
-
 // Row b of a rectangular membrane of c columns and r rows.
 fn inner_run(c: usize, r: usize, b: usize) -> Run
     requires { ⌜ (1 ≤ c) × (b < r) ⌝ }
@@ -99,52 +82,4 @@ pub fn straight_run(kind: u64, c: usize, r: usize, b: usize) -> Run
         5 => inner_run(c, r, b),
         _ => Run { from: 0, to: 0 },
     }
-}
-
-// Row b of c columns and r rows of a kind, whatever its size: that of a grid of the table, which is not tested for again.
-// Ruled out: kind 5 taken as the round one; the rows taken for the columns.
-pub fn row_run(kind: u64, c: usize, r: usize, b: usize) -> Run
-    ensures { λ x. ⌜ x ≡ rowRun kind c r b ⌝ }
-{
-    if kind != 6 {
-        return straight_run(kind, c, r, b);
-    }
-    if is_on_square(c, 0, b) {
-        return round_run(c, b);
-    }
-    Run { from: 0, to: 0 }
-}
-
-// The moving columns of a row; none where the table does not have the grid's size, or the grid does not have the row.
-// Ruled out: the last column of kind 2 taken as fixed; the outer ring of kind 5 forgotten in its last row; > for ≥ at the round edge.
-pub fn movable_run(g: Grid, row: usize) -> Run
-    ensures { λ r. ⌜ r ≡ runOf g row ⌝ }
-{
-    if !has_size(g) {
-        return Run { from: 0, to: 0 };
-    }
-    if g.rows <= row {
-        return Run { from: 0, to: 0 };
-    }
-    row_run(g.kind, g.columns, g.rows, row)
-}
-
-fn is_in(run: Run, a: usize) -> bool
-    ensures { λ r. ⌜ r ≡ inRun run a ⌝ }
-{
-    if run.from <= a { a < run.to } else { false }
-}
-
-// Whether a point moves, by the run of its row; none does where the table does not have the grid's size.
-// Ruled out: the row taken for the column; every row judged by the first.
-pub fn is_moving(g: Grid, point: usize) -> bool
-    ensures { λ r. ⌜ r ≡ (inTable g && moving g point) ⌝ }
-{
-    if !has_size(g) {
-        return false;
-    }
-    let columns = g.columns;
-    let row = point / columns;
-    let a = point % columns;
-    is_in(movable_run(g, row), a)
 }

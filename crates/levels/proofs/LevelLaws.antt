@@ -23,7 +23,7 @@ use Rattle.scheme.specs.Instruments.{inTable}
 use Rattle.kinds.specs.Runs.{runOf}
 use Rattle.levels.specs.Levels.{notZero, someNotZero, rowNotZero, roundNotZero, rowUnfixed}
 use Rattle.kinds.proofs.SearchLaws.{some-ext, some-rows, some-outside}
-use Rattle.kinds.proofs.KindLaws.{kind-is}
+use Rattle.sizes.proofs.KindLaws.{kind-is}
 use Rattle.kinds.proofs.RunLaws.{fixed-run, run-bounds}
 
 -- ---- beyond the ceiling, as code tests it

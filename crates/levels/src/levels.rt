@@ -9,12 +9,12 @@ ghost use Rattle.scheme.specs.Refusals.{fixedNotZero};
 ghost use Rattle.scheme.specs.Instruments.{inTable};
 ghost use Rattle.levels.specs.Levels.{bitsOf, signed, someNotZero, rowNotZero, roundNotZero, rowUnfixed, unfixed};
 use kinds::Run;
-use kinds::has_size;
 use kinds::is_round_fixed;
-use kinds::points_of;
 use kinds::straight_run;
 use scheme::Grid;
 use scheme::Settings;
+use sizes::has_size;
+use sizes::points_of;
 use std::num::wrapping_add_u64;
 use std::num::wrapping_sub_u64;
 

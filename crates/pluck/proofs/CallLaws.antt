@@ -20,10 +20,11 @@ use Rattle.scheme.proofs.Laws.Kinds.{within-is}
 use Rattle.scheme.proofs.Laws.Lists.{length-tabulate, getD-tabulate, is-tabulate}
 use Rattle.scheme.proofs.Laws.Refusals.{pluck-passes}
 use Rattle.kinds.specs.Runs.{inRun, runOf}
-use Rattle.kinds.proofs.KindLaws.{line-size}
+use Rattle.sizes.proofs.KindLaws.{line-size}
 use Rattle.kinds.proofs.RunLaws.{moving-run, run-bounds}
-use Rattle.checks.specs.Refused.{notLong}
-use Rattle.checks.proofs.RefusalLaws.{long-is, pluck-same}
+use Rattle.instruments.specs.Refused.{notLong}
+use Rattle.instruments.proofs.RefusalLaws.{long-is}
+use Rattle.checks.proofs.RefusalLaws.{pluck-same}
 use Rattle.pluck.specs.declared.shape.Shape.{Shape}
 use Rattle.pluck.specs.Shapes.{Shaped, shapeAt}
 

@@ -8,14 +8,14 @@ ghost use Rattle.scheme.specs.Table.{ShapeRule};
 ghost use Rattle.scheme.specs.Pluck.{pluckLevel};
 ghost use Rattle.scheme.specs.Calls.{pluckLeft};
 ghost use Rattle.scheme.specs.Calls as Calls;
-ghost use Rattle.checks.specs.Refused.{notLong};
+ghost use Rattle.instruments.specs.Refused.{notLong};
 use crate::shape::Shape;
 use crate::shape::fill;
 use crate::table::TABLE;
-use checks::is_nothing;
 use checks::pluck_refusal;
-use checks::wrong_length;
-use kinds::movable_run;
+use instruments::is_nothing;
+use instruments::wrong_length;
+use runs::movable_run;
 use scheme::Grid;
 use scheme::Refusal;
 

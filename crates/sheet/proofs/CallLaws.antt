@@ -15,7 +15,7 @@ use Rattle.scheme.specs.Refusals.{lastKind, wrongCoefficient, Check, _⇒_, low
 use Rattle.scheme.specs.Calls.{accepted}
 use Rattle.scheme.proofs.Laws.Bools.{cases, neither-or}
 use Rattle.scheme.proofs.Laws.Refusals.{none-applies, applies-none, accepted-is}
-use Rattle.checks.proofs.RefusalLaws as R
+use Rattle.instruments.proofs.RefusalLaws as R
 use Rattle.nearest.specs.Nearest.{valueOf, nearestWhole}
 use Rattle.nearest.proofs.Values.{value-bounded}
 use Rattle.sheet.specs.declared.Sheet.{Sheet}

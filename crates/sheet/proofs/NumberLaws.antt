@@ -10,7 +10,7 @@ use lib.IntN.{ℤ}
 use lib.Ieee.{Float, nan, inf, fin, up, down, binary64, lt, mul, div, round, ofBits}
 use lib.Ieee.Fits.{up-pos}
 use Rattle.scheme.specs.Instruments.{kindOf, within}
-use Rattle.kinds.proofs.KindLaws.{by-number}
+use Rattle.sizes.proofs.KindLaws.{by-number}
 use Rattle.sheet.specs.declared.Speed.the-variants.{Hertz}
 use Rattle.sheet.specs.declared.Loss.the-variants.{Seconds}
 use Rattle.sheet.specs.Coefficients.{nearestFloat, courantSquared, lossPerStep}

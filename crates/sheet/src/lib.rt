@@ -6,12 +6,12 @@ ghost use mathlib.Core.Path.{_≡_};
 ghost use Rattle.sheet.specs.Call.{coefficientChecks, sheetRefused, answerTo, sheetCall};
 ghost use Rattle.sheet.specs.Coefficients.{settingsOf};
 use crate::coefficients::Coefficients;
-use checks::grid_refusal;
-use checks::is_nothing;
-use kinds::is_stable;
+use instruments::grid_refusal;
+use instruments::is_nothing;
 use scheme::Grid;
 use scheme::Refusal;
 use scheme::Settings;
+use sizes::is_stable;
 
 // A speed: hertz, which is wave speed over twice the length, or a tension with a density. The definitions `speedAllowed` and
 // `courantSquared` tell what the paper makes of each.

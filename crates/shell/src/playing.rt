@@ -13,8 +13,8 @@ use engine::Instrument;
 use engine::Refusal;
 use engine::Settings;
 use engine::block;
-use kinds::is_within;
 use line::Numbers;
+use sizes::is_within;
 
 const MOST: usize = 1024;
 

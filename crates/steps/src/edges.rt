@@ -5,7 +5,7 @@ ghost use Prim.Native.Nat.{_≤_};
 ghost use lib.ListN.{length};
 ghost use Rattle.scheme.specs.Instruments.{inTable};
 ghost use Rattle.steps.specs.Edges.{EdgesOf};
-use kinds::row_run;
+use runs::row_run;
 use scheme::Grid;
 
 // For each row its first moving column, and the column after its last.

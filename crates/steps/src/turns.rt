@@ -13,9 +13,8 @@ use crate::edges::row_edges;
 use crate::plan::make_plan;
 use crate::play::Steps;
 use crate::play::play;
-use checks::block_refusal;
-use checks::is_nothing;
-use checks::wrong_length;
+use block_checks::block_refusal;
+use instruments::is_nothing;
 use scheme::Hit;
 use scheme::Instrument;
 use scheme::Refusal;
@@ -80,7 +79,7 @@ pub fn steps_in_turn(
         (block i (now (older .entry)) (now (newer .entry)) (now (work .entry)) (now (samples .entry)) pick hit)
         r (now (older .exit)) (now (newer .exit)) (now (work .exit)) (now (samples .exit)) ⌝ }
 {
-    let wrong = wrong_length(i.grid, work.len());
+    let wrong = work.len() != older.len();
     let refusal = block_refusal(i, older, newer, wrong, pick, hit);
     if !is_nothing(refusal) {
         return InTurn {

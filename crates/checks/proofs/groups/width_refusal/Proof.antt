@@ -1,21 +1,30 @@
--- `width_refusal` meets its contract.
-use mathlib.Core.Path.{ap, _∙_}
-use mathlib.Core.Bool.{Bool}
-use mathlib.Core.List.{[], _∷_}
+-- `width_refusal` meets its contract: every grid of the table has 3 columns or more.
+use mathlib.Core.Path.{refl, sym, ap, _∙_}
+use mathlib.Core.Bool.{not}
+use mathlib.Core.List.{[]}
+use native.Mathlib.Omega.{arith}
 use Rattle.scheme.specs.declared.Refusal.the-variants.{HalfWidth}
-use Rattle.scheme.specs.Refusals.{_⇒_, lowest}
-use borrow.Author.Needs.{needs}
+use Rattle.scheme.specs.Refusals.{wrongWidth}
+use Rattle.scheme.proofs.Laws.Kinds.{sized}
+use Rattle.instruments.proofs.RefusalLaws.{refused-here, passed-here}
 use Rattle.checks.proofs.groups.width_refusal.Statement.{statement}
 use Rattle.checks.proofs.groups.width_refusal.Tie as tie
 
-wrong-width-requires : tie.Need-wrong-width-requires
-wrong-width-requires c κs = search needs
+sub-is-within : tie.Need-sub-is-within
+sub-is-within c = omega (arith, sized _ _ _ (c .before .pre) .columns-low)
 
-one-requires : tie.Need-one-requires
-one-requires c κs = search needs
+is-within-requires : tie.Need-is-within-requires
+is-within-requires c κs = tt
 
 returns : tie.Need-returns
-returns c = c .one .ensures ∙ ap (λ (x : Bool). lowest (x ⇒ HalfWidth ∷ [])) (c .before .wrong-width .ensures)
+returns c =
+    let a = c .before .before .before .args in
+    passed-here HalfWidth [] (wrongWidth (a .g) (a .half-width)) (ap not (sym (c .before .is-within .ensures) ∙ c .if1 .taken)) refl
+
+returns-2 : tie.Need-returns-2
+returns-2 c =
+    let a = c .before .before .before .args in
+    refused-here HalfWidth [] (wrongWidth (a .g) (a .half-width)) (ap not (sym (c .before .is-within .ensures) ∙ c .if1 .left))
 
 pub width-refusal-spec : {M : Type 1} → statement M
-width-refusal-spec = tie.close (tie.spec wrong-width-requires one-requires returns)
+width-refusal-spec = tie.close (tie.spec sub-is-within is-within-requires returns returns-2)

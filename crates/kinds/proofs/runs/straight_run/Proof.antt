@@ -6,7 +6,7 @@ use native.Mathlib.Omega.{arith}
 use borrow.Author.Needs.{needs}
 use Rattle.scheme.specs.Instruments.{halfFreeString, freeString, membrane, kindOf}
 use Rattle.kinds.specs.Runs.{runIn, straightRun}
-use Rattle.kinds.proofs.KindLaws.{kind-is}
+use Rattle.sizes.proofs.KindLaws.{kind-is}
 use Rattle.kinds.proofs.RunLaws.{straight-is, straight-none, straight-past, straight-other, ends-run}
 use Rattle.kinds.proofs.runs.straight_run.Statement.{statement}
 use Rattle.kinds.proofs.runs.straight_run.Tie as tie

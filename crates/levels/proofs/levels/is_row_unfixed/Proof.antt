@@ -6,7 +6,7 @@ use Rattle.scheme.specs.Instruments.{Kind, roundMembrane, sizeIn}
 use Rattle.scheme.proofs.Laws.Kinds.{sized}
 use Rattle.kinds.specs.Runs.{runOf}
 use Rattle.kinds.specs.declared.runs.Run.{Run}
-use Rattle.kinds.proofs.KindLaws.{kind-is, round-size}
+use Rattle.sizes.proofs.KindLaws.{kind-is, round-size}
 use Rattle.kinds.proofs.RunLaws.{RunIn, run-is, straight-is, run-bounds}
 use Rattle.levels.specs.Levels.{rowNotZero, roundNotZero}
 use Rattle.levels.proofs.LevelLaws.{row-test, round-row}

@@ -1,7 +1,7 @@
 use mathlib.Core.Path.{sym, ap, _∙_}
 use mathlib.Core.Bool.{Bool, _||_}
 use borrow.Author.Needs.{needs}
-use Rattle.checks.specs.Refused.{notLong}
+use Rattle.instruments.specs.Refused.{notLong}
 use Rattle.pluck.proofs.call.wrong_levels.Statement.{statement}
 use Rattle.pluck.proofs.call.wrong_levels.Tie as tie
 

@@ -1,14 +1,15 @@
 -- `steps_in_turn` meets its contract: what the checks answer is the paper's refusal, and what they let pass is carried out.
 use mathlib.Core.Path.{_≡_, sym, ap, _∙_}
-use mathlib.Core.Bool.{Bool, false}
+use mathlib.Core.Bool.{Bool, false, not}
 use borrow.Author.Needs.{needs}
 use borrow.Author.Tests.{not-true, not-false}
+use lib.Dec.{eqb}
 use lib.ListN.{length}
 use Rattle.scheme.specs.declared.Refusal.{Refusal}
 use Rattle.scheme.specs.Refusals.{wrongLength, blockRefusal}
 use Rattle.scheme.specs.Calls.{accepted}
 use Rattle.scheme.proofs.Laws.Refusals.{accepted-is}
-use Rattle.checks.proofs.RefusalLaws.{long-is, block-same}
+use Rattle.block_checks.proofs.BlockLaws.{block-same, other-length}
 use Rattle.steps.proofs.TurnLaws.{turned-down, carried-out}
 use Rattle.steps.proofs.turns.steps_in_turn.Statement.{statement}
 use Rattle.steps.proofs.turns.steps_in_turn.Tie as tie
@@ -16,7 +17,7 @@ use Rattle.steps.proofs.turns.steps_in_turn.Tie as tie
 -- what was answered is what refuses the block
 module _ (c : tie.After-block-refusal) where
   abbrev start : tie.Start
-  start = c .before .before .before .before
+  start = c .before .before .before
 
   abbrev wrong : Bool
   wrong = wrongLength (start .args .i .grid) (length (start .args .work .now))
@@ -24,16 +25,13 @@ module _ (c : tie.After-block-refusal) where
   abbrev refuses : Refusal
   refuses = blockRefusal (start .args .i) (start .args .older .now) (start .args .newer .now) wrong (start .args .pick) (start .args .hit)
 
+  -- work is compared with older
   refusal-is : c .block-refusal .result ≡ refuses
   refusal-is =
-      let tested = c .before .before .before .wrong-length in
+      let a = start .args in
       c .block-refusal .ensures ∙
-      block-same (start .args .i) (start .args .older .now) (start .args .newer .now) (tested .result) wrong (start .args .pick)
-      (start .args .hit)
-      (λ size. tested .ensures ∙ long-is (start .args .i .grid) (length (start .args .work .now)) size)
-
-wrong-length-requires : tie.Need-wrong-length-requires
-wrong-length-requires c κs = search needs
+      block-same (a .i) (a .older .now) (a .newer .now) (not (eqb (length (a .work .now)) (length (a .older .now)))) wrong (a .pick) (a .hit)
+      (λ right. other-length (a .i .grid) (length (a .older .now)) (length (a .work .now)) right)
 
 block-refusal-requires : tie.Need-block-refusal-requires
 block-refusal-requires c κs = search needs
@@ -90,7 +88,6 @@ pub steps-in-turn-spec : {M : Type 1} → statement M
 steps-in-turn-spec =
     tie.close
     (tie.spec
-    wrong-length-requires
     block-refusal-requires
     is-nothing-requires
     same-length

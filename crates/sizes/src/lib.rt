@@ -1,0 +1,67 @@
+// What goes by the kind number: sizes, and limits of stability.
+ghost use mathlib.Core.Path.{_≡_};
+ghost use mathlib.Core.Bool.{_&&_};
+ghost use Rattle.scheme.specs.Instruments.{kindOf, within, inTable, stableIn};
+ghost use Rattle.sizes.specs.Sizes.{pointsOf};
+use scheme::Grid;
+use scheme::Settings;
+
+// Whether a ≤ n ≤ b. Ruled out: a itself outside; b itself outside.
+pub fn is_within(a: usize, b: usize, n: usize) -> bool
+    ensures { λ r. ⌜ r ≡ within a b n ⌝ }
+{
+    if a <= n { n <= b } else { false }
+}
+
+// Whether there are 3..most columns and low..high rows.
+fn is_sized(columns: usize, most: usize, rows: usize, low: usize, high: usize) -> bool
+    ensures { λ r. ⌜ r ≡ (within 3 most columns && within low high rows) ⌝ }
+{
+    if is_within(3, most, columns) {
+        is_within(low, high, rows)
+    } else {
+        false
+    }
+}
+
+// Whether the table has these columns and rows for the kind. Ruled out: two columns; 65 columns of kind 5.
+pub fn has_size(g: Grid) -> bool
+    ensures { λ r. ⌜ r ≡ inTable g ⌝ }
+{
+    let kind = g.kind;
+    let columns = g.columns;
+    let rows = g.rows;
+    match kind {
+        1..=4 => is_sized(columns, 1024, rows, 1, 1),
+        5 => is_sized(columns, 64, rows, 3, 64),
+        6 => is_sized(columns, 64, rows, columns, columns),
+        _ => false,
+    }
+}
+
+// columns × rows, or 0 where the table does not have the size.
+// Ruled out: columns × columns; a point where the table does not have the size.
+pub fn points_of(g: Grid) -> usize
+    ensures { λ r. ⌜ r ≡ pointsOf g ⌝ }
+{
+    if has_size(g) { g.columns * g.rows } else { 0 }
+}
+
+// 5: whether the kind is stable with q and m. Ruled out: kind 4 stable by q + 3m; 2q = D refused for kind 5.
+pub fn is_stable(kind: u64, q: u64, m: u64) -> bool
+    ensures { λ r. ⌜ r ≡ stableIn (kindOf kind) q m ⌝ }
+{
+    // past D no kind is stable, and up to D no sum wraps
+    if Settings::D < q {
+        return false;
+    }
+    if Settings::D < m {
+        return false;
+    }
+    match kind {
+        1..=3 => m == 0,
+        4 => q + 4 * m <= Settings::D,
+        5 | 6 => { if 2 * q <= Settings::D { m == 0 } else { false } }
+        _ => false,
+    }
+}
