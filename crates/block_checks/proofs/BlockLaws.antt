@@ -15,7 +15,7 @@ use Rattle.scheme.specs.Refusals.{wrongLength, fixedNotZero, Check, lowest, ins
 use Rattle.scheme.specs.Refusals.{stateChecks, inputChecks, blockRefusal}
 use Rattle.scheme.proofs.Laws.Refusals.{right-length}
 use Rattle.instruments.proofs.RefusalLaws.{second-same, instrument-in}
-use Rattle.checks.proofs.RefusalLaws.{unfixed-is}
+use Rattle.levels.proofs.LevelLaws.{unfixed-is}
 use Rattle.block_checks.specs.State.{stateRefusal}
 
 -- a block's input by another test of the lengths, which is the same where the table has the size

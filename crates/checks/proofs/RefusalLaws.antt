@@ -1,17 +1,13 @@
--- Lengths and state as the code tests them.
-use mathlib.Core.Path.{_≡_, ap, _∙_}
+-- Lengths as the code tests them.
+use mathlib.Core.Path.{_≡_, ap}
 use mathlib.Core.Bool.{Bool, true}
 use mathlib.Core.List.{List, _++_}
 use Prim.Native.Nat.{ℕ}
-use borrow.Author.Tests.{eq-eqb}
 use lib.IntN.{ℤ}
-use lib.ListN.{length}
 use Rattle.scheme.specs.declared.Grid.{Grid}
 use Rattle.scheme.specs.declared.Hit.the-variants.{At}
-use Rattle.scheme.specs.Instruments.{points, inTable}
-use Rattle.scheme.specs.Refusals.{fixedNotZero, Check, lowest, gridChecks, lengthChecks, hitChecks, widthChecks, lastPlucked, pluckChecks}
-use Rattle.scheme.proofs.Laws.Bools.{and-yes}
-use Rattle.levels.specs.Levels.{unfixed}
+use Rattle.scheme.specs.Instruments.{inTable}
+use Rattle.scheme.specs.Refusals.{Check, lowest, gridChecks, lengthChecks, hitChecks, widthChecks, lastPlucked, pluckChecks}
 use Rattle.instruments.proofs.RefusalLaws.{second-same, grid-in}
 
 -- a pluck's checks by another test of the lengths, which is the same where the table has the size
@@ -21,8 +17,3 @@ pluck-same g wrong wrong′ c w a same =
     let after : Bool → List Check = λ x. lengthChecks x ++ (hitChecks g (At c a) ++ widthChecks g w) in
     second-same (gridChecks lastPlucked g) (after wrong) (after wrong′) tt
     (λ n. ap (λ (x : Bool). lowest (after x)) (same (grid-in lastPlucked g n)))
-
--- 12 of a level that has the grid's length
-pub unfixed-is : (g : Grid) (xs : List ℤ) → inTable g ≡ true → length xs ≡ points g → unfixed g xs ≡ fixedNotZero g xs
-unfolding unfixed
-unfixed-is g xs size e = and-yes size ∙ and-yes (eq-eqb (length xs) (points g) e)

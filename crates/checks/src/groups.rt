@@ -2,12 +2,8 @@
 ghost use mathlib.Core.Path.{_≡_};
 ghost use mathlib.Core.Bool.{true};
 ghost use Rattle.scheme.specs.Instruments.{inTable};
-ghost use Rattle.scheme.specs.Step.{someBeyond};
-ghost use Rattle.scheme.specs.Refusals.{lowest, hitChecks, pickChecks, widthChecks, stateChecks};
-ghost use Rattle.levels.specs.Levels.{unfixed};
+ghost use Rattle.scheme.specs.Refusals.{lowest, hitChecks, pickChecks, widthChecks};
 use levels::is_beyond;
-use levels::is_unfixed;
-use levels::some_beyond;
 use runs::is_moving;
 use scheme::Grid;
 use scheme::Hit;
@@ -54,19 +50,5 @@ pub(crate) fn width_refusal(g: Grid, half_width: usize) -> Refusal
         Refusal::Nothing
     } else {
         Refusal::HalfWidth
-    }
-}
-
-// 11 and 12 of one level.
-pub(crate) fn level_refusal(g: Grid, xs: &[i64]) -> Refusal
-    ensures { λ r. ⌜ r ≡ lowest (stateChecks (someBeyond (now (xs .entry))) (unfixed g (now (xs .entry)))) ⌝ }
-{
-    if some_beyond(xs) {
-        return Refusal::PointBeyond;
-    }
-    if is_unfixed(g, xs) {
-        Refusal::FixedNotZero
-    } else {
-        Refusal::Nothing
     }
 }

@@ -1,14 +1,12 @@
 // What refuses a call: its groups of tests, in their order.
 ghost use mathlib.Core.Path.{_≡_};
-ghost use Rattle.scheme.specs.Refusals.{lowest, inputChecks, pluckChecks, readingRefusal};
+ghost use Rattle.scheme.specs.Refusals.{lowest, inputChecks, pluckChecks};
 use crate::groups::hit_refusal;
-use crate::groups::level_refusal;
 use crate::groups::pick_refusal;
 use crate::groups::width_refusal;
 use instruments::grid_refusal;
 use instruments::instrument_refusal;
 use instruments::is_nothing;
-use instruments::wrong_length;
 use scheme::Grid;
 use scheme::Hit;
 use scheme::Instrument;
@@ -51,25 +49,6 @@ pub fn pluck_refusal(g: Grid, wrong: bool, centre: usize, half_width: usize, hei
     let r = hit_refusal(g, h);
     if is_nothing(r) {
         width_refusal(g, half_width)
-    } else {
-        r
-    }
-}
-
-// The float reading's 1, 2, 6, 9, 11 and 12. Ruled out: membranes not read; the pick-up taken for the length.
-pub fn reading_refusal(g: Grid, newer: &[i64], pick: usize) -> Refusal
-    ensures { λ r. ⌜ r ≡ readingRefusal g (now (newer .entry)) pick ⌝ }
-{
-    let r = grid_refusal(g, Grid::LAST);
-    if !is_nothing(r) {
-        return r;
-    }
-    if wrong_length(g, newer.len()) {
-        return Refusal::WrongLength;
-    }
-    let r = pick_refusal(g, pick);
-    if is_nothing(r) {
-        level_refusal(g, newer)
     } else {
         r
     }

@@ -6,7 +6,7 @@ use Prim.Native.Nat.{ℕ, zero, suc, _+_, _-_, _*_, _^_, _≤_, _<_}
 use native.Mathlib.Nat.{add-assoc, le-refl, mul-comm, mul-le-mul, suc-mul}
 use native.Mathlib.Numerals.{add-one}
 use native.Mathlib.Omega.{arith}
-use borrow.Author.Tests.{lt-ltb}
+use borrow.Author.Tests.{lt-ltb, eq-eqb}
 use lib.Arith.{digits-div, digits-mod}
 use lib.Dec.{T, ltb, leb·suc-suc}
 use lib.IntN.{ℤ, pos, negsuc, natAbs}
@@ -20,8 +20,9 @@ use Rattle.scheme.specs.Lists.{someBelow}
 use Rattle.scheme.specs.Instruments.{beyond, Kind, roundMembrane, points, column, row, roundEdge, fixedIn, fixed}
 use Rattle.scheme.specs.Refusals.{fixedNotZero}
 use Rattle.scheme.specs.Instruments.{inTable}
+use Rattle.scheme.proofs.Laws.Bools.{and-yes}
 use Rattle.kinds.specs.Runs.{runOf}
-use Rattle.levels.specs.Levels.{notZero, someNotZero, rowNotZero, roundNotZero, rowUnfixed}
+use Rattle.levels.specs.Levels.{notZero, someNotZero, rowNotZero, roundNotZero, rowUnfixed, unfixed}
 use Rattle.kinds.proofs.SearchLaws.{some-ext, some-rows, some-outside}
 use Rattle.sizes.proofs.KindLaws.{kind-is}
 use Rattle.kinds.proofs.RunLaws.{fixed-run, run-bounds}
@@ -79,3 +80,8 @@ module _ (g : Grid) (xs : List ℤ) where
   rows-test l =
       let test : ℕ → Bool = λ i. fixed g i && notZero xs i in
       ap (λ (n : ℕ). someBelow n test) (l ∙ mul-comm (g .columns) (g .rows)) ∙ some-rows (g .rows) (g .columns) test
+
+-- 12 of a level that has the grid's length
+pub unfixed-is : (g : Grid) (xs : List ℤ) → inTable g ≡ true → length xs ≡ points g → unfixed g xs ≡ fixedNotZero g xs
+unfolding unfixed
+unfixed-is g xs size e = and-yes size ∙ and-yes (eq-eqb (length xs) (points g) e)

@@ -1,10 +1,11 @@
 -- `is_unfixed` meets its contract: it looks only at a level as long as a grid of the table.
 use mathlib.Core.Path.{_≡_, sym, ap, _∙_}
 use mathlib.Core.Bool.{Bool, true, cond}
-use borrow.Author.Tests.{eq-eqb, ne-eqb, not-true, not-false}
+use borrow.Author.Tests.{ne-eqb, not-true, not-false}
 use Rattle.scheme.proofs.Laws.Bools.{and-yes, and-no}
 use Rattle.scheme.specs.Instruments.{points, inTable}
 use Rattle.levels.specs.Levels.{unfixed}
+use Rattle.levels.proofs.LevelLaws.{unfixed-is}
 use Rattle.levels.proofs.levels.is_unfixed.Statement.{statement}
 use Rattle.levels.proofs.levels.is_unfixed.Tie as tie
 
@@ -32,10 +33,9 @@ rows-not-zero-requires : tie.Need-rows-not-zero-requires
 rows-not-zero-requires c κs = (size (c .before .before), c .if2 .left ∙ points-is (c .before))
 
 returns-3 : tie.Need-returns-3
-unfolding unfixed
 returns-3 c =
     c .rows-not-zero .ensures ∙
-    sym (and-yes (size (c .before .before .before)) ∙ and-yes (eq-eqb _ _ (c .before .if2 .left ∙ points-is (c .before .before))))
+    sym (unfixed-is _ _ (size (c .before .before .before)) (c .before .if2 .left ∙ points-is (c .before .before)))
 
 pub is-unfixed-spec : {M : Type 1} → statement M
 is-unfixed-spec =

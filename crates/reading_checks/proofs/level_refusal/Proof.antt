@@ -4,8 +4,8 @@ use Rattle.scheme.specs.declared.Refusal.the-variants.{PointBeyond, FixedNotZer
 use Rattle.scheme.specs.Step.{someBeyond}
 use Rattle.levels.specs.Levels.{unfixed}
 use Rattle.instruments.proofs.RefusalLaws.{refused-first, refused-second, refused-neither}
-use Rattle.checks.proofs.groups.level_refusal.Statement.{statement}
-use Rattle.checks.proofs.groups.level_refusal.Tie as tie
+use Rattle.reading_checks.proofs.level_refusal.Statement.{statement}
+use Rattle.reading_checks.proofs.level_refusal.Tie as tie
 
 some-beyond-requires : tie.Need-some-beyond-requires
 some-beyond-requires c κs = tt

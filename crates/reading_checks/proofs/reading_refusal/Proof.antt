@@ -1,19 +1,21 @@
 -- `reading_refusal` meets its contract: 1 and 2 first, then 6 and 9, then 11 and 12.
 use mathlib.Core.Path.{_≡_, sym, ap, _∙_}
-use mathlib.Core.Bool.{Bool, true, not}
+use mathlib.Core.Bool.{Bool, true, false, not}
 use mathlib.Core.List.{List, _++_}
+use borrow.Author.Tests.{lt-ltb, le-ltb}
+use lib.Dec.{ltb}
 use lib.ListN.{length}
 use Rattle.scheme.specs.declared.Refusal.{Refusal}
-use Rattle.scheme.specs.declared.Refusal.the-variants.{WrongLength}
-use Rattle.scheme.specs.Instruments.{inTable}
+use Rattle.scheme.specs.declared.Refusal.the-variants.{WrongLength, PickUp}
+use Rattle.scheme.specs.Instruments.{points, inTable}
 use Rattle.scheme.specs.Step.{someBeyond}
 use Rattle.scheme.specs.Refusals.{lastKind, wrongLength, fixedNotZero, Check, lowest, gridChecks, lengthChecks, pickChecks, stateChecks}
-use Rattle.scheme.specs.Refusals.{readingRefusal}
+use Rattle.scheme.specs.Refusals.{notGridPoint, readingRefusal}
 use Rattle.scheme.proofs.Laws.Refusals.{right-length}
 use Rattle.instruments.proofs.RefusalLaws.{refused-here, passed-here, passed, refused-by, goes-on, grid-in, long-is}
-use Rattle.checks.proofs.RefusalLaws.{unfixed-is}
-use Rattle.checks.proofs.refusals.reading_refusal.Statement.{statement}
-use Rattle.checks.proofs.refusals.reading_refusal.Tie as tie
+use Rattle.levels.proofs.LevelLaws.{unfixed-is}
+use Rattle.reading_checks.proofs.reading_refusal.Statement.{statement}
+use Rattle.reading_checks.proofs.reading_refusal.Tie as tie
 
 -- 1 and 2, 6's test, 9, 11 and 12, and all from 6 on
 abbrev grid : tie.Start → List Check
@@ -71,37 +73,40 @@ returns-2 c =
     let s = l .before .before .before .before in
     further (l .before) (refused-here WrongLength (pick s ++ state s) (wrong s) (wrong-is l (c .if2 .taken)))
 
-pick-refusal-requires : tie.Need-pick-refusal-requires
-pick-refusal-requires c κs = size (c .before .before)
+-- 6 has passed: the level is as long as the grid
+module _ (c : tie.Else2) where
+  abbrev t : tie.Start
+  t = c .before .before .before .before .before
 
-is-nothing-requires-2 : tie.Need-is-nothing-requires-2
-is-nothing-requires-2 c κs = tt
+  right : wrong t ≡ false
+  right = wrong-is (c .before) (c .if2 .left)
+
+  long : length (t .args .newer .now) ≡ points (t .args .g)
+  long = right-length (t .args .g) (length (t .args .newer .now)) right
+
+  point-test : {b : Bool} → ltb (t .args .pick) (length (t .args .newer .now)) ≡ b → notGridPoint (t .args .g) (t .args .pick) ≡ not b
+  point-test e = ap not (ap (ltb (t .args .pick)) (sym long) ∙ e)
+
+  later : {r : Refusal} → r ≡ lowest (pick t ++ state t) → r ≡ readingRefusal (t .args .g) (t .args .newer .now) (t .args .pick)
+  later e = further (c .before .before) (passed-here WrongLength (pick t ++ state t) (wrong t) right e)
+
+returns-3 : tie.Need-returns-3
+returns-3 c =
+    let a = t (c .before) .args in
+    later (c .before) (refused-here PickUp (state (t (c .before))) (notGridPoint (a .g) (a .pick))
+    (point-test (c .before) (le-ltb _ _ (c .if3 .taken))))
 
 level-refusal-requires : tie.Need-level-refusal-requires
 level-refusal-requires c κs = tt
 
-returns-3 : tie.Need-returns-3
-returns-3 c =
-    let n = c .before .before in
-    let e = n .before .before in
-    let l = e .before in
-    let s = l .before .before .before .before in
-    let g = s .args .g in
-    let newer = s .args .newer .now in
-    let right = wrong-is l (e .if2 .left) in
-    further (l .before) (passed-here WrongLength (pick s ++ state s) (wrong s) right
-    (goes-on (pick s) (state s) tt (n .before .pick-refusal .ensures) (n .is-nothing2 .ensures) (ap not (c .before .if3 .taken))
-    (c .level-refusal .ensures ∙ ap (λ (x : Bool). lowest (stateChecks (someBeyond newer) x))
-    (unfixed-is g newer (size (l .before)) (right-length g (length newer) right)))))
-
 returns-4 : tie.Need-returns-4
 returns-4 c =
-    let n = c .before in
-    let e = n .before .before in
-    let l = e .before in
-    let s = l .before .before .before .before in
-    further (l .before) (passed-here WrongLength (pick s ++ state s) (wrong s) (wrong-is l (e .if2 .left))
-    (refused-by (pick s) (state s) tt (n .before .pick-refusal .ensures) (n .is-nothing2 .ensures) (ap not (c .if3 .left))))
+    let e = c .before .before in
+    let s = t e in
+    let a = s .args in
+    later e (passed-here PickUp (state s) (notGridPoint (a .g) (a .pick)) (point-test e (lt-ltb _ _ (c .before .if3 .left)))
+    (c .level-refusal .ensures ∙ ap (λ (x : Bool). lowest (stateChecks (someBeyond (a .newer .now)) x))
+    (unfixed-is (a .g) (a .newer .now) (size (e .before .before)) (long e))))
 
 pub reading-refusal-spec : {M : Type 1} → statement M
 reading-refusal-spec =
@@ -112,8 +117,6 @@ reading-refusal-spec =
     returns
     wrong-length-requires
     returns-2
-    pick-refusal-requires
-    is-nothing-requires-2
-    level-refusal-requires
     returns-3
+    level-refusal-requires
     returns-4)
