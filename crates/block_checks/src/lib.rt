@@ -47,7 +47,7 @@ fn wrong_lengths(g: Grid, older: usize, newer: usize, wrong: bool) -> bool
 }
 
 // A block's 1, 2, 4 to 9, 11 and 12: `wrong` is 6's test of what is lent beside the two levels.
-// Ruled out: the length of older not looked at; work of any length; 11 not asked of older; 12 not asked of older.
+// Ruled out: the length of newer not looked at; work of any length; 11 not asked of older; 12 not asked of older.
 pub fn block_refusal(
     i: Instrument,
     older: &[i64],
