@@ -5,11 +5,12 @@ use mathlib.Core.List.{List}
 use Prim.Native.Nat.{ℕ, _+_, _-_, _*_, _≤_, _<_, zero-le}
 use native.Mathlib.Nat as N
 use native.Mathlib.Omega.{arith}
-use borrow.Author.Tests.{eqb-false, lt-ltb}
+use borrow.Author.Tests.{eqb-false, ne-eqb, lt-ltb}
 use lib.Dec.{eqb}
 use lib.IntN.{ℤ, pos, natAbs, _+ℤ_, _-ℤ_, _*ℤ_}
 use lib.ListN.{length}
 use Rattle.integers.specs.Sum.{sumOver}
+use Rattle.integers.proofs.Ring.{#_, _⊕_, _⊖_, _⊗_, _≈_, ring}
 use Rattle.bounded.proofs.Expr.{E, via, num, _⊞_, _⊟_, _⊠_, size}
 use Rattle.scheme.specs.declared.Grid.{Grid}
 use Rattle.scheme.specs.declared.Instrument.{Instrument}
@@ -17,7 +18,7 @@ use Rattle.scheme.specs.Lists.{point}
 use Rattle.scheme.specs.Instruments.{Kind, bar, ceiling, kind, points, column, row, atEdge, fixedIn, fixed, moving}
 use Rattle.scheme.specs.Step.{laplacian, innerLaplacian, biharmonic}
 use Rattle.scheme.specs.Ranges.{AtMost}
-use Rattle.scheme.proofs.Laws.Bools.{or-neither}
+use Rattle.scheme.proofs.Laws.Bools.{or-neither, neither-or}
 use Rattle.scheme.proofs.Laws.Neighbours.{line-inner}
 use Rattle.steps.specs.Plan.{Neighbouring}
 use Rattle.steps.specs.Run.{OnLine, twoBeside, lineLaplacian, barLaplacian}
@@ -37,6 +38,13 @@ module _ (xs : List ℤ) (low : AtMost ceiling (point xs)) where
   -- L as the machine has it
   abbrev pub bar# : (k : ℕ) {r : ℤ} → r ≡ barLaplacian xs k → E
   bar# k {r} e = via {r = r} {z = barLaplacian xs k} {B = 4 * ceiling} (record { is = e; size = bar-low k })
+
+-- between the ends, the neighbours' sum is L and twice the point
+pub bar-sum : (xs : List ℤ) (k : ℕ) → 0 < k → k + 1 < length xs → barLaplacian xs k +ℤ pos 2 *ℤ point xs k ≡ twoBeside xs k
+bar-sum xs k h l =
+    ap (λ (t : Bool). cond t (pos 0) (lineLaplacian xs k) +ℤ pos 2 *ℤ point xs k)
+    (neither-or (ne-eqb k 0 (λ e. omega arith)) (ne-eqb (k + 1) (length xs) (λ e. omega arith))) ∙
+    ring 2 (λ x y. x ⊖ # 2 ⊗ y ⊕ # 2 ⊗ y ≈ x) refl (twoBeside xs k) (point xs k)
 
 -- L of L, by three values of L
 abbrev pub bendingOf : List ℤ → ℕ → ℤ

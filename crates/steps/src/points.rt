@@ -59,7 +59,7 @@ fn line_run(plan: Plan, older: &[i64], newer: &[i64], s: Stretch, out: &mut [i64
     true
 }
 
-// Points of a bar: L of L by the values of L before, here and after.
+// Points of a bar: L of L by the values of L before, here and after. The neighbours' sum is L and twice the point.
 fn bar_run(plan: Plan, older: &[i64], newer: &[i64], s: Stretch, out: &mut [i64]) -> bool
     requires { ⌜ Ready plan (s .force) (now older) (now newer) × Placed s (length (now out)) ⌝ }
     requires { ⌜ OnLine (plan .instrument .grid) (s .from) (s .to) × (kind (plan .instrument .grid) ≡ bar) ⌝ }
@@ -70,7 +70,7 @@ fn bar_run(plan: Plan, older: &[i64], newer: &[i64], s: Stretch, out: &mut [i64]
     let mut here = laplacian_at(newer, at);
     while at < s.to {
         let right = laplacian_at(newer, at + 1);
-        let sum = beside(newer, at);
+        let sum = here + 2 * newer[at];
         let b = left + right - 2 * here;
         if !next_point(plan, older, newer, at, sum, 2, b, s, out) {
             return false;

@@ -14,7 +14,8 @@ use Rattle.scheme.specs.Instruments.{bar, kind}
 use Rattle.steps.specs.Plan.{Ready, Neighbouring}
 use Rattle.steps.specs.Run.{valueAt, OnLine, barLaplacian}
 use Rattle.steps.proofs.KindLaws.{line-long}
-use Rattle.steps.proofs.BendLaws.{bar#, bar-beside}
+use Rattle.steps.proofs.BesideLaws.{at#}
+use Rattle.steps.proofs.BendLaws.{bar#, bar-sum, bar-beside}
 use Rattle.steps.proofs.FillLaws.{placed-after, Running, running-start, running-on, running-stops, running-done, ran-fine}
 use Rattle.steps.proofs.points.bar_run.Statement.{statement}
 use Rattle.steps.proofs.points.bar_run.Tie as tie
@@ -87,7 +88,12 @@ module _ (c : tie.After-laplacian-at3 Inv-loop μ-loop) where
   right-is : toZ w64 (ofZ w64 (c .laplacian-at3 .result)) ≡ L s (k turn + 1)
   right-is = back (c .laplacian-at3 .result) (c .laplacian-at3 .ok) ∙ c .laplacian-at3 .ensures
 
-  -- L of L, as the machine adds it
+  -- the neighbours' sum and L of L, as the machine adds them
+  abbrev sum# : E
+  sum# =
+      bar# (s .args .newer .now) (ready s .newer-low) (k turn) (turn .before .before .loop .inv .2)
+      ⊞ num 2 ⊠ at# (s .args .newer .now) (ready s .newer-low) (k turn)
+
   abbrev outer# : E
   outer# =
       bar# (s .args .newer .now) (ready s .newer-low) (k turn - 1) (turn .before .before .loop .inv .1)
@@ -96,17 +102,12 @@ module _ (c : tie.After-laplacian-at3 Inv-loop μ-loop) where
   abbrev twice# : E
   twice# = num 2 ⊠ bar# (s .args .newer .now) (ready s .newer-low) (k turn) (turn .before .before .loop .inv .2)
 
--- once its neighbours are there
-beside : (c : tie.After-beside Inv-loop μ-loop) → let r = c .before in
-    Neighbouring (s r .args .plan .instrument) (s r .args .newer .now) (k (turn r)) (toZ w64 (ofZ w64 (c .beside .result))) (pos 2)
-    (red (outer# r ⊟ twice# r))
-beside c =
-    let r = c .before in
-    let t = turn r in
-    let sum = back (c .beside .result) (c .beside .ok) ∙ c .beside .ensures in
-    coe 1 0 (j. Neighbouring (s r .args .plan .instrument) (s r .args .newer .now) (k t) (sum j) (pos 2) (is (outer# r ⊟ twice# r) tt j))
-    (bar-beside (s r .args .plan .instrument) (is-bar (s r)) (s r .args .newer .now) (ready (s r) .newer-long) (ready (s r) .newer-low)
-    (on (s r)) (k t) (first t) (last t))
+  beside : Neighbouring (s .args .plan .instrument) (s .args .newer .now) (k turn) (red sum#) (pos 2) (red (outer# ⊟ twice#))
+  beside =
+      let sum = is sum# tt ∙ bar-sum (s .args .newer .now) (k turn) (above turn) (inside turn) in
+      coe 1 0 (j. Neighbouring (s .args .plan .instrument) (s .args .newer .now) (k turn) (sum j) (pos 2) (is (outer# ⊟ twice#) tt j))
+      (bar-beside (s .args .plan .instrument) (is-bar s) (s .args .newer .now) (ready s .newer-long) (ready s .newer-low) (on s) (k turn)
+      (first turn) (last turn))
 
 -- once the point is done
 abbrev right : tie.After-out Inv-loop μ-loop → tie.After-laplacian-at3 Inv-loop μ-loop
@@ -137,8 +138,17 @@ add-laplacian-at c = let h = inside c in search needs
 laplacian-at-requires-3 : tie.Need-laplacian-at-requires-3 Inv-loop μ-loop
 laplacian-at-requires-3 c κs = (inside c, ready (start c) .newer-low)
 
-beside-requires : tie.Need-beside-requires Inv-loop μ-loop
-beside-requires c κs = let t = turn c in (above t, inside t, ready (start t) .newer-low)
+mul-sum : tie.Need-mul-sum Inv-loop μ-loop
+mul-sum c = let h = inside (turn c) in search needs
+
+shared-slice-copy-out-sum : tie.Need-shared-slice-copy-out-sum Inv-loop μ-loop
+shared-slice-copy-out-sum c = omega (arith, inside (turn c))
+
+mul-sum-2 : tie.Need-mul-sum-2 Inv-loop μ-loop
+mul-sum-2 c = let r = c .before in fits (num 2 ⊠ at# (s r .args .newer .now) (ready (s r) .newer-low) (k (turn r))) tt
+
+add-sum : tie.Need-add-sum Inv-loop μ-loop
+add-sum c = fits (sum# (c .before)) tt
 
 add-b : tie.Need-add-b Inv-loop μ-loop
 add-b c = fits (outer# (c .before)) tt
@@ -151,10 +161,10 @@ sub-b c = fits (outer# (c .before) ⊟ twice# (c .before)) tt
 
 next-point-requires : tie.Need-next-point-requires Inv-loop μ-loop
 next-point-requires c κs =
-    let b = c .before in
-    let t = turn (b .before) in
+    let r = c .before .before in
+    let t = turn r in
     let s = start t in
-    ((ready s, beside b), (placed-after (s .pre .0 .1) (inv t .ran .long), first t, last t))
+    ((ready s, beside r), (placed-after (s .pre .0 .1) (inv t .ran .long), first t, last t))
 
 same-length : tie.Need-same-length Inv-loop μ-loop
 same-length c = search needs
@@ -200,7 +210,10 @@ bar-run-spec =
     loop-holds
     add-laplacian-at
     laplacian-at-requires-3
-    beside-requires
+    mul-sum
+    shared-slice-copy-out-sum
+    mul-sum-2
+    add-sum
     add-b
     mul-b
     sub-b
