@@ -40,8 +40,8 @@ const LEADING: u64 = 4503599627370496;
 // 2⁶³: the weight of the sign.
 const SIGN: u64 = 9223372036854775808;
 
-// The pattern of −1/2 over D.
-const MINUS_HALF: u64 = SIGN + 1006 * LEADING;
+// The bit pattern of −1/2 over D: the sign, and 1006 in the exponent's field.
+const MINUS_HALF: u64 = 13753993261989494784;
 
 // n / 2ᵏ to the nearest whole number, halves up.
 fn shifted(n: u64, k: u64) -> u64
