@@ -1,14 +1,14 @@
 -- A level's points as code looks at them.
 use mathlib.Core.Path.{_≡_, refl, sym, ap, ap₂, _∙_, subst, subst₂}
-use mathlib.Core.Bool.{Bool, true, false, _&&_, _||_}
+use mathlib.Core.Bool.{Bool, true, false, not, _&&_, _||_}
 use mathlib.Core.List.{List}
 use Prim.Native.Nat.{ℕ, zero, suc, _+_, _-_, _*_, _^_, _≤_, _<_}
 use native.Mathlib.Nat.{add-assoc, le-refl, mul-comm, mul-le-mul, suc-mul}
 use native.Mathlib.Numerals.{add-one}
 use native.Mathlib.Omega.{arith}
-use borrow.Author.Tests.{lt-ltb, eq-eqb}
+use borrow.Author.Tests.{lt-ltb, eq-eqb, eqb-true, eqb-false}
 use lib.Arith.{digits-div, digits-mod}
-use lib.Dec.{T, ltb, leb·suc-suc}
+use lib.Dec.{T, ltb, eqb, leb·suc-suc}
 use lib.IntN.{ℤ, pos, negsuc, natAbs}
 use lib.ListN.{length}
 use lib.Signed.{mag, ltZ}
@@ -16,6 +16,7 @@ use mir.Syntax.{w64}
 use mir.Val.{toZ, ofZ}
 use Rattle.bounded.proofs.Num.{back}
 use Rattle.scheme.specs.declared.Grid.{Grid}
+use Rattle.scheme.proofs.Laws.Bools.{cases}
 use Rattle.scheme.specs.Lists.{someBelow}
 use Rattle.scheme.specs.Instruments.{beyond, Kind, roundMembrane, points, column, row, roundEdge, fixedIn, fixed}
 use Rattle.scheme.specs.Refusals.{fixedNotZero}
@@ -46,6 +47,10 @@ pub bits-not-zero : (z : ℤ) → (ofZ w64 z ≡ 0 → ⊥) → ltb 0 (natAbs z)
 bits-not-zero (pos zero) f = absurd (f refl)
 bits-not-zero (pos (suc n)) f = lt-ltb 0 (suc n) (omega arith)
 bits-not-zero (negsuc n) f = lt-ltb 0 (suc n) (omega arith)
+
+pub bits-test : (z : ℤ) → mag z < 2 ^ 63 → not (eqb (ofZ w64 z) 0) ≡ ltb 0 (natAbs z)
+bits-test z h = cases (λ (b : Bool). not b ≡ ltb 0 (natAbs z)) (eqb (ofZ w64 z) 0)
+    (λ e. sym (bits-zero z h (eqb-true (ofZ w64 z) 0 e))) (λ e. sym (bits-not-zero z (eqb-false (ofZ w64 z) 0 e)))
 
 -- ---- a fixed point that is not 0: row by row, outside each row's run
 

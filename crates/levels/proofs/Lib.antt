@@ -1,3 +1,4 @@
 pub mod LevelLaws
+pub mod LineLaws
 pub mod SignLaws
 pub mod RoundRowLaws

@@ -1,5 +1,5 @@
 -- Signs by bits, and points of a level that are not 0. Vocabulary between the engine's crates: no call that a maker embeds cites it.
-use mathlib.Core.Bool.{Bool, _&&_, _||_}
+use mathlib.Core.Bool.{Bool, false, _&&_, _||_}
 use mathlib.Core.List.{List}
 use Prim.Native.Nat.{ℕ, suc, _+_, _-_, _*_, _^_}
 use lib.Dec.{leb, ltb, eqb}
@@ -7,6 +7,7 @@ use lib.IntN.{ℤ, pos, negsuc, natAbs}
 use lib.ListN.{length}
 use Rattle.scheme.specs.declared.Grid.{Grid}
 use Rattle.scheme.specs.Lists.{point, someBelow}
+use Rattle.scheme.specs.Instruments.{Kind, unknown, fixedString, halfFreeString, freeString, bar, membrane, roundMembrane}
 use Rattle.scheme.specs.Instruments.{points, inTable, roundEdge, fixed}
 use Rattle.scheme.specs.Refusals.{fixedNotZero}
 use Rattle.kinds.specs.declared.runs.Run.{Run}
@@ -39,6 +40,16 @@ roundNotZero xs s c b = someBelow c (λ a. roundEdge c a b && notZero xs (s + a)
 -- some fixed point of row b is not 0
 abbrev pub rowUnfixed : Grid → List ℤ → ℕ → Bool
 rowUnfixed g xs b = someBelow (g .columns) (λ a. fixed g (b * g .columns + a) && notZero xs (b * g .columns + a))
+
+-- some fixed point of a line is not 0: "string, both ends fixed", "point 0 fixed, last free", "both ends free", "both ends supported"
+abbrev pub endsNotZero : Kind → List ℤ → ℕ → Bool
+endsNotZero fixedString xs last = notZero xs 0 || notZero xs last
+endsNotZero halfFreeString xs last = notZero xs 0
+endsNotZero freeString xs last = false
+endsNotZero bar xs last = notZero xs 0 || notZero xs last
+endsNotZero unknown xs last = false
+endsNotZero membrane xs last = false
+endsNotZero roundMembrane xs last = false
 
 -- 12 "A fixed point .. not 0", of a level that is as long as a grid whose size the table has
 unfoldable pub unfixed : Grid → List ℤ → Bool

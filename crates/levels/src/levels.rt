@@ -2,6 +2,8 @@
 ghost use mathlib.Core.Path.{_≡_};
 ghost use mathlib.Core.Bool.{true};
 ghost use Prim.Native.Nat.{_+_, _*_, _≤_, _<_};
+ghost use lib.Dec.{ltb};
+ghost use lib.IntN.{natAbs};
 ghost use lib.ListN.{length};
 ghost use Rattle.scheme.specs.Instruments.{points, beyond};
 ghost use Rattle.scheme.specs.Step.{someBeyond};
@@ -61,6 +63,12 @@ pub fn some_beyond(xs: &[i64]) -> bool
         point += 1;
     }
     SIGN <= signs
+}
+
+fn is_not_zero(v: i64) -> bool
+    ensures { λ r. ⌜ r ≡ ltb 0 (natAbs v) ⌝ }
+{
+    v != 0
 }
 
 // Whether some of the n points from start on is not 0.
@@ -139,6 +147,20 @@ fn rows_not_zero(g: Grid, xs: &[i64]) -> bool
     false
 }
 
+// 12 of a line, whose fixed points are the ends that its kind fixes.
+fn is_line_unfixed(g: Grid, xs: &[i64]) -> bool
+    requires { ⌜ (inTable g ≡ true) × (g .kind ≤ 4) × (length (now xs) ≡ points g) ⌝ }
+    ensures { λ r. ⌜ r ≡ fixedNotZero g (now (xs .entry)) ⌝ }
+{
+    let kind = g.kind;
+    let last = g.columns - 1;
+    match kind {
+        3 => false,
+        2 => is_not_zero(xs[0]),
+        _ => is_not_zero(xs[0]) | is_not_zero(xs[last]),
+    }
+}
+
 // 12, of a level as long as a grid whose size the table has; of any other the answer is no.
 // Ruled out: a run's first columns looked at in place of those after it; as many rows looked at as there are columns;
 // the right of a round membrane's row by its row.
@@ -150,6 +172,9 @@ pub fn is_unfixed(g: Grid, xs: &[i64]) -> bool
     }
     if xs.len() != points_of(g) {
         return false;
+    }
+    if g.kind <= 4 {
+        return is_line_unfixed(g, xs);
     }
     rows_not_zero(g, xs)
 }

@@ -5,7 +5,7 @@ use mathlib.Core.Bool.{Bool, true, false, not, cond, true≢false}
 use Prim.Native.Nat.{ℕ, zero, suc, _+_, _-_, _*_, _/_, _%_, _^_, _≤_, _<_}
 use native.Mathlib.Nat.{lt-of-lt-of-le, eq-or-lt-of-le, le-of-suc-le-suc, mul-assoc, mul-right-comm, mul-le-mul, mod-lt}
 use native.Mathlib.Omega.{arith}
-use borrow.Author.Tests.{le-leb, lt-leb, ne-eqb}
+use borrow.Author.Tests.{le-leb, lt-leb, ne-eqb, leb-true, leb-false}
 use lib.Dec.{T, leb, eqb, lit≤}
 use lib.IntN.{pos, negℤ, _*ℤ_}
 use lib.Pow.{pow-add, pow-pos, pow-mono, field}
@@ -137,7 +137,7 @@ module _ (b : ℕ) where
   read-as s h = ap (λ (x : ℕ). nearestWhole (ofFields binary64 (leb sign b) x (digits b))) (field b 11 52)
       ∙ ap (λ (u : Bool). nearestWhole (ofFields binary64 u (exponent b) (digits b))) h
 
-  pub bits-small : exponent b < 1006 → nearestWhole (ofBits binary64 b) ≡ Is 0
+  bits-small : exponent b < 1006 → nearestWhole (ofBits binary64 b) ≡ Is 0
   bits-small h =
       let d = 1058 - (exponent b - 1) in
       let m = mantissa (exponent b) (digits b) in
@@ -149,11 +149,11 @@ module _ (b : ℕ) where
       twice : {m : ℕ} → m < 2 ^ 53 → 2 * m < 2 ^ 54
       twice h = omega arith
 
-  pub bits-large : 1023 < exponent b → nearestWhole (ofBits binary64 b) ≡ Outside
+  bits-large : 1023 < exponent b → nearestWhole (ofBits binary64 b) ≡ Outside
   bits-large h = read-as (leb sign b) refl ∙ of-high-fields (leb sign b) (exponent b) (digits b) h (mod-lt (b / leading) (pow-pos 11))
 
   module _ (low : 1006 ≤ exponent b) (high : exponent b ≤ 1023) where
-    pub bits-plus : b < sign → {d n : ℕ} → d ≡ digits b → n ≡ nearest (leading + d) (2 ^ (1059 - exponent b))
+    bits-plus : b < sign → {d n : ℕ} → d ≡ digits b → n ≡ nearest (leading + d) (2 ^ (1059 - exponent b))
         → nearestWhole (ofBits binary64 b) ≡ wholeIn (pos n)
     bits-plus h e f =
         read-as false (lt-leb sign b h)
@@ -165,11 +165,11 @@ module _ (b : ℕ) where
         → nearestWhole (ofBits binary64 b) ≡ wholeIn (halvesUp (negℤ (pos (leading + digits b))) (2 ^ (1059 - exponent b)))
     bits-minus h = read-as true (le-leb sign b h) ∙ of-middle-fields true (exponent b) (digits b) low high
 
-    pub bits-minus-half : sign ≤ b → exponent b ≡ 1006 → digits b ≡ 0 → nearestWhole (ofBits binary64 b) ≡ Is 0
+    bits-minus-half : sign ≤ b → exponent b ≡ 1006 → digits b ≡ 0 → nearestWhole (ofBits binary64 b) ≡ Is 0
     bits-minus-half h e t = bits-minus h
         ∙ ap wholeIn (minus-half (leading + digits b) (2 ^ (1059 - exponent b)) (pow-pos (1059 - exponent b)) (simp (e, t) (lit≤ tt)))
 
-    pub bits-minus-below : sign ≤ b → (exponent b ≡ 1006 → digits b ≡ 0 → ⊥) → nearestWhole (ofBits binary64 b) ≡ Outside
+    bits-minus-below : sign ≤ b → (exponent b ≡ 1006 → digits b ≡ 0 → ⊥) → nearestWhole (ofBits binary64 b) ≡ Outside
     bits-minus-below h n = bits-minus h ∙ minus-below (leading + digits b) (2 ^ (1059 - exponent b)) (go (eq-or-lt-of-le low))
       where
         over : {p : ℕ} → p ≤ 2 ^ 52 → p < 2 * (leading + digits b)
@@ -178,6 +178,41 @@ module _ (b : ℕ) where
         go : (1006 ≡ exponent b) ⊎ (1006 < exponent b) → 2 ^ (1059 - exponent b) < 2 * (leading + digits b)
         go (inl e) = let k = n (sym e) in rw (← e) (omega arith)
         go (inr l) = let k : 1059 - exponent b ≤ 52 = omega arith in over (pow-mono k)
+
+  -- ---- the same by sign and exponent in one field, as the code reads them
+
+  no-sign : b / leading < 2048 → exponent b ≡ b / leading
+  no-sign h = omega arith
+
+  pub field-small : b / leading < 1006 → nearestWhole (ofBits binary64 b) ≡ Is 0
+  field-small h = bits-small (omega arith)
+
+  pub field-middle : 1006 ≤ b / leading → b / leading ≤ 1023
+      → {d n : ℕ} → d ≡ digits b → n ≡ nearest (leading + d) (2 ^ (1059 - b / leading)) → nearestWhole (ofBits binary64 b) ≡ wholeIn (pos n)
+  field-middle low high {d} e f =
+      bits-plus (omega arith) (omega arith) (omega arith) e
+      (f ∙ ap (λ (x : ℕ). nearest (leading + d) (2 ^ (1059 - x))) (sym (no-sign (omega arith))))
+
+  pub field-large : 1023 < b / leading → b < sign → nearestWhole (ofBits binary64 b) ≡ Outside
+  field-large low high = bits-large (omega arith)
+
+  -- a negative number from −1/2 on, and one below
+  pub minus-near : sign ≤ b → b ≤ sign + 1006 * leading → nearestWhole (ofBits binary64 b) ≡ Is 0
+  minus-near low high = go (eq-or-lt-of-le at-most)
+    where
+      at-most : exponent b ≤ 1006
+      at-most = omega arith
+
+      go : (exponent b ≡ 1006) ⊎ (exponent b < 1006) → nearestWhole (ofBits binary64 b) ≡ Is 0
+      go (inl e) = bits-minus-half (omega arith) (omega arith) low e (omega arith)
+      go (inr l) = bits-small l
+
+  pub minus-far : sign + 1006 * leading < b → b < 2 * sign → nearestWhole (ofBits binary64 b) ≡ Outside
+  minus-far low high = go (leb (exponent b) 1023) (leb-true (exponent b) 1023) (leb-false (exponent b) 1023)
+    where
+      go : (t : Bool) → (t ≡ true → exponent b ≤ 1023) → (t ≡ false → 1023 < exponent b) → nearestWhole (ofBits binary64 b) ≡ Outside
+      go true h k = let l = h refl in bits-minus-below (omega arith) l (omega arith) (λ e t. omega arith)
+      go false h k = bits-large (k refl)
 
 -- ---- not a number
 

@@ -16,12 +16,12 @@ use Rattle.scheme.specs.Refusals.{lastPlucked, wrongLength, lowest, pluckChecks
 use Rattle.scheme.specs.declared.Refusal.the-variants.{Nothing}
 use Rattle.scheme.specs.Passing.{PluckPasses}
 use Rattle.scheme.proofs.Laws.Bools.{and-both}
-use Rattle.scheme.proofs.Laws.Kinds.{within-is}
+use Rattle.scheme.proofs.Laws.Kinds.{within-is, sized}
 use Rattle.scheme.proofs.Laws.Lists.{length-tabulate, getD-tabulate, is-tabulate}
 use Rattle.scheme.proofs.Laws.Refusals.{pluck-passes}
-use Rattle.kinds.specs.Runs.{inRun, runOf}
+use Rattle.kinds.specs.Runs.{inRun, straightRun, runOf}
 use Rattle.sizes.proofs.KindLaws.{line-size}
-use Rattle.kinds.proofs.RunLaws.{moving-run, run-bounds}
+use Rattle.kinds.proofs.RunLaws.{run-is, straight-is, moving-run, run-bounds}
 use Rattle.instruments.specs.Refused.{notLong}
 use Rattle.instruments.proofs.RefusalLaws.{long-is}
 use Rattle.checks.proofs.RefusalLaws.{pluck-same}
@@ -62,6 +62,14 @@ module _ (g : Grid) (older newer c w : ℕ) (a : ℤ) (none : pluckRefusal g old
   moving-is i h =
       let first = ap (λ (k : ℕ). k + i) (zero-mul (g .columns)) ∙ zero-add i in
       sym (moving-run g 0 i (passes .size) (omega (arith, of-line .1)) (omega (arith, columns-is))) ∙ ap (moving g) first
+
+  -- as the code works it out
+  pub line-run : straightRun (g .kind) (g .columns) (g .rows) 0 ≡ runOf g 0
+  line-run =
+      let k = within-is 1 lastPlucked (g .kind) (passes .kind-in) in
+      let r : 0 < g .rows = omega (arith, of-line .1) in
+      let c : 0 < g .columns = omega (arith, sized _ _ _ (passes .size) .columns-low) in
+      straight-is (g .kind) (g .columns) (g .rows) 0 c r (λ e. omega arith) ∙ sym (run-is g 0 (passes .size) r)
 
   -- and the run of its moving points has the centre
   pub shaped : Shaped (shapeOf g c w a)

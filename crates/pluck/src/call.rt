@@ -14,20 +14,17 @@ use crate::shape::fill;
 use crate::table::TABLE;
 use checks::pluck_refusal;
 use instruments::is_nothing;
-use instruments::wrong_length;
-use runs::movable_run;
+use kinds::straight_run;
 use scheme::Grid;
 use scheme::Refusal;
+use sizes::points_of;
 
 // 6, of two levels of so many points.
 fn wrong_levels(g: Grid, older: usize, newer: usize) -> bool
     ensures { λ r. ⌜ r ≡ (notLong g older || notLong g newer) ⌝ }
 {
-    if wrong_length(g, older) {
-        true
-    } else {
-        wrong_length(g, newer)
-    }
+    let points = points_of(g);
+    (older != points) | (newer != points)
 }
 
 // What refuses a pluck of two levels of so many points.
@@ -71,7 +68,7 @@ fn carry_out(
     ensures { λ _. ⌜ (now (older .exit) ≡ pluckLevel (now (table .entry)) g centre «half_width» height)
         × (now (newer .exit) ≡ pluckLevel (now (table .entry)) g centre «half_width» height) ⌝ }
 {
-    let run = movable_run(g, 0);
+    let run = straight_run(g.kind, g.columns, g.rows, 0);
     let shape = Shape {
         run,
         centre,

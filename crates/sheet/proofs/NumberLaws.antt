@@ -1,13 +1,14 @@
 -- The program's literals, and its tests of a float, as the definitions have them.
-use mathlib.Core.Path.{_≡_, refl, ap, _∙_}
+use mathlib.Core.Path.{_≡_, refl, sym, ap, _∙_}
 use mathlib.Core.Bool.{Bool, true, false, not, _&&_, and-false}
-use Prim.Native.Nat.{ℕ, zero, suc, _+_, _*_, _^_, _<_}
-use native.Mathlib.Nat.{mul-pos, zero-lt-suc}
+use Prim.Native.Nat.{ℕ, zero, suc, _+_, _*_, _^_, _%_, _-_, _≤_, _<_, zero-le}
+use native.Mathlib.Nat.{mul-pos, zero-mul, zero-lt-suc, le-of-suc-le-suc, mul-assoc, mul-le-mul, mul-le-mul-right, lt-of-mul-lt-mul-right}
 use native.Mathlib.Omega.{arith}
-use borrow.Author.Tests.{lt-ltb, le-ltb, lt-leb}
-use lib.Dec.{leb, eqb·suc-zero}
-use lib.IntN.{ℤ}
-use lib.Ieee.{Float, nan, inf, fin, up, down, binary64, lt, mul, div, round, ofBits}
+use borrow.Author.Tests.{lt-ltb, le-ltb, lt-leb, eq-eqb, ne-eqb, leb-true, leb-false}
+use lib.Dec.{T, leb, ltb, eqb, ltb→lt, eqb·suc-zero}
+use lib.Pow.{pow-add, pow-mono, pow-pos}
+use lib.IntN.{ℤ, pos, negsuc}
+use lib.Ieee.{Float, nan, inf, fin, up, down, binary64, lt, le, eq, fits, mul, div, round, ofBits}
 use lib.Ieee.Fits.{up-pos}
 use Rattle.scheme.specs.Instruments.{kindOf, within}
 use Rattle.sizes.proofs.KindLaws.{by-number}
@@ -42,33 +43,76 @@ hertz-is g h rate f = ap (λ z. hertzSquared z g rate f) two-is
 pub seconds-is : (rate t : Float) → div binary64 (div binary64 decay t) rate ≡ lossPerStep rate (Seconds t)
 seconds-is rate t = ap (λ z. div binary64 (div binary64 z t) rate) decay-is
 
--- ---- the tests. 0.0, and 1.0 / 0.0
+-- ---- the tests. 0.0, and the largest finite number
 abbrev pub zeroFloat : Float
 zeroFloat = ofBits binary64 0
 
-abbrev pub infinity : Float
-infinity = div binary64 (ofBits binary64 0x3ff0_0000_0000_0000) zeroFloat
+abbrev pub largest : Float
+largest = ofBits binary64 0x7fef_ffff_ffff_ffff
 
 size-pos : (m : ℕ) (e : ℤ) → 0 < suc m * up e
 size-pos m e = mul-pos (zero-lt-suc m) (up-pos e)
 
-pub non-negative-is : (x : Float) → (not (lt x zeroFloat) && lt x infinity) ≡ nonNegative x
-unfolding lt div ofBits nonNegative
-non-negative-is nan = refl
-non-negative-is (inf true) = refl
-non-negative-is (inf false) = refl
-non-negative-is (fin false m e) = simp (le-ltb (m * up e * 1) (0 * down e) (omega arith))
-non-negative-is (fin true zero e) = simp (le-ltb 0 (0 * up e * 1 + 0 * down e) (omega arith))
-non-negative-is (fin true (suc m) e) = let p = size-pos m e in simp (lt-ltb 0 (suc m * up e * 1 + 0 * down e) (omega arith), eqb·suc-zero m)
+-- m × 2ᵏ, below (p + 1) × 2ᵇ and with m at most p, is at most p × 2ᵇ
+at-most : (p b m k : ℕ) → m ≤ p → m * 2 ^ k < suc p * 2 ^ b → m * 2 ^ k ≤ p * 2 ^ b
+at-most p b m k h l = go (leb k b) (leb-true k b) (leb-false k b)
+  where
+    split : b < k → m * 2 ^ k ≡ m * 2 ^ (k - b) * 2 ^ b
+    split h =
+        let j : k ≡ k - b + b = omega arith in
+        ap (λ (x : ℕ). m * 2 ^ x) j ∙ ap (λ (x : ℕ). m * x) (pow-add 2 (k - b) b) ∙ sym (mul-assoc m (2 ^ (k - b)) (2 ^ b))
 
-pub positive-is : (x : Float) → (lt zeroFloat x && lt x infinity) ≡ positive x
-unfolding lt div ofBits positive
-positive-is nan = refl
-positive-is (inf true) = refl
-positive-is (inf false) = refl
-positive-is (fin true m e) = refl
-positive-is (fin false zero e) = simp (le-ltb (0 * down e) (0 * up e * 1) (omega arith))
-positive-is (fin false (suc m) e) = let p = size-pos m e in simp (lt-ltb (0 * down e) (suc m * up e * 1) (omega arith), eqb·suc-zero m)
+    go : (t : Bool) → (t ≡ true → k ≤ b) → (t ≡ false → b < k) → m * 2 ^ k ≤ p * 2 ^ b
+    go true low high = mul-le-mul h (pow-mono (low refl))
+    go false low high =
+        let e = split (high refl) in
+        rw e (mul-le-mul-right (2 ^ b) (le-of-suc-le-suc (lt-of-mul-lt-mul-right (2 ^ b) (rw e at l))))
+
+of-size : (p b m : ℕ) (e : ℤ) → m ≤ p → m * up e < suc p * 2 ^ b * down e → m * up e * 1 ≤ p * 2 ^ b * down e
+of-size p b m (pos k) h l = mul-le-mul-right 1 (at-most p b m k h (omega arith))
+of-size p b m (negsuc k) h l = mul-le-mul (mul-le-mul h (pow-pos b)) (pow-pos (suc k))
+
+-- no float is above the largest, (2⁵³ − 1) × 2⁹⁷¹
+not-above : (m : ℕ) (e : ℤ) → T (fits binary64 (fin false m e)) → lt largest (fin false m e) ≡ false
+unfolding lt ofBits fits
+not-above zero e h = le-ltb ((2 ^ 53 - 1) * 2 ^ 971 * down e) (0 * up e * 1) (rw zero-mul zero-le)
+not-above (suc m) e h =
+    let p = parts (eqb (suc m % 2) 1) (ltb (suc m) (2 ^ 53)) (leb (down e) (2 ^ 1074)) (ltb (suc m * up e) (2 ^ 1024 * down e)) h in
+    let low = ltb→lt (suc m) (2 ^ 53) (p .0) in
+    let size = ltb→lt (suc m * up e) (2 ^ 1024 * down e) (p .1) in
+    le-ltb ((2 ^ 53 - 1) * 2 ^ 971 * down e) (suc m * up e * 1) (of-size (2 ^ 53 - 1) 971 (suc m) e (le-of-suc-le-suc low) size)
+  where
+    parts : (a b c d : Bool) → T (a && b && c && d) → T b × T d
+    parts true true true true t = (tt, tt)
+    parts true true true false t = absurd t
+    parts true true false d t = absurd t
+    parts true false c d t = absurd t
+    parts false b c d t = absurd t
+
+pub non-negative-is : (x : Float) → T (fits binary64 x) → (le zeroFloat x && not (lt largest x)) ≡ nonNegative x
+unfolding lt eq le ofBits nonNegative
+non-negative-is nan h = refl
+non-negative-is (inf true) h = refl
+non-negative-is (inf false) h = refl
+non-negative-is (fin false zero e) h =
+    simp (le-ltb (0 * down e) (0 * up e * 1) (omega arith), eq-eqb (0 * down e) (0 * up e * 1) (omega arith), not-above zero e h)
+non-negative-is (fin false (suc m) e) h =
+    let p = size-pos m e in simp (lt-ltb (0 * down e) (suc m * up e * 1) (omega arith), not-above (suc m) e h)
+non-negative-is (fin true zero e) h = simp (eq-eqb (0 * down e) (0 * up e * 1) (omega arith), eq-eqb (0 * down e) 0 (omega arith))
+non-negative-is (fin true (suc m) e) h =
+    let p = size-pos m e in
+    let n : 0 * down e ≡ suc m * up e * 1 → ⊥ = λ q. omega arith in
+    simp (ne-eqb (0 * down e) (suc m * up e * 1) n, eqb·suc-zero m)
+
+pub positive-is : (x : Float) → T (fits binary64 x) → (lt zeroFloat x && not (lt largest x)) ≡ positive x
+unfolding lt ofBits positive
+positive-is nan h = refl
+positive-is (inf true) h = refl
+positive-is (inf false) h = refl
+positive-is (fin true m e) h = refl
+positive-is (fin false zero e) h = simp (le-ltb (0 * down e) (0 * up e * 1) (omega arith))
+positive-is (fin false (suc m) e) h =
+    let p = size-pos m e in simp (lt-ltb (0 * down e) (suc m * up e * 1) (omega arith), not-above (suc m) e h, eqb·suc-zero m)
 
 -- ---- the kinds that take a pitch
 

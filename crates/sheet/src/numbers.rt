@@ -1,4 +1,4 @@
-// The numbers that a sheet may have. 1.0 / 0.0 is the infinity.
+// The numbers that a sheet may have.
 ghost use mathlib.Core.Path.{_≡_};
 ghost use Rattle.scheme.specs.Instruments.{kindOf};
 ghost use Rattle.sheet.specs.Numbers.{nonNegative, positive, pitched, speedAllowed, lossAllowed, numbersAllowed};
@@ -6,18 +6,21 @@ use crate::Loss;
 use crate::Sheet;
 use crate::Speed;
 
+// The largest finite number. A test against it is faster than one against the infinity.
+const LARGEST: f64 = 1.7976931348623157e308;
+
 // Whether x is finite and not negative. Minus zero counts as zero.
 fn is_non_negative(x: f64) -> bool
     ensures { λ r. ⌜ r ≡ nonNegative x ⌝ }
 {
-    !(x < 0.0) & (x < 1.0 / 0.0)
+    (0.0 <= x) & !(LARGEST < x)
 }
 
 // Whether x is finite and above zero.
 fn is_positive(x: f64) -> bool
     ensures { λ r. ⌜ r ≡ positive x ⌝ }
 {
-    (0.0 < x) & (x < 1.0 / 0.0)
+    (0.0 < x) & !(LARGEST < x)
 }
 
 // Whether a kind takes a pitch in hertz.

@@ -13,13 +13,14 @@ use Rattle.scheme.specs.Lists.{tabulate}
 use Rattle.scheme.specs.Pluck.{pluckLevel}
 use Rattle.scheme.proofs.Laws.Lists.{length-tabulate}
 use Rattle.kinds.specs.declared.runs.Run.{Run}
+use Rattle.kinds.specs.Runs.{runOf}
 use Rattle.pluck.specs.declared.shape.Shape.{Shape}
 use Rattle.pluck.specs.Shapes.{Shaped, shapeAt}
-use Rattle.pluck.proofs.CallLaws.{shapeOf, shaped, run-in, as-long, level-is}
+use Rattle.pluck.proofs.CallLaws.{shapeOf, shaped, line-run, run-in, as-long, level-is}
 use Rattle.pluck.proofs.call.carry_out.Statement.{statement}
 use Rattle.pluck.proofs.call.carry_out.Tie as tie
 
-module _ (c : tie.After-movable-run) where
+module _ (c : tie.After-straight-run) where
   abbrev s : tie.Start
   s = c .before .before
 
@@ -27,16 +28,19 @@ module _ (c : tie.After-movable-run) where
   height-is : toZ w64 (ofZ w64 (s .args .height)) ≡ s .args .height
   height-is = back (s .args .height) (s .fits .height .sfits)
 
+  run-at : c .straight-run .result ≡ runOf (s .args .g) 0
+  run-at = c .straight-run .ensures ∙ line-run _ _ _ _ _ _ (s .pre .1)
+
   -- the shape as the code makes it
   abbrev made : Run → ℤ → Shape
   made r z = record { run = r; centre = s .args .centre; width = s .args .half-width; height = z }
 
-  made-is : made (c .movable-run .result) (toZ w64 (ofZ w64 (s .args .height)))
+  made-is : made (c .straight-run .result) (toZ w64 (ofZ w64 (s .args .height)))
       ≡ shapeOf (s .args .g) (s .args .centre) (s .args .half-width) (s .args .height)
-  made-is = ap₂ made (c .movable-run .ensures) height-is
+  made-is = ap₂ made run-at height-is
 
 module _ (c : tie.After-fill) where
-  abbrev m : tie.After-movable-run
+  abbrev m : tie.After-straight-run
   m = c .before .before
 
   abbrev older : List ℤ
@@ -52,8 +56,8 @@ module _ (c : tie.After-fill) where
   older-is : filled ≡ pluckLevel (s m .args .table .now) (s m .args .g) (s m .args .centre) (s m .args .half-width) (s m .args .height)
   older-is = filled-is ∙ level-is _ _ _ _ _ _ (s m .pre .1) _
 
-movable-run-requires : tie.Need-movable-run-requires
-movable-run-requires c κs = search needs
+straight-run-requires : tie.Need-straight-run-requires
+straight-run-requires c κs = search needs
 
 fill-requires : tie.Need-fill-requires
 fill-requires c κs =
@@ -61,7 +65,7 @@ fill-requires c κs =
     let none = s (c .before) .pre .1 in (
       subst (λ (x : Shape). Shaped x) (sym (made-is (c .before))) (shaped _ _ _ _ _ _ none),
       s (c .before) .pre .0,
-      subst (λ (r : Run). r .to ≤ length (a .older .now)) (sym (c .before .movable-run .ensures)) (run-in _ _ _ _ _ _ none),
+      subst (λ (r : Run). r .to ≤ length (a .older .now)) (sym (run-at (c .before))) (run-in _ _ _ _ _ _ none),
     )
 
 copy-requires : tie.Need-copy-requires
@@ -86,4 +90,4 @@ returns c =
 pub carry-out-spec : {M : Type 1} → statement M
 carry-out-spec =
     tie.close
-    (tie.spec movable-run-requires fill-requires copy-requires same-length same-length-2 returns)
+    (tie.spec straight-run-requires fill-requires copy-requires same-length same-length-2 returns)
