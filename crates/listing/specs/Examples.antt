@@ -18,7 +18,6 @@ infix 5 _ending_prints_
 abbrev _ending_prints_ : List ℤ → ℕ → String → Example
 l ending r prints o = record { samples = l; refusal = r; output = o }
 
-
 abbrev minus : ℕ → ℤ
 minus n = negℤ (pos n)
 

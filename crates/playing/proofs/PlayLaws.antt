@@ -1,6 +1,7 @@
 -- What is played: sizes, unknown kinds, and the block at rest.
-use mathlib.Core.Path.{_≡_, refl, sym, ap, _∙_}
-use mathlib.Core.Bool.{Bool, true, false, cond}
+use mathlib.Core.Path.{_≡_, refl, sym, ap, _∙_, subst⁻¹}
+use mathlib.Core.Logic.{⊎-elim}
+use mathlib.Core.Bool.{Bool, true, false}
 use mathlib.Core.List.{List, _∷_}
 use Prim.Native.Nat.{ℕ, zero, suc, _≤_}
 use native.Mathlib.Omega.{arith}
@@ -16,7 +17,8 @@ use Rattle.scheme.specs.Instruments.{within, points}
 use Rattle.scheme.specs.Refusals.{lastKind, wrongLength, blockRefusal}
 use Rattle.scheme.specs.Calls.{AfterBlock, accepted, block, blockRefused}
 use Rattle.scheme.proofs.Laws.Bools.{and-yes}
-use Rattle.scheme.proofs.Laws.Calls.{block-refused}
+use Rattle.scheme.proofs.Laws.Refusals.{accepted-is}
+use Rattle.scheme.proofs.Laws.Calls.{block-done, block-refused, stands-behind}
 use Rattle.line.specs.declared.types.Numbers.{Numbers}
 use Rattle.setup.specs.declared.Setup.{Setup}
 use Rattle.setup.specs.Numbers.{gridOf, instrumentOf, hitOf, isTooLarge, levelLength, setupOf}
@@ -74,3 +76,33 @@ module _ (n : Numbers) (samples : List ℤ) where
   pub plays : (s : Setup) → s ≡ setupOf n → isTooLarge (gridOf n) ≡ false → heardOf (code s samples (n .pick)) ≡ played n samples
   unfolding played
   plays s is e = ap (λ (s : Setup). heardOf (code s samples (n .pick))) is ∙ same-heard e ∙ simp e
+
+-- ---- no more steps than places
+
+module _ (n : Numbers) (samples : List ℤ) where
+  abbrev level : List ℤ
+  level = replicate (points (gridOf n)) (pos 0)
+
+  abbrev refusal : Refusal
+  refusal = blockRefusal (instrumentOf n) level level (wrongLength (gridOf n) (length level)) (n .pick) (hitOf n)
+
+  block-steps : fromRest n samples .answer .steps ≤ length samples
+  block-steps = go (accepted refusal) refl
+    where
+      go : (t : Bool) → accepted refusal ≡ t → fromRest n samples .answer .steps ≤ length samples
+      go true e =
+          let b = stands-behind (instrumentOf n) (n .pick) (hitOf n) level level samples in
+          subst⁻¹ (λ (a : AfterBlock). a .answer .steps ≤ length samples)
+          (block-done (instrumentOf n) level level level samples _ _ (accepted-is _ e))
+          (⊎-elim (λ u. omega (arith, u .1)) (λ u. omega (arith, u .1)) (b .ends))
+      go false e =
+          subst⁻¹ (λ (a : AfterBlock). a .answer .steps ≤ length samples) (block-refused (instrumentOf n) level level level samples _ _ e)
+          (omega arith)
+
+  pub played-steps : played n samples .answer .steps ≤ length samples
+  unfolding played
+  played-steps = go (isTooLarge (gridOf n)) refl
+    where
+      go : (t : Bool) → isTooLarge (gridOf n) ≡ t → played n samples .answer .steps ≤ length samples
+      go true e = simp e (omega arith)
+      go false e = simp e block-steps

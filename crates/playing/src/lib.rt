@@ -20,7 +20,13 @@ fn at_rest() -> [i64; 1024]
 }
 
 // The block over levels at rest of this length.
-fn play_at_rest(i: Instrument, length: usize, samples: &mut [i16], pick: usize, hit: Hit) -> BlockAnswer
+fn play_at_rest(
+    i: Instrument,
+    length: usize,
+    samples: &mut [i16],
+    pick: usize,
+    hit: Hit,
+) -> BlockAnswer
     requires { ⌜ length ≤ 1024 ⌝ }
     ensures { λ r. ⌜ heard r (now (samples .exit)) ≡ heardOf (blockAtRest i length (now (samples .entry)) pick hit) ⌝ }
 {

@@ -8,8 +8,8 @@ use Rattle.scheme.specs.Refusals.{fixedNotZero, blockRefusal}
 use Rattle.scheme.specs.Calls.{play, block}
 use Rattle.line.specs.Lists.{all, before, splitOn, text}
 use Rattle.line.specs.Requests.{unsignedTo, isSigned, signedValue, wellFormed, lineRequest, requestOf}
-use Rattle.shell.specs.Play.{played}
-use Rattle.shell.specs.Text.{digitsIn, decimal, signedDecimal, pairLine, stepLines, doneLine}
+use Rattle.playing.specs.Play.{played}
+use Rattle.listing.specs.Text.{digitsIn, decimal, signedDecimal, pairLine, stepLines, doneLine}
 use Rattle.shell.specs.Answer.{runText, answer}
 use Rattle.shell.specs.Examples.{table, ExamplesHold}
 

@@ -6,12 +6,12 @@ use mathlib.Core.List.{List}
 use lib.IntN.{ℤ, pos}
 use lib.ListN.{length, take, length-replicate}
 use lib.Seq.{length-take-le}
-use Rattle.shell.specs.Play.{played}
+use Rattle.playing.specs.Play.{played}
+use Rattle.playing.proofs.PlayLaws.{take-replicate}
 use Rattle.shell.specs.Answer.{playedText, runText}
-use Rattle.shell.proofs.PlayLaws.{take-replicate}
-use Rattle.shell.proofs.TextLaws.{put-same}
-use Rattle.shell.proofs.output.put_run.Statement.{statement}
-use Rattle.shell.proofs.output.put_run.Tie as tie
+use Rattle.shell.proofs.AnswerLaws.{written-same}
+use Rattle.shell.proofs.put_run.Statement.{statement}
+use Rattle.shell.proofs.put_run.Tie as tie
 
 silence-length : (c : tie.After-silence) → length (c .silence .result) ≡ 8192
 silence-length c = ap length (c .silence .ensures) ∙ length-replicate 8192 (pos 0)
@@ -40,10 +40,8 @@ returns c =
     let p = c .before .before .before in
     let s = p .before .before .before in
     let n = s .before .before .args .n in
-    let silent = ap (take (n .steps)) (s .silence .ensures) ∙ take-replicate (n .steps) 8192 (pos 0) (omega arith) in (
-      p .put-played .ensures .0,
-      put-same (ap (λ (l : List ℤ). playedText (played n l)) silent) (p .put-played .ensures .1),
-    )
+    let silent = ap (take (n .steps)) (s .silence .ensures) ∙ take-replicate (n .steps) 8192 (pos 0) (omega arith) in
+    written-same (ap (λ (l : List ℤ). playedText (played n l)) silent) (p .put-played .ensures)
 
 pub put-run-spec : {M : Type 1} → statement M
 put-run-spec =
