@@ -11,10 +11,11 @@ use lib.Dec.{eqb}
 use lib.ListN.{length, take, drop, set, getD, length-drop}
 use lib.Seq.{drop-cons, drop-drop, getD-set-same, getD-set-other}
 use Rattle.scheme.proofs.Laws.Bools.{and-yes, and-no}
-use Rattle.line.specs.Lists.{all, before, onFirst, splitOn}
-use Rattle.line.specs.Requests.{digitsValue, isUnsigned, isSigned, space, fields, field, wellFormed}
+use Rattle.decimals.specs.Decimals.{all, digitsValue, isUnsigned, isSigned}
+use Rattle.line.specs.Lists.{before, onFirst, splitOn}
+use Rattle.line.specs.Requests.{space, fields, field, wellFormed}
 use Rattle.line.specs.Reading.{Read}
-use Rattle.line.proofs.DecimalLaws.{and-no-second}
+use Rattle.decimals.proofs.DecimalLaws.{and-no-second}
 use Rattle.line.proofs.ListLaws.{before-short, before-take, split-last, split-more}
 
 -- ---- well formed or not

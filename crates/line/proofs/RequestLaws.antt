@@ -9,17 +9,18 @@ use lib.Dec.{leb, lit<}
 use lib.IntN.{ℤ}
 use lib.ListN.{length, take, drop, getD}
 use lib.Seq.{take-all, length-take-le}
+use Rattle.decimals.specs.Decimals.{isUnsigned, isSigned, signedValue, digitsValue, signedRead}
 use Rattle.line.specs.declared.types.Numbers.{Numbers}
 use Rattle.line.specs.declared.types.Request.{Request}
 use Rattle.line.specs.declared.types.Request.the-variants.{Input, Run}
-use Rattle.line.specs.declared.decimals.Signed.the-variants.{Is, Wrong}
+use Rattle.decimals.specs.declared.Signed.the-variants.{Is, Wrong}
 use Rattle.line.specs.Lists.{before}
-use Rattle.line.specs.Requests.{isUnsigned, isSigned, signedValue, lineFeed, space, fields, field, wellFormed, numbers}
-use Rattle.line.specs.Requests.{digitsValue, lineRequest, requestOf}
-use Rattle.line.specs.Reading.{signedRead, Read}
+use Rattle.line.specs.Requests.{lineFeed, space, fields, field, wellFormed, numbers}
+use Rattle.line.specs.Requests.{lineRequest, requestOf}
+use Rattle.line.specs.Reading.{Read}
 use Rattle.line.specs.Claims.{FirstBytesTell}
 use Rattle.line.proofs.ListLaws.{before-take, before-first}
-use Rattle.line.proofs.SignedLaws.{signed-wrong, signed-right}
+use Rattle.decimals.proofs.SignedLaws.{signed-wrong, signed-right}
 use Rattle.line.proofs.FieldLaws.{all-take, not-signed, not-steps, all-right, last-length, last-is}
 
 -- ---- a line

@@ -1,24 +1,13 @@
 -- What the functions that read a line promise each other. Vocabulary of private functions.
 use mathlib.Core.Path.{_≡_}
-use mathlib.Core.Bool.{true, false, cond}
+use mathlib.Core.Bool.{true, false}
 use mathlib.Core.List.{List}
 use Prim.Native.Nat.{ℕ, _≤_, _<_}
 use lib.ListN.{length, drop, getD}
-use Rattle.line.specs.declared.decimals.Unsigned.{Unsigned}
-use Rattle.line.specs.declared.decimals.Unsigned.the-variants as U
-use Rattle.line.specs.declared.decimals.Signed.{Signed}
-use Rattle.line.specs.declared.decimals.Signed.the-variants as S
 use Rattle.line.specs.declared.fields.Rest.{Rest}
 use Rattle.line.specs.declared.fields.Rest.the-variants.{At, Wrong}
-use Rattle.line.specs.Requests.{digitsValue, unsignedTo, isUnsigned, isSigned, signedValue, fields, field, wellFormed}
-
--- a field as a number of at most `most`
-unfoldable pub unsignedRead : ℕ → List ℕ → Unsigned
-unsignedRead most f = cond (unsignedTo most f) (U.Is (digitsValue f)) U.Wrong
-
--- a field as the force
-unfoldable pub signedRead : List ℕ → Signed
-signedRead f = cond (isSigned f) (S.Is (signedValue f)) S.Wrong
+use Rattle.decimals.specs.Decimals.{digitsValue, isUnsigned}
+use Rattle.line.specs.Requests.{fields, field, wellFormed}
 
 -- the first i fields are numbers, with these values, and the next begins at `at`
 pub record Read (line : List ℕ) (i : ℕ) (values : List ℕ) (at : ℕ) : Type 0 where

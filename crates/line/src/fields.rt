@@ -3,9 +3,8 @@ ghost use mathlib.Core.Path.{_≡_};
 ghost use lib.ListN.{length};
 ghost use Rattle.line.specs.Lists.{before};
 ghost use Rattle.line.specs.Reading.{NineRead};
-use crate::decimals::MOST;
-use crate::decimals::Unsigned;
-use crate::decimals::read_unsigned;
+use decimals::Unsigned;
+use decimals::read_unsigned;
 
 pub(crate) const LINE_FEED: u8 = 10;
 
@@ -43,7 +42,7 @@ pub(crate) fn read_nine(line: &[u8], values: &mut [u64; 9]) -> Rest
         if end == line.len() {
             return Rest::Wrong;
         }
-        let Unsigned::Is(n) = read_unsigned(&line[at..end], MOST) else {
+        let Unsigned::Is(n) = read_unsigned(&line[at..end]) else {
             return Rest::Wrong;
         };
         values[i] = n;

@@ -12,11 +12,11 @@ use Rattle.scheme.specs.declared.Refusal.the-variants.{Nothing, UnknownKind, Wr
 use Rattle.scheme.specs.declared.Refusal.the-variants.{NotMoving, TooStrong, PickUp, HalfWidth, PointBeyond, FixedNotZero, NextBeyond}
 use Rattle.scheme.specs.Refusals.{number}
 use Rattle.scheme.proofs.Laws.Bools.{and-both}
+use Rattle.decimals.specs.Decimals.{all, digitsValue, isUnsigned, isSigned}
 use Rattle.line.specs.declared.types.Numbers.{Numbers}
 use Rattle.line.specs.declared.types.Request.{Request}
 use Rattle.line.specs.declared.types.Request.the-variants.{Input, Run}
-use Rattle.line.specs.Lists.{all}
-use Rattle.line.specs.Requests.{digitsValue, isUnsigned, isSigned, field, fields, wellFormed, lineRequest, firstLine, requestOf}
+use Rattle.line.specs.Requests.{field, fields, wellFormed, lineRequest, firstLine, requestOf}
 use Rattle.line.proofs.RequestLaws as line
 use Rattle.shell.specs.Answer.{textFor, answer}
 use Rattle.shell.specs.Written.{Written}

@@ -8,11 +8,12 @@ use lib.IntN.{ℤ}
 use lib.ListN.{length, drop}
 use mir.Syntax.{w64}
 use mir.ValLaws.{toZ-ofZ}
+use Rattle.decimals.specs.Decimals.{signedRead}
 use Rattle.line.specs.declared.types.Request.the-variants.{Run}
 use Rattle.line.specs.Lists.{before}
 use Rattle.line.specs.Requests.{space}
-use Rattle.line.specs.Reading.{signedRead, Read, NineRead}
-use Rattle.line.proofs.ListLaws.{tail-is}
+use Rattle.line.specs.Reading.{Read, NineRead}
+use Rattle.decimals.proofs.DecimalLaws.{tail-is}
 use Rattle.line.proofs.FieldLaws.{too-many}
 use Rattle.line.proofs.RequestLaws.{turned-down, ten, force-turned-down, steps-turned-down, taken}
 use Rattle.line.proofs.line_request.Statement.{statement}

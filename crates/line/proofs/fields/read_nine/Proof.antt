@@ -8,8 +8,8 @@ use lib.ListN.{length, drop, length-set}
 use Rattle.line.specs.Lists.{before}
 use Rattle.line.specs.Requests.{space}
 use Rattle.line.specs.Reading.{Read}
-use Rattle.line.proofs.ListLaws.{tail-is}
-use Rattle.line.proofs.DecimalLaws.{wrong-read, right-read}
+use Rattle.decimals.proofs.DecimalLaws.{tail-is}
+use Rattle.decimals.proofs.DecimalLaws.{wrong-read, right-read}
 use Rattle.line.proofs.FieldLaws.{next-inside, too-few, wrong-field, read-none, read-more}
 use Rattle.line.proofs.fields.read_nine.Statement.{statement}
 use Rattle.line.proofs.fields.read_nine.Tie as tie

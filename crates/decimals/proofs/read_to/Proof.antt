@@ -1,4 +1,4 @@
--- `decimals::read_unsigned` meets its contract: digit by digit, and the first byte that is none, or leads past the most, decides.
+-- `read_to` meets its contract: digit by digit, and the first byte that is none, or leads past the most, decides.
 use mathlib.Core.Path.{_≡_, sym, ap, _∙_, subst}
 use mathlib.Core.Bool.{true}
 use Prim.Native.Nat.{ℕ, _+_, _-_, _*_, _^_, _≤_, _<_}
@@ -6,11 +6,11 @@ use native.Mathlib.Omega.{arith}
 use borrow.Author.Needs.{needs}
 use borrow.Author.Tests.{not-true, not-false}
 use lib.ListN.{length, getD}
-use Rattle.line.specs.Requests.{isDigit}
-use Rattle.line.proofs.DecimalLaws.{next, digit-range, Summed, summed-none, summed-more, summed-all}
-use Rattle.line.proofs.DecimalLaws.{no-digit, too-large, empty-wrong}
-use Rattle.line.proofs.decimals.read_unsigned.Statement.{statement}
-use Rattle.line.proofs.decimals.read_unsigned.Tie as tie
+use Rattle.decimals.specs.Decimals.{isDigit}
+use Rattle.decimals.proofs.DecimalLaws.{next, digit-range, Summed, summed-none, summed-more, summed-all}
+use Rattle.decimals.proofs.DecimalLaws.{no-digit, too-large, empty-wrong}
+use Rattle.decimals.proofs.read_to.Statement.{statement}
+use Rattle.decimals.proofs.read_to.Tie as tie
 
 abbrev Inv-loop : tie.InvT-loop
 Inv-loop digits most n₀ i₀ n i = Summed most digits n i
@@ -108,8 +108,8 @@ loop-again c =
 returns-4 : tie.Need-returns-4 Inv-loop μ-loop
 returns-4 c = sym (summed-all _ _ (omega (arith, c .before .before .if1 .left)) (omega arith) (c .before .loop .inv))
 
-pub read-unsigned-spec : {M : Type 1} → statement M
-read-unsigned-spec =
+pub read-to-spec : {M : Type 1} → statement M
+read-to-spec =
     tie.close
     (tie.spec
     Inv-loop

@@ -7,11 +7,10 @@ use native.Mathlib.Omega.{arith}
 use borrow.Author.Tests.{eq-eqb, ne-eqb}
 use lib.IntN.{ℤ, pos, negℤ}
 use lib.ListN.{length, drop, getD}
-use Rattle.line.specs.declared.decimals.Unsigned.the-variants as U
-use Rattle.line.specs.declared.decimals.Signed.the-variants as S
-use Rattle.line.specs.Requests.{digitsValue, unsignedTo, isUnsigned, isNegative, isSigned, signedValue, minus}
-use Rattle.line.specs.Reading.{unsignedRead, signedRead}
-use Rattle.line.proofs.DecimalLaws.{wrong-read, right-read}
+use Rattle.decimals.specs.declared.Unsigned.the-variants as U
+use Rattle.decimals.specs.declared.Signed.the-variants as S
+use Rattle.decimals.specs.Decimals.{digitsValue, unsignedTo, isUnsigned, isNegative, isSigned, signedValue, minus, unsignedRead, signedRead}
+use Rattle.decimals.proofs.DecimalLaws.{wrong-read, right-read}
 
 pub no-digits : (f : List ℕ) → length f ≡ 0 → signedRead f ≡ S.Wrong
 unfolding signedRead isSigned unsignedTo

@@ -1,4 +1,4 @@
--- `decimals::minus` meets its contract: −1 − (n − 1) is −n, and no step leaves 64 bits.
+-- `minus` meets its contract: −1 − (n − 1) is −n, and no step leaves 64 bits.
 use mathlib.Core.Path.{_≡_, refl, sym, ap, _∙_, subst}
 use Prim.Native.Nat.{ℕ, zero, suc, _+_, _-_, _^_, _≤_}
 use native.Mathlib.Omega.{arith}
@@ -7,8 +7,8 @@ use lib.IntN.{ℤ, pos, negsuc, negℤ, _-ℤ_}
 use mir.Syntax.{w64}
 use mir.Val.{SFits, toZ, ofZ}
 use mir.ValLaws.{toZ-pos, toZ-ofZ}
-use Rattle.line.proofs.decimals.minus.Statement.{statement}
-use Rattle.line.proofs.decimals.minus.Tie as tie
+use Rattle.decimals.proofs.minus.Statement.{statement}
+use Rattle.decimals.proofs.minus.Tie as tie
 
 less-one : (k : ℕ) → negsuc 0 -ℤ pos k ≡ negsuc k
 less-one zero = refl

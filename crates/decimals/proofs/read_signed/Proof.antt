@@ -1,4 +1,4 @@
--- `decimals::read_signed` meets its contract: with a minus before them the digits may go to 2⁶³, without one to 2⁶³ − 1.
+-- `read_signed` meets its contract: with a minus before them the digits may go to 2⁶³, without one to 2⁶³ − 1.
 use mathlib.Core.Path.{_≡_, sym, ap, _∙_}
 use mathlib.Core.List.{List}
 use Prim.Native.Nat.{ℕ, _^_}
@@ -7,21 +7,20 @@ use borrow.Author.Needs.{needs}
 use lib.ListN.{drop}
 use mir.Syntax.{w64}
 use mir.ValLaws.{toZ-ofZ}
-use Rattle.line.specs.declared.decimals.Signed.the-variants as S
-use Rattle.line.specs.Reading.{unsignedRead}
-use Rattle.line.proofs.ListLaws.{tail-is}
-use Rattle.line.proofs.DecimalLaws.{right-read, within-is}
-use Rattle.line.proofs.SignedLaws.{no-digits, minus-read, minus-wrong, plus-read, plus-wrong}
-use Rattle.line.proofs.decimals.read_signed.Statement.{statement}
-use Rattle.line.proofs.decimals.read_signed.Tie as tie
+use Rattle.decimals.specs.declared.Signed.the-variants as S
+use Rattle.decimals.specs.Decimals.{unsignedRead}
+use Rattle.decimals.proofs.DecimalLaws.{tail-is, right-read, within-is}
+use Rattle.decimals.proofs.SignedLaws.{no-digits, minus-read, minus-wrong, plus-read, plus-wrong}
+use Rattle.decimals.proofs.read_signed.Statement.{statement}
+use Rattle.decimals.proofs.read_signed.Tie as tie
 
 -- what the digits after a minus were read as
-module _ (c : tie.After-read-unsigned) where
+module _ (c : tie.After-read-to) where
   abbrev field : List ℕ
   field = let led = c .before .before in led .before .before .before .before .args .field .now
 
-  after-minus : c .read-unsigned .result ≡ unsignedRead (2 ^ 63) (drop 1 field)
-  after-minus = c .read-unsigned .ensures ∙ ap (unsignedRead (2 ^ 63)) (tail-is field 1)
+  after-minus : c .read-to .result ≡ unsignedRead (2 ^ 63) (drop 1 field)
+  after-minus = c .read-to .ensures ∙ ap (unsignedRead (2 ^ 63)) (tail-is field 1)
 
 returns : tie.Need-returns
 returns c = sym (no-digits _ (c .if1 .taken))
@@ -29,20 +28,20 @@ returns c = sym (no-digits _ (c .if1 .taken))
 shared-slice-read-if2 : tie.Need-shared-slice-read-if2
 shared-slice-read-if2 c = search needs
 
-sub-read-unsigned : tie.Need-sub-read-unsigned
-sub-read-unsigned c = search needs
+sub-read-to : tie.Need-sub-read-to
+sub-read-to c = search needs
 
-part-read-unsigned-start : tie.Need-part-read-unsigned-start
-part-read-unsigned-start c = search needs
+part-read-to-start : tie.Need-part-read-to-start
+part-read-to-start c = search needs
 
-part-read-unsigned-end : tie.Need-part-read-unsigned-end
-part-read-unsigned-end c = search needs
+part-read-to-end : tie.Need-part-read-to-end
+part-read-to-end c = search needs
 
-add-read-unsigned : tie.Need-add-read-unsigned
-add-read-unsigned c = search needs
+add-read-to : tie.Need-add-read-to
+add-read-to c = search needs
 
-read-unsigned-requires : tie.Need-read-unsigned-requires
-read-unsigned-requires c κs = search needs
+read-to-requires : tie.Need-read-to-requires
+read-to-requires c κs = search needs
 
 enum-known-n : tie.Need-enum-known-n
 enum-known-n c = search needs
@@ -68,8 +67,8 @@ returns-3 c =
     let d = c .before .before in
     sym (minus-wrong _ (d .before .before .if2 .taken) (sym (after-minus d) ∙ c .enum-told .given .1))
 
-read-unsigned-requires-2 : tie.Need-read-unsigned-requires-2
-read-unsigned-requires-2 c κs = search needs
+read-to-requires-2 : tie.Need-read-to-requires-2
+read-to-requires-2 c κs = search needs
 
 enum-known-n-2 : tie.Need-enum-known-n-2
 enum-known-n-2 c = search needs
@@ -77,7 +76,7 @@ enum-known-n-2 c = search needs
 plus-requires : tie.Need-plus-requires
 plus-requires c κs =
     let d = c .before .before .before in
-    let r = right-read _ _ (sym (d .read-unsigned2 .ensures) ∙ c .before .n2 .given .1) in
+    let r = right-read _ _ (sym (d .read-to2 .ensures) ∙ c .before .n2 .given .1) in
     omega (arith, r .1, within-is _ _ (r .0))
 
 enum-told-2 : tie.Need-enum-told-2
@@ -88,12 +87,12 @@ returns-4 c =
     let n = c .before .before in
     let d = n .before .before in
     ap S.Is (toZ-ofZ w64 _ (record { sfits = c .plus .ok }) ∙ c .plus .ensures)
-    ∙ sym (plus-read _ (d .before .if2 .left) (sym (d .read-unsigned2 .ensures) ∙ n .n2 .given .1))
+    ∙ sym (plus-read _ (d .before .if2 .left) (sym (d .read-to2 .ensures) ∙ n .n2 .given .1))
 
 returns-5 : tie.Need-returns-5
 returns-5 c =
     let d = c .before .before in
-    sym (plus-wrong _ (d .before .if2 .left) (sym (d .read-unsigned2 .ensures) ∙ c .enum-told2 .given .1))
+    sym (plus-wrong _ (d .before .if2 .left) (sym (d .read-to2 .ensures) ∙ c .enum-told2 .given .1))
 
 pub read-signed-spec : {M : Type 1} → statement M
 read-signed-spec =
@@ -101,17 +100,17 @@ read-signed-spec =
     (tie.spec
     returns
     shared-slice-read-if2
-    sub-read-unsigned
-    part-read-unsigned-start
-    part-read-unsigned-end
-    add-read-unsigned
-    read-unsigned-requires
+    sub-read-to
+    part-read-to-start
+    part-read-to-end
+    add-read-to
+    read-to-requires
     enum-known-n
     minus-requires
     enum-told
     returns-2
     returns-3
-    read-unsigned-requires-2
+    read-to-requires-2
     enum-known-n-2
     plus-requires
     enum-told-2

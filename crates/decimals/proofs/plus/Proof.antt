@@ -1,9 +1,9 @@
--- `decimals::plus` meets its contract: the number is in the lower half of 64 bits.
+-- `plus` meets its contract: the number is in the lower half of 64 bits.
 use borrow.Author.Needs.{needs}
 use mir.Syntax.{w64}
 use mir.ValLaws.{toZ-pos}
-use Rattle.line.proofs.decimals.plus.Statement.{statement}
-use Rattle.line.proofs.decimals.plus.Tie as tie
+use Rattle.decimals.proofs.plus.Statement.{statement}
+use Rattle.decimals.proofs.plus.Tie as tie
 
 cast-result : tie.Need-cast-result
 cast-result c = search needs

@@ -3,18 +3,20 @@ use mathlib.Core.Path.{_≡_, refl, ap, _∙_}
 use mathlib.Core.Bool.{Bool, true, false, _&&_, cond, and-false}
 use mathlib.Core.List.{List, [], _∷_, foldl}
 use Prim.Native.Nat.{ℕ, suc, _+_, _-_, _*_, _≤_, _<_}
-use native.Mathlib.Nat.{le-refl, le-trans}
+use native.Mathlib.Nat.{le-refl, le-trans, le-of-eq}
 use native.Mathlib.Numerals.{add-one}
 use native.Mathlib.Omega.{arith}
 use borrow.Author.Tests.{lt-ltb, le-ltb, le-leb, lt-leb, leb-true}
 use lib.Dec.{ltb, leb}
-use lib.ListN.{length, drop, getD, drop-of-length-le}
-use lib.Seq.{drop-cons}
+use lib.ListN.{length, take, drop, getD, length-drop, drop-of-length-le}
+use lib.Seq.{drop-cons, take-all}
 use Rattle.scheme.proofs.Laws.Bools.{and-yes, and-no, and-both}
-use Rattle.line.specs.declared.decimals.Unsigned.the-variants.{Is, Wrong}
-use Rattle.line.specs.Lists.{all}
-use Rattle.line.specs.Requests.{isDigit, digitsValue, unsignedTo}
-use Rattle.line.specs.Reading.{unsignedRead}
+use Rattle.decimals.specs.declared.Unsigned.the-variants.{Is, Wrong}
+use Rattle.decimals.specs.Decimals.{all, isDigit, digitsValue, unsignedTo, unsignedRead}
+
+-- a part of a list that goes to its end
+pub tail-is : {A : Type 0} (l : List A) (n : ℕ) → take (length l - n) (drop n l) ≡ drop n l
+tail-is l n = take-all (length l - n) (drop n l) (le-of-eq (length-drop n l))
 
 pub and-no-second : (a : Bool) {b : Bool} → b ≡ false → (a && b) ≡ false
 and-no-second a e = ap (λ (x : Bool). a && x) e ∙ and-false a

@@ -1,9 +1,9 @@
--- `decimals::is_digit` meets its contract, by its test.
+-- `is_digit` meets its contract, by its test.
 use mathlib.Core.Path.{sym}
 use borrow.Author.Tests.{le-leb, lt-leb}
 use Rattle.scheme.proofs.Laws.Bools.{and-yes, and-no}
-use Rattle.line.proofs.decimals.is_digit.Statement.{statement}
-use Rattle.line.proofs.decimals.is_digit.Tie as tie
+use Rattle.decimals.proofs.is_digit.Statement.{statement}
+use Rattle.decimals.proofs.is_digit.Tie as tie
 
 returns : tie.Need-returns
 returns c = sym (and-no _ (lt-leb 48 _ (c .if1 .taken)))
