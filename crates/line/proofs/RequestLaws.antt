@@ -17,7 +17,7 @@ use Rattle.decimals.specs.declared.Signed.the-variants.{Is, Wrong}
 use Rattle.line.specs.Lists.{before}
 use Rattle.line.specs.Requests.{lineFeed, space, fields, field, wellFormed, numbers}
 use Rattle.line.specs.Requests.{lineRequest, requestOf}
-use Rattle.line.specs.Reading.{Read}
+use Rattle.line.specs.Reading.{ten, Read}
 use Rattle.line.specs.Claims.{FirstBytesTell}
 use Rattle.line.proofs.ListLaws.{before-take, before-first}
 use Rattle.decimals.proofs.SignedLaws.{signed-wrong, signed-right}
@@ -28,22 +28,6 @@ use Rattle.line.proofs.FieldLaws.{all-take, not-signed, not-steps, all-
 pub turned-down : (line : List ℕ) → wellFormed (fields line) ≡ false → Input ≡ lineRequest line
 unfolding lineRequest
 turned-down line e = sym (ap (λ (t : Bool). cond t (Run (numbers (fields line))) Input) e)
-
--- the nine values, and the force
-abbrev pub ten : List ℕ → ℤ → Numbers
-ten values z =
-    record {
-      kind = getD values 0 0;
-      columns = getD values 1 0;
-      rows = getD values 2 0;
-      q = getD values 3 0;
-      m = getD values 4 0;
-      s = getD values 5 0;
-      pick = getD values 6 0;
-      steps = getD values 7 0;
-      point = getD values 8 0;
-      force = z;
-    }
 
 -- nine fields were read, and the tenth has n bytes and is the last
 module _ (line values : List ℕ) (at : ℕ) (r : Read line 9 values at)

@@ -3,7 +3,9 @@ use mathlib.Core.Path.{_≡_}
 use mathlib.Core.Bool.{true, false}
 use mathlib.Core.List.{List}
 use Prim.Native.Nat.{ℕ, _≤_, _<_}
+use lib.IntN.{ℤ}
 use lib.ListN.{length, drop, getD}
+use Rattle.line.specs.declared.types.Numbers.{Numbers}
 use Rattle.line.specs.declared.fields.Rest.{Rest}
 use Rattle.line.specs.declared.fields.Rest.the-variants.{At, Wrong}
 use Rattle.decimals.specs.Decimals.{digitsValue, isUnsigned}
@@ -20,3 +22,19 @@ pub record Read (line : List ℕ) (i : ℕ) (values : List ℕ) (at : ℕ) : Typ
 abbrev pub NineRead : List ℕ → List ℕ → Rest → Type 0
 NineRead line values (At at) = Read line 9 values at
 NineRead line values Wrong = wellFormed (fields line) ≡ false
+
+-- the nine values, and the force
+abbrev pub ten : List ℕ → ℤ → Numbers
+ten values z =
+    record {
+      kind = getD values 0 0;
+      columns = getD values 1 0;
+      rows = getD values 2 0;
+      q = getD values 3 0;
+      m = getD values 4 0;
+      s = getD values 5 0;
+      pick = getD values 6 0;
+      steps = getD values 7 0;
+      point = getD values 8 0;
+      force = z;
+    }

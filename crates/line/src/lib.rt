@@ -4,6 +4,7 @@ mod types;
 
 ghost use mathlib.Core.Path.{_≡_};
 ghost use Rattle.line.specs.Requests.{lineRequest, requestOf};
+ghost use Rattle.line.specs.Reading.{ten};
 use crate::fields::LINE_FEED;
 use crate::fields::Rest;
 use crate::fields::SPACE;
@@ -13,6 +14,24 @@ use decimals::Signed;
 use decimals::read_signed;
 pub use types::Numbers;
 pub use types::Request;
+
+// Nine values and the force, in the order of the line.
+fn numbers_of(values: &[u64; 9], force: i64) -> Numbers
+    ensures { λ r. ⌜ r ≡ ten (now (values .entry)) force ⌝ }
+{
+    Numbers {
+        kind: values[0],
+        columns: values[1] as usize,
+        rows: values[2] as usize,
+        q: values[3],
+        m: values[4],
+        s: values[5],
+        pick: values[6] as usize,
+        steps: values[7] as usize,
+        point: values[8] as usize,
+        force,
+    }
+}
 
 // What a whole line asks for.
 fn line_request(line: &[u8]) -> Request
@@ -32,18 +51,7 @@ fn line_request(line: &[u8]) -> Request
     if 8192 < values[7] {
         return Request::Input;
     }
-    Request::Run(Numbers {
-        kind: values[0],
-        columns: values[1] as usize,
-        rows: values[2] as usize,
-        q: values[3],
-        m: values[4],
-        s: values[5],
-        pick: values[6] as usize,
-        steps: values[7] as usize,
-        point: values[8] as usize,
-        force,
-    })
+    Request::Run(numbers_of(&values, force))
 }
 
 // What the first line of the bytes asks for; the first 256 bytes of the input are enough (`FirstBytesTell`).

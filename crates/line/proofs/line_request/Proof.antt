@@ -12,10 +12,10 @@ use Rattle.decimals.specs.Decimals.{signedRead}
 use Rattle.line.specs.declared.types.Request.the-variants.{Run}
 use Rattle.line.specs.Lists.{before}
 use Rattle.line.specs.Requests.{space}
-use Rattle.line.specs.Reading.{Read, NineRead}
+use Rattle.line.specs.Reading.{ten, Read, NineRead}
 use Rattle.decimals.proofs.DecimalLaws.{tail-is}
 use Rattle.line.proofs.FieldLaws.{too-many}
-use Rattle.line.proofs.RequestLaws.{turned-down, ten, force-turned-down, steps-turned-down, taken}
+use Rattle.line.proofs.RequestLaws.{turned-down, force-turned-down, steps-turned-down, taken}
 use Rattle.line.proofs.line_request.Statement.{statement}
 use Rattle.line.proofs.line_request.Tie as tie
 
@@ -110,42 +110,20 @@ returns-4 c =
     let k = read e in
     steps-turned-down (line k) (values k) (at k) (nine k) _ (size e) (ends e) (omega (arith, c .if2 .taken))
 
-array-read-t16 : tie.Need-array-read-t16
-array-read-t16 c = search needs
-
-array-read-t21 : tie.Need-array-read-t21
-array-read-t21 c = search needs
-
-array-read-t24 : tie.Need-array-read-t24
-array-read-t24 c = search needs
-
-array-read-t27 : tie.Need-array-read-t27
-array-read-t27 c = search needs
-
-array-read-t30 : tie.Need-array-read-t30
-array-read-t30 c = search needs
-
-array-read-t33 : tie.Need-array-read-t33
-array-read-t33 c = search needs
-
-array-read-t36 : tie.Need-array-read-t36
-array-read-t36 c = search needs
-
-array-read-t40 : tie.Need-array-read-t40
-array-read-t40 c = search needs
-
-array-read-t44 : tie.Need-array-read-t44
-array-read-t44 c = search needs
+numbers-of-requires : tie.Need-numbers-of-requires
+numbers-of-requires c κs = search needs
 
 returns-5 : tie.Need-returns-5
 returns-5 c =
-    let g = c .before .before in
-    let f = g .before .before in
+    let low = c .before .before in
+    let told = low .before in
+    let f = told .before .before .before in
     let e = f .before in
     let k = read e in
-    let force = sym (force-is f) ∙ g .force .given .1 in
-    ap (λ (z : ℤ). Run (ten (values k) z)) (toZ-ofZ w64 _ (record { sfits = c .before .known-told2 .given .0 .1 }))
-    ∙ taken (line k) (values k) (at k) (nine k) _ (size e) (ends e) _ force (omega (arith, c .if2 .left))
+    let force = sym (force-is f) ∙ told .before .force .given .1 in
+    let whole = toZ-ofZ w64 _ (record { sfits = told .known-told2 .given .0 .1 }) in
+    ap Run (c .numbers-of .ensures ∙ ap (ten (values k)) whole)
+    ∙ taken (line k) (values k) (at k) (nine k) _ (size e) (ends e) _ force (omega (arith, low .if2 .left))
 
 pub line-request-spec : {M : Type 1} → statement M
 line-request-spec =
@@ -166,13 +144,5 @@ line-request-spec =
     returns-3
     array-read-if2
     returns-4
-    array-read-t16
-    array-read-t21
-    array-read-t24
-    array-read-t27
-    array-read-t30
-    array-read-t33
-    array-read-t36
-    array-read-t40
-    array-read-t44
+    numbers-of-requires
     returns-5)
