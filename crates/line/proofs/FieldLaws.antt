@@ -84,6 +84,10 @@ some-field s (b ∷ bs) = go (eqb b s) (splitOn s bs)
     go false [] = omega arith
     go false (f ∷ fs) = omega arith
 
+-- the field at a place ends inside the line
+pub end-inside : (line : List ℕ) (at n : ℕ) → at ≤ length line → n ≡ length (before space (drop at line)) → at + n ≤ length line
+end-inside line at n h z = omega (arith, length-drop at line, before-short space (drop at line))
+
 -- the next field has n bytes
 module _ (line values : List ℕ) (i at : ℕ) (r : Read line i values at) (n : ℕ) (z : n ≡ length (before space (drop at line))) where
   abbrev fs : List (List ℕ)
@@ -95,9 +99,6 @@ module _ (line values : List ℕ) (i at : ℕ) (r : Read line i values at) (n : 
 
   rest-length : length rest ≡ length line - at
   rest-length = length-drop at line
-
-  pub next-inside : at + n ≤ length line
-  next-inside = omega (arith, rest-length, before-short space rest, r .inside)
 
   -- it is the last
   module _ (h : length line ≤ at + n) where

@@ -2,10 +2,12 @@
 use mathlib.Core.Path.{_≡_}
 use mathlib.Core.Bool.{true, false}
 use mathlib.Core.List.{List}
-use Prim.Native.Nat.{ℕ, _≤_, _<_}
+use Prim.Native.Nat.{ℕ, _+_, _≤_, _<_}
 use lib.IntN.{ℤ}
-use lib.ListN.{length, drop, getD}
+use lib.ListN.{length, drop, getD, set}
 use Rattle.line.specs.declared.types.Numbers.{Numbers}
+use Rattle.line.specs.declared.fields.Field.{Field}
+use Rattle.line.specs.declared.fields.Field.the-variants as F
 use Rattle.line.specs.declared.fields.Rest.{Rest}
 use Rattle.line.specs.declared.fields.Rest.the-variants.{At, Wrong}
 use Rattle.decimals.specs.Decimals.{digitsValue, isUnsigned}
@@ -17,6 +19,12 @@ pub record Read (line : List ℕ) (i : ℕ) (values : List ℕ) (at : ℕ) : Typ
   pub rest : drop i (fields line) ≡ fields (drop at line)
   pub each : (k : ℕ) → k < i → isUnsigned (field (fields line) k) ≡ true
   pub value : (k : ℕ) → k < i → getD values k 0 ≡ digitsValue (field (fields line) k)
+
+-- what the field at a place adds to those read before it
+abbrev pub FieldRead : List ℕ → ℕ → Field → Type 0
+FieldRead line at (F.Is v next) =
+    (i : ℕ) (values : List ℕ) → Read line i values at → i < length values → Read line (i + 1) (set values i v) next
+FieldRead line at F.Wrong = (i : ℕ) (values : List ℕ) → Read line i values at → i < 9 → wellFormed (fields line) ≡ false
 
 -- nine fields were read, and a tenth begins; or the line is not well formed
 abbrev pub NineRead : List ℕ → List ℕ → Rest → Type 0
