@@ -9,7 +9,7 @@ use decimals::read_unsigned;
 
 pub(crate) const LINE_FEED: u8 = 10;
 
-pub(crate) const SPACE: u8 = 32;
+const SPACE: u8 = 32;
 
 // Where the first byte that is sought stands; the length where there is none.
 pub(crate) fn find(bytes: &[u8], sought: u8) -> usize
@@ -26,7 +26,7 @@ pub(crate) fn find(bytes: &[u8], sought: u8) -> usize
 }
 
 // A number and where the next field begins, or no number that a space ends. The definition `FieldRead` tells what each says of the line.
-pub(crate) enum Field {
+enum Field {
     Is { value: u64, next: usize },
     Wrong,
 }

@@ -7,7 +7,6 @@ ghost use Rattle.line.specs.Requests.{lineRequest, requestOf};
 ghost use Rattle.line.specs.Reading.{ten};
 use crate::fields::LINE_FEED;
 use crate::fields::Rest;
-use crate::fields::SPACE;
 use crate::fields::find;
 use crate::fields::read_nine;
 use decimals::Signed;
@@ -33,7 +32,7 @@ fn numbers_of(values: &[u64; 9], force: i64) -> Numbers
     }
 }
 
-// What a whole line asks for.
+// What a whole line asks for. Where more than ten fields stand, what begins with the tenth is no number: a space is no digit.
 fn line_request(line: &[u8]) -> Request
     ensures { λ r. ⌜ r ≡ lineRequest (now (line .entry)) ⌝ }
 {
@@ -41,11 +40,7 @@ fn line_request(line: &[u8]) -> Request
     let Rest::At(at) = read_nine(line, &mut values) else {
         return Request::Input;
     };
-    let last = &line[at..];
-    if find(last, SPACE) < last.len() {
-        return Request::Input;
-    }
-    let Signed::Is(force) = read_signed(last) else {
+    let Signed::Is(force) = read_signed(&line[at..]) else {
         return Request::Input;
     };
     if 8192 < values[7] {

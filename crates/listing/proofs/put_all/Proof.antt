@@ -1,9 +1,7 @@
 -- `put_all` meets its contract: the lines of the steps done, and the last line.
-use Prim.Native.Nat.{_≤_}
 use native.Mathlib.Omega.{arith}
 use borrow.Author.Needs.{needs}
 use lib.ListN.{length}
-use Rattle.listing.specs.Text.{doneLine}
 use Rattle.listing.proofs.TextLaws.{put-put, done-length}
 use Rattle.listing.proofs.ListingLaws.{Within, within}
 use Rattle.listing.proofs.put_all.Statement.{statement}

@@ -1,5 +1,5 @@
 -- `put_listing` meets its contract: the listing, or nothing.
-use mathlib.Core.Path.{_≡_, refl, sym, _∙_}
+use mathlib.Core.Path.{sym, _∙_}
 use borrow.Author.Needs.{needs}
 use Rattle.listing.proofs.TextLaws.{put-same, put-nothing, put-over}
 use Rattle.listing.proofs.ListingLaws.{listed, not-listed}

@@ -1,11 +1,9 @@
 -- `play` meets its contract: by the size, and by the block at rest.
 use mathlib.Core.Path.{_≡_, sym, ap, _∙_, subst⁻¹}
-use mathlib.Core.Bool.{Bool}
-use Prim.Native.Nat.{ℕ, _≤_}
+use Prim.Native.Nat.{_≤_}
 use borrow.Author.Needs.{needs}
 use Rattle.setup.specs.declared.Setup.{Setup}
 use Rattle.setup.specs.Numbers.{gridOf, isTooLarge}
-use Rattle.playing.specs.Play.{heardOf}
 use Rattle.playing.proofs.PlayLaws.{length-low, too-large, plays}
 use Rattle.playing.proofs.play.Statement.{statement}
 use Rattle.playing.proofs.play.Tie as tie

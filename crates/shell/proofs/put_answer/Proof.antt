@@ -1,5 +1,5 @@
 -- `put_answer` meets its contract: `input`, or a run.
-use mathlib.Core.Path.{_≡_, refl, sym, ap, _∙_}
+use mathlib.Core.Path.{refl, sym, ap, _∙_}
 use borrow.Author.Needs.{needs}
 use Rattle.line.specs.Lists.{text}
 use Rattle.shell.specs.Answer.{textFor, answer}
