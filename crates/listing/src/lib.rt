@@ -5,6 +5,7 @@ ghost use mathlib.Core.Path.{_≡_};
 ghost use mathlib.Core.Bool.{true};
 ghost use Prim.Native.Nat.{_+_, _≤_, _<_};
 ghost use lib.ListN.{length};
+ghost use Rattle.line.specs.Lists.{text};
 ghost use Rattle.listing.specs.Text.{pairLine, stepLines, doneLine, listing, isListed, listedTo, over};
 ghost use Rattle.listing.specs.Put.{Put};
 use crate::numbers::put_byte;
@@ -47,12 +48,19 @@ fn put_steps(out: &mut [u8], samples: &[i16], count: usize) -> usize
     at
 }
 
+fn put_word(out: &mut [u8], at: usize) -> usize
+    requires { ⌜ at + 5 ≤ length (now out) ⌝ }
+    ensures { λ r. ⌜ Put (now (out .entry)) at (text "done ") r (now (out .exit)) ⌝ }
+{
+    put_bytes(out, at, b"done ")
+}
+
 // The last line.
 fn put_done(out: &mut [u8], at: usize, count: u64, refusal: u64) -> usize
     requires { ⌜ (refusal < 100) × (at + length (doneLine count refusal) ≤ length (now out)) ⌝ }
     ensures { λ r. ⌜ Put (now (out .entry)) at (doneLine count refusal) r (now (out .exit)) ⌝ }
 {
-    let pair = put_bytes(out, at, b"done ");
+    let pair = put_word(out, at);
     put_pair(out, pair, count, refusal as i16)
 }
 
