@@ -9,7 +9,8 @@ use lib.IntN.{ℤ, pos, negℤ}
 use lib.ListN.{length, drop, getD}
 use Rattle.decimals.specs.declared.Unsigned.the-variants as U
 use Rattle.decimals.specs.declared.Signed.the-variants as S
-use Rattle.decimals.specs.Decimals.{digitsValue, unsignedTo, isUnsigned, isNegative, isSigned, signedValue, minus, unsignedRead, signedRead}
+use Rattle.decimals.specs.Decimals.{digitsValue, unsignedTo, isUnsigned, isNegative, isSigned, signedValue, minus}
+use Rattle.decimals.specs.Decimals.{unsignedRead, signedRead}
 use Rattle.decimals.proofs.DecimalLaws.{wrong-read, right-read}
 
 pub no-digits : (f : List ℕ) → length f ≡ 0 → signedRead f ≡ S.Wrong

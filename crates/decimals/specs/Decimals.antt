@@ -48,12 +48,12 @@ isSigned f = cond (isNegative f) (unsignedTo (2 ^ 63) (drop 1 f)) (isUnsigned f)
 unfoldable pub signedValue : List ℕ → ℤ
 signedValue f = cond (isNegative f) (negℤ (pos (digitsValue (drop 1 f)))) (pos (digitsValue f))
 
--- ---- what is read
+-- ---- what is read: vocabulary between the crates of `ring`
 
 -- a field as a number of at most `most`
 unfoldable pub unsignedRead : ℕ → List ℕ → Unsigned
 unsignedRead most f = cond (unsignedTo most f) (U.Is (digitsValue f)) U.Wrong
 
--- a field as the force
+-- a field as a number that may be negative
 unfoldable pub signedRead : List ℕ → Signed
 signedRead f = cond (isSigned f) (S.Is (signedValue f)) S.Wrong

@@ -32,7 +32,8 @@ module _ (places samples count refusal : ℕ) where
       }
 
 module _ (buffer : List ℕ) (count : ℕ) (samples : List ℤ) (refusal : ℕ) where
-  pub listed : isListed (length buffer) (length samples) count refusal ≡ true → listing count samples refusal ≡ listedTo buffer count samples refusal
+  pub listed : isListed (length buffer) (length samples) count refusal ≡ true
+      → listing count samples refusal ≡ listedTo buffer count samples refusal
   unfolding listedTo
   listed e = sym (ap (λ (t : Bool). cond t (listing count samples refusal) []) e)
 

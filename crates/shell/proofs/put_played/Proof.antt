@@ -43,7 +43,8 @@ returns c =
     let done = p .play .result .steps in
     let samples = p .play .last .1 .0 in
     let two-digits : told .number .result < 100 = omega (arith, told .number .ensures, number-low (p .play .result .refusal)) in
-    let written = lists (s .args .out .now) done samples (told .number .result) (omega arith) (omega (arith, done-low p)) (done-low p) two-digits in
+    let few : done ≤ 8192 = omega (arith, done-low p) in
+    let written = lists (s .args .out .now) done samples (told .number .result) (omega arith) few (done-low p) two-digits in
     written-same
     (sym written ∙ ap (listing done samples) (told .number .ensures) ∙ ap playedText (p .play .ensures))
     (record { ends = put .put-listing .ensures .0; holds = put .put-listing .ensures .1 })

@@ -52,7 +52,7 @@ loop-again c =
     let l = f .before .before in
     let long = l .loop .inv .2 in (
       subst (FieldRead (l .before .before .args .line .now) (l .loop .at)) (c .before .value .given .1) (f .read-field .ensures)
-      _ _ (l .loop .inv .0) (omega (arith, long)),
+          _ _ (l .loop .inv .0) (omega (arith, long)),
       omega arith,
       simp length-set long,
     )

@@ -49,7 +49,8 @@ returns c =
     let m = d .before in
     let p = m .before .before .before .before in
     let s = p .before .before .before in
-    put-same (signed-parts (s .args .v)) (put-put (put-same (sign-is s) (p .put-sign .ensures)) (put-same (digits m) (d .put-decimal .ensures)))
+    let signed = put-same (sign-is s) (p .put-sign .ensures) in
+    put-same (signed-parts (s .args .v)) (put-put signed (put-same (digits m) (d .put-decimal .ensures)))
 
 pub put-signed-spec : {M : Type 1} → statement M
 put-signed-spec = tie.close (tie.spec put-sign-requires magnitude-requires put-decimal-requires same-length returns)
