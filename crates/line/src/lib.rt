@@ -15,8 +15,8 @@ pub use types::Numbers;
 pub use types::Request;
 
 // Nine values and the force, in the order of the line.
-fn numbers_of(values: &[u64; 9], force: i64) -> Numbers
-    ensures { λ r. ⌜ r ≡ ten (now (values .entry)) force ⌝ }
+fn numbers_of(values: [u64; 9], force: i64) -> Numbers
+    ensures { λ r. ⌜ r ≡ ten values force ⌝ }
 {
     Numbers {
         kind: values[0],
@@ -46,7 +46,7 @@ fn line_request(line: &[u8]) -> Request
     if 8192 < values[7] {
         return Request::Input;
     }
-    Request::Run(numbers_of(&values, force))
+    Request::Run(numbers_of(values, force))
 }
 
 // What the first line of the bytes asks for; the first 256 bytes of the input are enough (`FirstBytesTell`).

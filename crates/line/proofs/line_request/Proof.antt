@@ -88,7 +88,7 @@ numbers-of-requires c κs = search needs
 
 returns-4 : tie.Need-returns-4
 returns-4 c =
-    let low = c .before .before in
+    let low = c .before in
     let told = low .before in
     let f = told .before .before .before in
     let k = read f in

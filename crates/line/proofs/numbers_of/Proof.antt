@@ -7,49 +7,47 @@ use Rattle.line.specs.Reading.{ten}
 use Rattle.line.proofs.numbers_of.Statement.{statement}
 use Rattle.line.proofs.numbers_of.Tie as tie
 
-element-copy-out-t5 : tie.Need-element-copy-out-t5
-element-copy-out-t5 c = search needs
+array-read-t6 : tie.Need-array-read-t6
+array-read-t6 c = search needs
 
-element-copy-out-t8 : tie.Need-element-copy-out-t8
-element-copy-out-t8 c = search needs
+array-read-t9 : tie.Need-array-read-t9
+array-read-t9 c = search needs
 
-element-copy-out-t12 : tie.Need-element-copy-out-t12
-element-copy-out-t12 c = search needs
+array-read-t13 : tie.Need-array-read-t13
+array-read-t13 c = search needs
 
-element-copy-out-t16 : tie.Need-element-copy-out-t16
-element-copy-out-t16 c = search needs
+array-read-t17 : tie.Need-array-read-t17
+array-read-t17 c = search needs
 
-element-copy-out-t19 : tie.Need-element-copy-out-t19
-element-copy-out-t19 c = search needs
+array-read-t20 : tie.Need-array-read-t20
+array-read-t20 c = search needs
 
-element-copy-out-t22 : tie.Need-element-copy-out-t22
-element-copy-out-t22 c = search needs
+array-read-t23 : tie.Need-array-read-t23
+array-read-t23 c = search needs
 
-element-copy-out-t25 : tie.Need-element-copy-out-t25
-element-copy-out-t25 c = search needs
+array-read-t26 : tie.Need-array-read-t26
+array-read-t26 c = search needs
 
-element-copy-out-t29 : tie.Need-element-copy-out-t29
-element-copy-out-t29 c = search needs
+array-read-t30 : tie.Need-array-read-t30
+array-read-t30 c = search needs
 
-element-copy-out-t33 : tie.Need-element-copy-out-t33
-element-copy-out-t33 c = search needs
+array-read-t34 : tie.Need-array-read-t34
+array-read-t34 c = search needs
 
 returns : tie.Need-returns
-returns c =
-    let s = c .before .before .before .before .before .before .before .before .before in
-    ap (ten (s .args .values .now)) (toZ-ofZ w64 (s .args .force) (s .fits .force))
+returns c = ap (ten (c .args .t1)) (toZ-ofZ w64 (c .args .force) (c .fits .force))
 
 pub numbers-of-spec : {M : Type 1} → statement M
 numbers-of-spec =
     tie.close
     (tie.spec
-    element-copy-out-t5
-    element-copy-out-t8
-    element-copy-out-t12
-    element-copy-out-t16
-    element-copy-out-t19
-    element-copy-out-t22
-    element-copy-out-t25
-    element-copy-out-t29
-    element-copy-out-t33
+    array-read-t6
+    array-read-t9
+    array-read-t13
+    array-read-t17
+    array-read-t20
+    array-read-t23
+    array-read-t26
+    array-read-t30
+    array-read-t34
     returns)
