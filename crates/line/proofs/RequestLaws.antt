@@ -62,19 +62,19 @@ module _ (line values : List ℕ) (at : ℕ) (r : Read line 9 values at) where
   abbrev rest : List ℕ
   rest = drop at line
 
-  -- the length of the tenth
-  abbrev n : ℕ
-  n = length (before space rest)
+  -- where the tenth ends
+  abbrev end : ℕ
+  end = at + length (before space rest)
 
-  last : length line ≤ at + n → field fs 9 ≡ rest
-  last h = last-is line values 9 at r n refl h
+  last : length line ≤ end → field fs 9 ≡ rest
+  last h = last-is line values 9 at r end refl h
 
   pub force-turned-down : signedRead rest ≡ Wrong → Input ≡ lineRequest line
-  force-turned-down e = turned-down line (go (leb (length line) (at + n)) refl)
+  force-turned-down e = turned-down line (go (leb (length line) (end)) refl)
     where
-      go : (t : Bool) → leb (length line) (at + n) ≡ t → wellFormed fs ≡ false
+      go : (t : Bool) → leb (length line) (end) ≡ t → wellFormed fs ≡ false
       go true k = not-signed fs (ap isSigned (last (leb-true _ _ k)) ∙ signed-wrong rest e)
-      go false k = too-many line values 9 at r n refl (leb-false _ _ k) (omega arith)
+      go false k = too-many line values 9 at r end refl (leb-false _ _ k) (omega arith)
 
   pub steps-turned-down : 8192 < getD values 7 0 → Input ≡ lineRequest line
   steps-turned-down b = turned-down line (not-steps fs (omega (arith, r .value 7 (lit< tt))))
@@ -83,8 +83,8 @@ module _ (line values : List ℕ) (at : ℕ) (r : Read line 9 values at) where
   unfolding lineRequest
   taken v e b =
       let f = signed-right rest e in
-      let h : length line ≤ at + n = omega (arith, ap length (signed-whole rest (f .0)), length-drop at line) in
-      let fields-ten : length fs ≡ 10 = last-length line values 9 at r n refl h in
+      let h : length line ≤ end = omega (arith, ap length (signed-whole rest (f .0)), length-drop at line) in
+      let fields-ten : length fs ≡ 10 = last-length line values 9 at r end refl h in
       let low : digitsValue (field fs 7) ≤ 8192 = omega (arith, r .value 7 (lit< tt)) in
       let ok = all-right fs fields-ten (all-take isUnsigned [] 9 fs (r .each)) (ap isSigned (last h) ∙ f .0) low in
       let value : v ≡ signedValue (field fs 9) = sym (ap signedValue (last h) ∙ f .1) in

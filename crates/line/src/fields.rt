@@ -2,28 +2,12 @@
 ghost use mathlib.Core.Path.{_≡_};
 ghost use Prim.Native.Nat.{_≤_};
 ghost use lib.ListN.{length};
-ghost use Rattle.line.specs.Lists.{before};
 ghost use Rattle.line.specs.Reading.{FieldRead, NineRead};
+use bytes::scan::find;
 use decimals::Unsigned;
 use decimals::read_unsigned;
 
-pub(crate) const LINE_FEED: u8 = 10;
-
 const SPACE: u8 = 32;
-
-// Where the first byte that is sought stands; the length where there is none.
-pub(crate) fn find(bytes: &[u8], sought: u8) -> usize
-    ensures { λ r. ⌜ r ≡ length (before sought (now (bytes .entry))) ⌝ }
-{
-    let mut i = 0;
-    while i < bytes.len() {
-        if bytes[i] == sought {
-            return i;
-        }
-        i += 1;
-    }
-    i
-}
 
 // A number and where the next field begins, or no number that a space ends. The definition `FieldRead` tells what each says of the line.
 enum Field {
@@ -36,7 +20,7 @@ fn read_field(line: &[u8], at: usize) -> Field
     requires { ⌜ at ≤ length (now line) ⌝ }
     ensures { λ r. ⌜ FieldRead (now (line .entry)) at r ⌝ }
 {
-    let end = at + find(&line[at..], SPACE);
+    let end = find(line, at, line.len(), SPACE);
     if end == line.len() {
         return Field::Wrong;
     }

@@ -5,14 +5,15 @@ mod types;
 ghost use mathlib.Core.Path.{_≡_};
 ghost use Rattle.line.specs.Requests.{lineRequest, requestOf};
 ghost use Rattle.line.specs.Reading.{ten};
-use crate::fields::LINE_FEED;
 use crate::fields::Rest;
-use crate::fields::find;
 use crate::fields::read_nine;
+use bytes::scan::find;
 use decimals::Signed;
 use decimals::read_signed;
 pub use types::Numbers;
 pub use types::Request;
+
+const LINE_FEED: u8 = 10;
 
 // Nine values and the force, in the order of the line.
 fn numbers_of(values: [u64; 9], force: i64) -> Numbers
@@ -54,7 +55,7 @@ fn line_request(line: &[u8]) -> Request
 pub fn request(bytes: &[u8]) -> Request
     ensures { λ r. ⌜ r ≡ requestOf (now (bytes .entry)) ⌝ }
 {
-    let end = find(bytes, LINE_FEED);
+    let end = find(bytes, 0, bytes.len(), LINE_FEED);
     if 255 < end {
         return Request::Input;
     }
