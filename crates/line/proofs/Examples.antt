@@ -1,7 +1,8 @@
 -- The examples, by computation.
 use mathlib.Core.Path.{refl}
-use Rattle.line.specs.Lists.{all, before, splitOn, text}
-use Rattle.line.specs.Requests.{unsignedTo, isSigned, signedValue, wellFormed, lineRequest, requestOf}
+use Rattle.decimals.specs.Decimals.{all, unsignedTo, isSigned, signedValue}
+use Rattle.line.specs.Lists.{before, splitOn, text}
+use Rattle.line.specs.Requests.{wellFormed, lineRequest, requestOf}
 use Rattle.line.specs.Examples.{table, ExamplesHold}
 
 pub examples-hold : ExamplesHold

@@ -11,11 +11,12 @@ use lib.Dec.{eqb}
 use lib.ListN.{length, take, drop, set, getD, length-drop}
 use lib.Seq.{drop-cons, drop-drop, getD-set-same, getD-set-other}
 use Rattle.scheme.proofs.Laws.Bools.{and-yes, and-no}
-use Rattle.line.specs.Lists.{all, before, onFirst, splitOn}
-use Rattle.line.specs.Requests.{digitsValue, isUnsigned, isSigned, space, fields, field, wellFormed}
+use Rattle.decimals.specs.Decimals.{all, digitsValue, isUnsigned, isSigned}
+use Rattle.line.specs.Lists.{before, onFirst, splitOn}
+use Rattle.line.specs.Requests.{space, fields, field, wellFormed}
 use Rattle.line.specs.Reading.{Read}
-use Rattle.line.proofs.DecimalLaws.{and-no-second}
-use Rattle.line.proofs.ListLaws.{before-short, before-take, split-last, split-more}
+use Rattle.decimals.proofs.DecimalLaws.{and-no-second}
+use Rattle.line.proofs.ListLaws.{before-take, split-last, split-more}
 
 -- ---- well formed or not
 
@@ -83,8 +84,9 @@ some-field s (b ∷ bs) = go (eqb b s) (splitOn s bs)
     go false [] = omega arith
     go false (f ∷ fs) = omega arith
 
--- the next field has n bytes
-module _ (line values : List ℕ) (i at : ℕ) (r : Read line i values at) (n : ℕ) (z : n ≡ length (before space (drop at line))) where
+-- the next field ends at a place
+module _ (line values : List ℕ) (i at : ℕ) (r : Read line i values at)
+    (end : ℕ) (z : end ≡ at + length (before space (drop at line))) where
   abbrev fs : List (List ℕ)
   fs = fields line
 
@@ -95,11 +97,8 @@ module _ (line values : List ℕ) (i at : ℕ) (r : Read line i values at) (n : 
   rest-length : length rest ≡ length line - at
   rest-length = length-drop at line
 
-  pub next-inside : at + n ≤ length line
-  next-inside = omega (arith, rest-length, before-short space rest, r .inside)
-
   -- it is the last
-  module _ (h : length line ≤ at + n) where
+  module _ (h : length line ≤ end) where
     last : drop i fs ≡ rest ∷ []
     last = r .rest ∙ split-last space rest (omega (arith, rest-length))
 
@@ -113,27 +112,27 @@ module _ (line values : List ℕ) (i at : ℕ) (r : Read line i values at) (n : 
     too-few b = not-ten fs (λ e. omega (arith, last-length))
 
   -- it is not
-  module _ (h : at + n < length line) where
+  module _ (h : end < length line) where
     more : drop i fs ≡ before space rest ∷ fields (drop (suc (length (before space rest))) rest)
     more = r .rest ∙ split-more space rest (omega (arith, rest-length))
 
     more-length : i + 1 < length fs
     more-length = omega (arith, length-drop i fs, ap length more, some-field space (drop (suc (length (before space rest))) rest))
 
-    more-is : field fs i ≡ take (at + n - at) rest
+    more-is : field fs i ≡ take (end - at) rest
     more-is = at-is fs i [] more ∙ sym (before-take space rest) ∙ ap (λ (k : ℕ). take k rest) same
       where
-        same : length (before space rest) ≡ at + n - at
+        same : length (before space rest) ≡ end - at
         same = omega arith
 
     pub too-many : 9 ≤ i → wellFormed fs ≡ false
     too-many b = not-ten fs (λ e. omega (arith, more-length))
 
-    pub wrong-field : i < 9 → isUnsigned (take (at + n - at) rest) ≡ false → wellFormed fs ≡ false
+    pub wrong-field : i < 9 → isUnsigned (take (end - at) rest) ≡ false → wellFormed fs ≡ false
     wrong-field b e = not-unsigned fs (not-all-take isUnsigned [] 9 fs i b (omega (arith, more-length)) (ap isUnsigned more-is ∙ e))
 
-    pub read-more : (v : ℕ) → i < length values → let f = take (at + n - at) rest in isUnsigned f ≡ true → digitsValue f ≡ v →
-        Read line (i + 1) (set values i v) (at + n + 1)
+    pub read-more : (v : ℕ) → i < length values → let f = take (end - at) rest in isUnsigned f ≡ true → digitsValue f ≡ v →
+        Read line (i + 1) (set values i v) (end + 1)
     read-more v b e d =
         record {
           inside = omega arith;
@@ -142,10 +141,10 @@ module _ (line values : List ℕ) (i at : ℕ) (r : Read line i values at) (n : 
           value = below-more _ i earlier (getD-set-same values i v 0 b ∙ sym this);
         }
       where
-        place : at + suc (length (before space rest)) ≡ at + n + 1
+        place : at + suc (length (before space rest)) ≡ end + 1
         place = omega arith
 
-        next-rest : drop (suc (length (before space rest))) rest ≡ drop (at + n + 1) line
+        next-rest : drop (suc (length (before space rest))) rest ≡ drop (end + 1) line
         next-rest = drop-drop (suc (length (before space rest))) at line ∙ ap (λ (k : ℕ). drop k line) place
 
         this : digitsValue (field fs i) ≡ v

@@ -1,65 +1,32 @@
 -- The numbers before the first that is sought, and the lists between them.
-use mathlib.Core.Path.{_≡_, refl, ap}
+use mathlib.Core.Path.{_≡_, refl, ap, _∙_}
 use mathlib.Core.Bool.{Bool, true, false, cond}
 use mathlib.Core.List.{List, [], _∷_}
-use Prim.Native.Nat.{ℕ, zero, suc, _+_, _-_, _≤_, _<_}
-use native.Mathlib.Nat.{le-of-eq}
-use native.Mathlib.Numerals.{add-one}
+use Prim.Native.Nat.{ℕ, zero, suc, _+_, _≤_, _<_}
 use native.Mathlib.Omega.{arith}
-use borrow.Author.Tests.{eq-eqb, ne-eqb}
 use lib.Dec.{eqb}
-use lib.ListN.{length, take, drop, getD, length-drop, drop-of-length-le}
-use lib.Seq.{drop-cons, take-all}
+use lib.ListN.{length, take, drop}
+use lib.Seq.{take-length}
+use Rattle.bytes.specs.Bytes.{slice, indexAfter, indexOf}
 use Rattle.line.specs.Lists.{before, onFirst, splitOn}
-
--- a part of a list that goes to its end
-pub tail-is : {A : Type 0} (l : List A) (n : ℕ) → take (length l - n) (drop n l) ≡ drop n l
-tail-is l n = take-all (length l - n) (drop n l) (le-of-eq (length-drop n l))
 
 -- ---- a search from the front
 
--- the first i numbers are not s
-pub record Skipped (s : ℕ) (l : List ℕ) (i : ℕ) : Type 0 where
-  pub reached : i ≤ length l
-  pub same : length (before s l) ≡ i + length (before s (drop i l))
+found : (s : ℕ) (l : List ℕ) → indexOf s l ≡ length (before s l)
+unfolding indexOf indexAfter before
+found s [] = refl
+found s (b ∷ bs) = go (eqb b s) (found s bs)
+  where
+    go : (t : Bool) → indexOf s bs ≡ length (before s bs) → indexAfter t (indexOf s bs) ≡ length (cond t [] (b ∷ before s bs))
+    go true e = refl
+    go false e = ap suc e
 
-module _ (s : ℕ) (l : List ℕ) where
-  pub skipped-none : Skipped s l 0
-  skipped-none = record { reached = omega arith; same = omega arith }
-
-  -- what is left begins with a number that is s, or is not
-  stops : (i : ℕ) → i < length l → getD l i 0 ≡ s → length (before s (drop i l)) ≡ 0
-  unfolding before
-  stops i h e =
-      rw (drop-cons l i 0)
-      (ap (λ (t : Bool). length (cond t [] (getD l i 0 ∷ before s (drop (suc i) l)))) (eq-eqb (getD l i 0) s e))
-
-  goes-on : (i : ℕ) → i < length l → (getD l i 0 ≡ s → ⊥) → length (before s (drop i l)) ≡ suc (length (before s (drop (i + 1) l)))
-  unfolding before
-  goes-on i h f =
-      rw (add-one, drop-cons l i 0)
-      (ap (λ (t : Bool). length (cond t [] (getD l i 0 ∷ before s (drop (suc i) l)))) (ne-eqb (getD l i 0) s f))
-
-  pub skipped-more : {i : ℕ} → i < length l → Skipped s l i → (getD l i 0 ≡ s → ⊥) → Skipped s l (i + 1)
-  skipped-more {i} h p f = record { reached = omega arith; same = omega (arith, goes-on i h f) }
-
-  pub found-is : {i : ℕ} → i < length l → Skipped s l i → getD l i 0 ≡ s → i ≡ length (before s l)
-  found-is {i} h p e = omega (arith, stops i h e)
-
-  pub end-is : {i : ℕ} → length l ≤ i → Skipped s l i → i ≡ length (before s l)
-  unfolding before
-  end-is {i} h p = omega (arith, ap (λ (r : List ℕ). length (before s r)) (drop-of-length-le l h))
+-- a search from a place to the end of the list
+pub found-from : (s at end : ℕ) (l : List ℕ) → end ≡ at + indexOf s (slice at (length l) l) → end ≡ at + length (before s (drop at l))
+unfolding slice
+found-from s at end l e = e ∙ ap (λ (r : List ℕ). at + indexOf s (drop at r)) (take-length l) ∙ ap (λ (k : ℕ). at + k) (found s (drop at l))
 
 -- ---- the numbers before the first
-
-pub before-short : (s : ℕ) (l : List ℕ) → length (before s l) ≤ length l
-unfolding before
-before-short s [] = omega arith
-before-short s (b ∷ bs) = go (eqb b s) (before-short s bs)
-  where
-    go : (t : Bool) → length (before s bs) ≤ length bs → length (cond t [] (b ∷ before s bs)) ≤ suc (length bs)
-    go true h = omega arith
-    go false h = omega arith
 
 pub before-take : (s : ℕ) (l : List ℕ) → take (length (before s l)) l ≡ before s l
 unfolding before

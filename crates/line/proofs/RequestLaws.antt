@@ -1,26 +1,27 @@
 -- From what was read of a line to what it asks for.
 use mathlib.Core.Path.{_≡_, refl, sym, ap, _∙_}
-use mathlib.Core.Bool.{Bool, true, false, cond}
-use mathlib.Core.List.{List, []}
-use Prim.Native.Nat.{ℕ, _+_, _≤_, _<_}
+use mathlib.Core.Bool.{Bool, true, false, _&&_, cond}
+use mathlib.Core.List.{List, [], _∷_}
+use Prim.Native.Nat.{ℕ, _+_, _-_, _^_, _≤_, _<_}
 use native.Mathlib.Omega.{arith}
-use borrow.Author.Tests.{le-leb, lt-leb, leb-true, leb-false}
-use lib.Dec.{leb, lit<}
+use borrow.Author.Tests.{le-leb, lt-leb, leb-true, leb-false, eqb-true, ne-eqb}
+use lib.Dec.{ltb, leb, eqb, lit<}
 use lib.IntN.{ℤ}
-use lib.ListN.{length, take, drop, getD}
+use lib.ListN.{length, take, drop, getD, length-drop}
 use lib.Seq.{take-all, length-take-le}
-use Rattle.line.specs.declared.types.Numbers.{Numbers}
+use Rattle.scheme.proofs.Laws.Bools.{and-both}
+use Rattle.decimals.specs.declared.Signed.the-variants.{Is, Wrong}
+use Rattle.decimals.specs.Decimals.{all, minus, isDigit, digitsValue, unsignedTo, isUnsigned, isSigned, signedValue, signedRead}
+use Rattle.decimals.proofs.DecimalLaws.{digit-range}
+use Rattle.decimals.proofs.SignedLaws.{signed-wrong, signed-right}
 use Rattle.line.specs.declared.types.Request.{Request}
 use Rattle.line.specs.declared.types.Request.the-variants.{Input, Run}
-use Rattle.line.specs.declared.decimals.Signed.the-variants.{Is, Wrong}
 use Rattle.line.specs.Lists.{before}
-use Rattle.line.specs.Requests.{isUnsigned, isSigned, signedValue, lineFeed, space, fields, field, wellFormed, numbers}
-use Rattle.line.specs.Requests.{digitsValue, lineRequest, requestOf}
-use Rattle.line.specs.Reading.{signedRead, Read}
+use Rattle.line.specs.Requests.{lineFeed, space, fields, field, wellFormed, numbers, lineRequest, requestOf}
+use Rattle.line.specs.Reading.{ten, Read}
 use Rattle.line.specs.Claims.{FirstBytesTell}
 use Rattle.line.proofs.ListLaws.{before-take, before-first}
-use Rattle.line.proofs.SignedLaws.{signed-wrong, signed-right}
-use Rattle.line.proofs.FieldLaws.{all-take, not-signed, not-steps, all-right, last-length, last-is}
+use Rattle.line.proofs.FieldLaws.{all-take, not-signed, not-steps, all-right, last-length, last-is, too-many}
 
 -- ---- a line
 
@@ -28,45 +29,65 @@ pub turned-down : (line : List ℕ) → wellFormed (fields line) ≡ false → I
 unfolding lineRequest
 turned-down line e = sym (ap (λ (t : Bool). cond t (Run (numbers (fields line))) Input) e)
 
--- the nine values, and the force
-abbrev pub ten : List ℕ → ℤ → Numbers
-ten values z =
-    record {
-      kind = getD values 0 0;
-      columns = getD values 1 0;
-      rows = getD values 2 0;
-      q = getD values 3 0;
-      m = getD values 4 0;
-      s = getD values 5 0;
-      pick = getD values 6 0;
-      steps = getD values 7 0;
-      point = getD values 8 0;
-      force = z;
-    }
+-- ---- the tenth field has no space
 
--- nine fields were read, and the tenth has n bytes and is the last
-module _ (line values : List ℕ) (at : ℕ) (r : Read line 9 values at)
-    (n : ℕ) (z : n ≡ length (before space (drop at line))) (h : length line ≤ at + n) where
+digits-whole : (f : List ℕ) → all isDigit f ≡ true → before space f ≡ f
+unfolding all before
+digits-whole [] e = refl
+digits-whole (b ∷ bs) e =
+    let both = and-both (isDigit b) (all isDigit bs) e in
+    simp (ne-eqb b space (λ z. omega (arith, digit-range b (both .0))), digits-whole bs (both .1))
+
+unsigned-whole : (most : ℕ) (f : List ℕ) → unsignedTo most f ≡ true → before space f ≡ f
+unfolding unsignedTo
+unsigned-whole most f e =
+    let low = leb (digitsValue f) most in
+    digits-whole f (and-both (all isDigit f) low (and-both (ltb 0 (length f)) (all isDigit f && low) e .1) .0)
+
+signed-whole : (f : List ℕ) → isSigned f ≡ true → before space f ≡ f
+unfolding isSigned before
+signed-whole [] e = refl
+signed-whole (b ∷ bs) e = go (eqb b minus) refl e
+  where
+    go : (t : Bool) → eqb b minus ≡ t → cond t (unsignedTo (2 ^ 63) bs) (isUnsigned (b ∷ bs)) ≡ true → before space (b ∷ bs) ≡ b ∷ bs
+    go true k u = simp (ne-eqb b space (λ z. omega (arith, eqb-true b minus k)), unsigned-whole (2 ^ 63) bs u)
+    go false k u = unsigned-whole (2 ^ 63 - 1) (b ∷ bs) u
+
+-- ---- nine fields were read
+
+module _ (line values : List ℕ) (at : ℕ) (r : Read line 9 values at) where
   abbrev fs : List (List ℕ)
   fs = fields line
 
-  last : field fs 9 ≡ drop at line
-  last = last-is line values 9 at r n z h
+  abbrev rest : List ℕ
+  rest = drop at line
 
-  pub force-turned-down : signedRead (drop at line) ≡ Wrong → Input ≡ lineRequest line
-  force-turned-down e = turned-down line (not-signed fs (ap isSigned last ∙ signed-wrong (drop at line) e))
+  -- where the tenth ends
+  abbrev end : ℕ
+  end = at + length (before space rest)
+
+  last : length line ≤ end → field fs 9 ≡ rest
+  last h = last-is line values 9 at r end refl h
+
+  pub force-turned-down : signedRead rest ≡ Wrong → Input ≡ lineRequest line
+  force-turned-down e = turned-down line (go (leb (length line) (end)) refl)
+    where
+      go : (t : Bool) → leb (length line) (end) ≡ t → wellFormed fs ≡ false
+      go true k = not-signed fs (ap isSigned (last (leb-true _ _ k)) ∙ signed-wrong rest e)
+      go false k = too-many line values 9 at r end refl (leb-false _ _ k) (omega arith)
 
   pub steps-turned-down : 8192 < getD values 7 0 → Input ≡ lineRequest line
   steps-turned-down b = turned-down line (not-steps fs (omega (arith, r .value 7 (lit< tt))))
 
-  pub taken : (v : ℤ) → signedRead (drop at line) ≡ Is v → getD values 7 0 ≤ 8192 → Run (ten values v) ≡ lineRequest line
+  pub taken : (v : ℤ) → signedRead rest ≡ Is v → getD values 7 0 ≤ 8192 → Run (ten values v) ≡ lineRequest line
   unfolding lineRequest
   taken v e b =
-      let f = signed-right (drop at line) e in
-      let fields-ten : length fs ≡ 10 = last-length line values 9 at r n z h in
+      let f = signed-right rest e in
+      let h : length line ≤ end = omega (arith, ap length (signed-whole rest (f .0)), length-drop at line) in
+      let fields-ten : length fs ≡ 10 = last-length line values 9 at r end refl h in
       let low : digitsValue (field fs 7) ≤ 8192 = omega (arith, r .value 7 (lit< tt)) in
-      let ok = all-right fs fields-ten (all-take isUnsigned [] 9 fs (r .each)) (ap isSigned last ∙ f .0) low in
-      let value : v ≡ signedValue (field fs 9) = sym (ap signedValue last ∙ f .1) in
+      let ok = all-right fs fields-ten (all-take isUnsigned [] 9 fs (r .each)) (ap isSigned (last h) ∙ f .0) low in
+      let value : v ≡ signedValue (field fs 9) = sym (ap signedValue (last h) ∙ f .1) in
       let same : ten values v ≡ numbers fs =
       λ j. record {
         kind = r .value 0 (lit< tt) j;

@@ -1,16 +1,11 @@
 -- Lists: what the definitions are written with. Nothing here is of the paper.
-use mathlib.Core.Bool.{Bool, true, _&&_, cond}
+use mathlib.Core.Bool.{cond}
 use mathlib.Core.List.{List, [], _∷_}
 use Prim.Native.Char.{code}
 use Prim.Native.Nat.{ℕ}
 use Prim.Native.String as S
 use Prim.Native.String.{String}
 use lib.Dec.{eqb}
-
--- every element passes the test
-unfoldable pub all : {A : Type 0} → (A → Bool) → List A → Bool
-all p [] = true
-all p (x ∷ xs) = p x && all p xs
 
 -- the numbers before the first that is s; all of them where none is
 unfoldable pub before : ℕ → List ℕ → List ℕ

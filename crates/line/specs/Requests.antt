@@ -1,14 +1,14 @@
 -- What the program `ring` is asked for: "ten decimals, digits only, single spaces between".
 use mathlib.Core.Bool.{Bool, _&&_, cond}
-use mathlib.Core.List.{List, [], foldl}
-use Prim.Native.Nat.{ℕ, _+_, _-_, _*_, _^_}
-use lib.Dec.{ltb, leb, eqb}
-use lib.IntN.{ℤ, pos, negℤ}
-use lib.ListN.{length, take, drop, getD}
+use mathlib.Core.List.{List, []}
+use Prim.Native.Nat.{ℕ}
+use lib.Dec.{leb, eqb}
+use lib.ListN.{length, take, getD}
+use Rattle.decimals.specs.Decimals.{all, digitsValue, isUnsigned, isSigned, signedValue}
 use Rattle.line.specs.declared.types.Numbers.{Numbers}
 use Rattle.line.specs.declared.types.Request.{Request}
 use Rattle.line.specs.declared.types.Request.the-variants.{Input, Run}
-use Rattle.line.specs.Lists.{all, before, splitOn}
+use Rattle.line.specs.Lists.{before, splitOn}
 
 -- ---- bytes
 
@@ -17,37 +17,6 @@ lineFeed = 10
 
 abbrev pub space : ℕ
 space = 32
-
-abbrev pub minus : ℕ
-minus = 45
-
--- from `0` to `9`
-abbrev pub isDigit : ℕ → Bool
-isDigit b = leb 48 b && leb b 57
-
--- ---- a number
-
--- the value of digits, the first the weightiest
-abbrev pub digitsValue : List ℕ → ℕ
-digitsValue ds = foldl (λ n b. 10 * n + (b - 48)) 0 ds
-
--- "digits only", one or more, and a value of at most `most`
-unfoldable pub unsignedTo : ℕ → List ℕ → Bool
-unsignedTo most ds = ltb 0 (length ds) && (all isDigit ds && leb (digitsValue ds) most)
-
--- a number that may not be negative, and is not "outside signed 64 bits"
-abbrev pub isUnsigned : List ℕ → Bool
-isUnsigned f = unsignedTo (2 ^ 63 - 1) f
-
--- "only force may be negative, by one leading minus": digits come after it, and −2⁶³ is inside
-abbrev pub isNegative : List ℕ → Bool
-isNegative f = eqb (getD f 0 0) minus
-
-unfoldable pub isSigned : List ℕ → Bool
-isSigned f = cond (isNegative f) (unsignedTo (2 ^ 63) (drop 1 f)) (isUnsigned f)
-
-unfoldable pub signedValue : List ℕ → ℤ
-signedValue f = cond (isNegative f) (negℤ (pos (digitsValue (drop 1 f)))) (pos (digitsValue f))
 
 -- ---- a line
 

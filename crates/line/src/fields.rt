@@ -1,28 +1,36 @@
 // The fields of a line.
 ghost use mathlib.Core.Path.{_≡_};
+ghost use Prim.Native.Nat.{_≤_};
 ghost use lib.ListN.{length};
-ghost use Rattle.line.specs.Lists.{before};
-ghost use Rattle.line.specs.Reading.{NineRead};
-use crate::decimals::MOST;
-use crate::decimals::Unsigned;
-use crate::decimals::read_unsigned;
+ghost use Rattle.line.specs.Reading.{FieldRead, NineRead};
+use bytes::scan::find;
+use decimals::Unsigned;
+use decimals::read_unsigned;
 
-pub(crate) const LINE_FEED: u8 = 10;
+const SPACE: u8 = 32;
 
-pub(crate) const SPACE: u8 = 32;
+// A number and where the next field begins, or no number that a space ends. The definition `FieldRead` tells what each says of the line.
+enum Field {
+    Is { value: u64, next: usize },
+    Wrong,
+}
 
-// Where the first byte that is sought stands; the length where there is none.
-pub(crate) fn find(bytes: &[u8], sought: u8) -> usize
-    ensures { λ r. ⌜ r ≡ length (before sought (now (bytes .entry))) ⌝ }
+// The field that begins at a place.
+fn read_field(line: &[u8], at: usize) -> Field
+    requires { ⌜ at ≤ length (now line) ⌝ }
+    ensures { λ r. ⌜ FieldRead (now (line .entry)) at r ⌝ }
 {
-    let mut i = 0;
-    while i < bytes.len() {
-        if bytes[i] == sought {
-            return i;
-        }
-        i += 1;
+    let end = find(line, at, line.len(), SPACE);
+    if end == line.len() {
+        return Field::Wrong;
     }
-    i
+    match read_unsigned(&line[at..end]) {
+        Unsigned::Is(value) => Field::Is {
+            value,
+            next: end + 1,
+        },
+        Unsigned::Wrong => Field::Wrong,
+    }
 }
 
 // Where the tenth field begins, or no nine numbers. The definition `NineRead` tells what each says of the line.
@@ -39,15 +47,11 @@ pub(crate) fn read_nine(line: &[u8], values: &mut [u64; 9]) -> Rest
     let mut at = 0;
     let mut i = 0;
     while i < 9 {
-        let end = at + find(&line[at..], SPACE);
-        if end == line.len() {
-            return Rest::Wrong;
-        }
-        let Unsigned::Is(n) = read_unsigned(&line[at..end], MOST) else {
+        let Field::Is { value, next } = read_field(line, at) else {
             return Rest::Wrong;
         };
-        values[i] = n;
-        at = end + 1;
+        values[i] = value;
+        at = next;
         i += 1;
     }
     Rest::At(at)

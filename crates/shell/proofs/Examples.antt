@@ -6,10 +6,11 @@ use Rattle.scheme.specs.Instruments.{kindOf, sizeIn, stableIn, roundEdge, fixed
 use Rattle.scheme.specs.Step.{beside, neighbours, laplacian, innerLaplacian, numerator, roundAway, nextAt, nextLevel, someBeyond, sampleOf}
 use Rattle.scheme.specs.Refusals.{fixedNotZero, blockRefusal}
 use Rattle.scheme.specs.Calls.{play, block}
-use Rattle.line.specs.Lists.{all, before, splitOn, text}
-use Rattle.line.specs.Requests.{unsignedTo, isSigned, signedValue, wellFormed, lineRequest, requestOf}
-use Rattle.shell.specs.Play.{played}
-use Rattle.shell.specs.Text.{digitsIn, decimal, signedDecimal, pairLine, stepLines, doneLine}
+use Rattle.decimals.specs.Decimals.{all, unsignedTo, isSigned, signedValue}
+use Rattle.line.specs.Lists.{before, splitOn, text}
+use Rattle.line.specs.Requests.{wellFormed, lineRequest, requestOf}
+use Rattle.playing.specs.Play.{played}
+use Rattle.listing.specs.Text.{digitsIn, decimal, signedDecimal, pairLine, stepLines, doneLine}
 use Rattle.shell.specs.Answer.{runText, answer}
 use Rattle.shell.specs.Examples.{table, ExamplesHold}
 

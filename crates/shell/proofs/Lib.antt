@@ -1,4 +1,2 @@
 pub mod Examples
-pub mod PlayLaws
-pub mod TextLaws
 pub mod AnswerLaws

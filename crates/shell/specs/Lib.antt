@@ -1,5 +1,4 @@
-pub mod Play
-pub mod Text
 pub mod Answer
+pub mod Written
 pub mod Examples
 pub mod Claims

@@ -36,7 +36,6 @@ module _ (i : Instrument) (older newer work : List ℤ) (pick : ℕ) (h : Hit)
   work-long : length work ≡ points (i .grid)
   work-long = right-length (i .grid) (length work) (passes .rest-right)
 
-
   pub first-steppable : Planned p → (cleared : List ℤ) → cleared ≡ replicate (length work) (pos 0) → Steppable p h older newer cleared
   first-steppable q cleared z = record {
     planned = q;

@@ -1,20 +1,17 @@
 -- `line_request` meets its contract: nine numbers, then the force, then the limit of the steps.
 use mathlib.Core.Path.{_≡_, sym, ap, _∙_, subst}
 use mathlib.Core.List.{List}
-use Prim.Native.Nat.{ℕ, _+_, _≤_, _<_}
+use Prim.Native.Nat.{ℕ}
 use native.Mathlib.Omega.{arith}
 use borrow.Author.Needs.{needs}
-use lib.IntN.{ℤ}
-use lib.ListN.{length, drop}
+use lib.ListN.{drop}
 use mir.Syntax.{w64}
 use mir.ValLaws.{toZ-ofZ}
+use Rattle.decimals.specs.Decimals.{signedRead}
 use Rattle.line.specs.declared.types.Request.the-variants.{Run}
-use Rattle.line.specs.Lists.{before}
-use Rattle.line.specs.Requests.{space}
-use Rattle.line.specs.Reading.{signedRead, Read, NineRead}
-use Rattle.line.proofs.ListLaws.{tail-is}
-use Rattle.line.proofs.FieldLaws.{too-many}
-use Rattle.line.proofs.RequestLaws.{turned-down, ten, force-turned-down, steps-turned-down, taken}
+use Rattle.line.specs.Reading.{ten, Read, NineRead}
+use Rattle.decimals.proofs.DecimalLaws.{tail-is}
+use Rattle.line.proofs.RequestLaws.{turned-down, force-turned-down, steps-turned-down, taken}
 use Rattle.line.proofs.line_request.Statement.{statement}
 use Rattle.line.proofs.line_request.Tie as tie
 
@@ -36,23 +33,11 @@ module _ (c : tie.After-known-told) where
   nine : Read line 9 values at
   nine = subst (NineRead line values) (c .before .at .given .1) (done .read-nine .ensures)
 
--- the tenth has as many bytes as find tells
-size-is : (c : tie.After-find) → let k = c .before .before in c .find .result ≡ length (before space (drop (at k) (line k)))
-size-is c = let k = c .before .before in c .find .ensures ∙ ap (λ (l : List ℕ). length (before space l)) (tail-is (line k) (at k))
+abbrev read : tie.After-read-signed → tie.After-known-told
+read c = c .before .before
 
--- it ends the line
-module _ (c : tie.Else1) where
-  abbrev read : tie.After-known-told
-  read = c .before .before .before
-
-  size : c .before .find .result ≡ length (before space (drop (at read) (line read)))
-  size = size-is (c .before)
-
-  ends : length (line read) ≤ at read + c .before .find .result
-  ends = omega (arith, c .if1 .left, nine read .inside)
-
-force-is : (c : tie.After-read-signed) → let k = read (c .before) in c .read-signed .result ≡ signedRead (drop (at k) (line k))
-force-is c = let k = read (c .before) in c .read-signed .ensures ∙ ap signedRead (tail-is (line k) (at k))
+force-is : (c : tie.After-read-signed) → let k = read c in c .read-signed .result ≡ signedRead (drop (at k) (line k))
+force-is c = let k = read c in c .read-signed .ensures ∙ ap signedRead (tail-is (line k) (at k))
 
 read-nine-requires : tie.Need-read-nine-requires
 read-nine-requires c κs = search needs
@@ -66,23 +51,14 @@ enum-told c = search needs
 returns : tie.Need-returns
 returns c = turned-down _ (subst (NineRead _ _) (c .enum-told .given .1) (c .before .before .read-nine .ensures))
 
-sub-last : tie.Need-sub-last
-sub-last c = nine c .inside
+sub-read-signed : tie.Need-sub-read-signed
+sub-read-signed c = nine c .inside
 
-part-last-start : tie.Need-part-last-start
-part-last-start c = let h = nine c .inside in search needs
+part-read-signed-start : tie.Need-part-read-signed-start
+part-read-signed-start c = let h = nine c .inside in search needs
 
-part-last-end : tie.Need-part-last-end
-part-last-end c = search needs
-
-find-requires : tie.Need-find-requires
-find-requires c κs = search needs
-
-returns-2 : tie.Need-returns-2
-returns-2 c =
-    let k = c .before .before .before in
-    let more : at k + c .before .find .result < length (line k) = omega (arith, c .if1 .taken, nine k .inside) in
-    turned-down (line k) (too-many (line k) (values k) 9 (at k) (nine k) _ (size-is (c .before)) more (omega arith))
+part-read-signed-end : tie.Need-part-read-signed-end
+part-read-signed-end c = search needs
 
 read-signed-requires : tie.Need-read-signed-requires
 read-signed-requires c κs = search needs
@@ -93,58 +69,33 @@ enum-known-force c = search needs
 enum-told-2 : tie.Need-enum-told-2
 enum-told-2 c = search needs
 
+returns-2 : tie.Need-returns-2
+returns-2 c =
+    let f = c .before .before in
+    let k = read f in
+    force-turned-down (line k) (values k) (at k) (nine k) (sym (force-is f) ∙ c .enum-told2 .given .1)
+
+array-read-if1 : tie.Need-array-read-if1
+array-read-if1 c = search needs
+
 returns-3 : tie.Need-returns-3
 returns-3 c =
-    let f = c .before .before in
-    let e = f .before in
-    let k = read e in
-    force-turned-down (line k) (values k) (at k) (nine k) _ (size e) (ends e) (sym (force-is f) ∙ c .enum-told2 .given .1)
+    let k = read (c .before .before .before .before) in
+    steps-turned-down (line k) (values k) (at k) (nine k) (omega (arith, c .if1 .taken))
 
-array-read-if2 : tie.Need-array-read-if2
-array-read-if2 c = search needs
+numbers-of-requires : tie.Need-numbers-of-requires
+numbers-of-requires c κs = search needs
 
 returns-4 : tie.Need-returns-4
 returns-4 c =
-    let e = c .before .before .before .before .before in
-    let k = read e in
-    steps-turned-down (line k) (values k) (at k) (nine k) _ (size e) (ends e) (omega (arith, c .if2 .taken))
-
-array-read-t16 : tie.Need-array-read-t16
-array-read-t16 c = search needs
-
-array-read-t21 : tie.Need-array-read-t21
-array-read-t21 c = search needs
-
-array-read-t24 : tie.Need-array-read-t24
-array-read-t24 c = search needs
-
-array-read-t27 : tie.Need-array-read-t27
-array-read-t27 c = search needs
-
-array-read-t30 : tie.Need-array-read-t30
-array-read-t30 c = search needs
-
-array-read-t33 : tie.Need-array-read-t33
-array-read-t33 c = search needs
-
-array-read-t36 : tie.Need-array-read-t36
-array-read-t36 c = search needs
-
-array-read-t40 : tie.Need-array-read-t40
-array-read-t40 c = search needs
-
-array-read-t44 : tie.Need-array-read-t44
-array-read-t44 c = search needs
-
-returns-5 : tie.Need-returns-5
-returns-5 c =
-    let g = c .before .before in
-    let f = g .before .before in
-    let e = f .before in
-    let k = read e in
-    let force = sym (force-is f) ∙ g .force .given .1 in
-    ap (λ (z : ℤ). Run (ten (values k) z)) (toZ-ofZ w64 _ (record { sfits = c .before .known-told2 .given .0 .1 }))
-    ∙ taken (line k) (values k) (at k) (nine k) _ (size e) (ends e) _ force (omega (arith, c .if2 .left))
+    let low = c .before in
+    let told = low .before in
+    let f = told .before .before .before in
+    let k = read f in
+    let force = sym (force-is f) ∙ told .before .force .given .1 in
+    let whole = toZ-ofZ w64 _ (record { sfits = told .known-told2 .given .0 .1 }) in
+    ap Run (c .numbers-of .ensures ∙ ap (ten (values k)) whole)
+    ∙ taken (line k) (values k) (at k) (nine k) _ force (omega (arith, low .if1 .left))
 
 pub line-request-spec : {M : Type 1} → statement M
 line-request-spec =
@@ -154,24 +105,14 @@ line-request-spec =
     enum-known-at
     enum-told
     returns
-    sub-last
-    part-last-start
-    part-last-end
-    find-requires
-    returns-2
+    sub-read-signed
+    part-read-signed-start
+    part-read-signed-end
     read-signed-requires
     enum-known-force
     enum-told-2
+    returns-2
+    array-read-if1
     returns-3
-    array-read-if2
-    returns-4
-    array-read-t16
-    array-read-t21
-    array-read-t24
-    array-read-t27
-    array-read-t30
-    array-read-t33
-    array-read-t36
-    array-read-t40
-    array-read-t44
-    returns-5)
+    numbers-of-requires
+    returns-4)
