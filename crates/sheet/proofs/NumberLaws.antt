@@ -1,15 +1,17 @@
 -- The program's literals, and its tests of a float, as the definitions have them.
 use mathlib.Core.Path.{_≡_, refl, sym, ap, _∙_}
-use mathlib.Core.Bool.{Bool, true, false, not, _&&_, and-false}
+use mathlib.Core.Logic.{_⊎_, inl, inr}
+use mathlib.Core.Bool.{Bool, true, false, not, _&&_, and-false, or-true}
 use Prim.Native.Nat.{ℕ, zero, suc, _+_, _*_, _^_, _%_, _-_, _≤_, _<_, zero-le}
-use native.Mathlib.Nat.{mul-pos, zero-mul, zero-lt-suc, le-of-suc-le-suc, mul-assoc, mul-le-mul, mul-le-mul-right, lt-of-mul-lt-mul-right}
+use native.Mathlib.Nat.{mul-pos, zero-mul, zero-lt-suc, le-of-suc-le-suc, eq-or-lt-of-le}
+use native.Mathlib.Nat.{mul-assoc, mul-le-mul, mul-le-mul-right, lt-of-mul-lt-mul-right}
 use native.Mathlib.Omega.{arith}
 use borrow.Author.Tests.{lt-ltb, le-ltb, lt-leb, eq-eqb, ne-eqb, leb-true, leb-false}
-use lib.Dec.{T, leb, ltb, eqb, ltb→lt, eqb·suc-zero}
+use lib.Dec.{T, leb, ltb, eqb, ltb→lt, lit<, eqb·suc-zero}
 use lib.Pow.{pow-add, pow-mono, pow-pos}
 use lib.IntN.{ℤ, pos, negsuc}
 use lib.Ieee.{Float, nan, inf, fin, up, down, binary64, lt, le, eq, fits, mul, div, round, ofBits}
-use lib.Ieee.Fits.{up-pos}
+use lib.Ieee.Fits.{up-pos, down-pos}
 use Rattle.scheme.specs.Instruments.{kindOf, within}
 use Rattle.sizes.proofs.KindLaws.{by-number}
 use Rattle.sheet.specs.declared.Speed.the-variants.{Hertz}
@@ -73,14 +75,16 @@ of-size p b m (pos k) h l = mul-le-mul-right 1 (at-most p b m k h (omega arith))
 of-size p b m (negsuc k) h l = mul-le-mul (mul-le-mul h (pow-pos b)) (pow-pos (suc k))
 
 -- no float is above the largest, (2⁵³ − 1) × 2⁹⁷¹
-not-above : (m : ℕ) (e : ℤ) → T (fits binary64 (fin false m e)) → lt largest (fin false m e) ≡ false
-unfolding lt ofBits fits
-not-above zero e h = le-ltb ((2 ^ 53 - 1) * 2 ^ 971 * down e) (0 * up e * 1) (rw zero-mul zero-le)
-not-above (suc m) e h =
+top : ℕ → ℕ
+top d = (2 ^ 53 - 1) * 2 ^ 971 * d
+
+up-to-top : (m : ℕ) (e : ℤ) → T (fits binary64 (fin false m e)) → m * up e * 1 ≤ top (down e)
+unfolding fits top
+up-to-top zero e h = rw zero-mul zero-le
+up-to-top (suc m) e h =
     let p = parts (eqb (suc m % 2) 1) (ltb (suc m) (2 ^ 53)) (leb (down e) (2 ^ 1074)) (ltb (suc m * up e) (2 ^ 1024 * down e)) h in
     let low = ltb→lt (suc m) (2 ^ 53) (p .0) in
-    let size = ltb→lt (suc m * up e) (2 ^ 1024 * down e) (p .1) in
-    le-ltb ((2 ^ 53 - 1) * 2 ^ 971 * down e) (suc m * up e * 1) (of-size (2 ^ 53 - 1) 971 (suc m) e (le-of-suc-le-suc low) size)
+    of-size (2 ^ 53 - 1) 971 (suc m) e (le-of-suc-le-suc low) (ltb→lt (suc m * up e) (2 ^ 1024 * down e) (p .1))
   where
     parts : (a b c d : Bool) → T (a && b && c && d) → T b × T d
     parts true true true true t = (tt, tt)
@@ -89,30 +93,48 @@ not-above (suc m) e h =
     parts true false c d t = absurd t
     parts false b c d t = absurd t
 
-pub non-negative-is : (x : Float) → T (fits binary64 x) → (le zeroFloat x && not (lt largest x)) ≡ nonNegative x
+plus-below : (m : ℕ) (e : ℤ) → T (fits binary64 (fin false m e)) → le (fin false m e) largest ≡ true
+unfolding lt eq le ofBits top
+plus-below m e h = go (eq-or-lt-of-le (up-to-top m e h))
+  where
+    go : (m * up e * 1 ≡ top (down e)) ⊎ (m * up e * 1 < top (down e)) → le (fin false m e) largest ≡ true
+    go (inl q) = simp (eq-eqb (m * up e * 1) (top (down e)) q, or-true (ltb (m * up e * 1) (top (down e))))
+    go (inr l) = simp (lt-ltb (m * up e * 1) (top (down e)) l)
+
+minus-below : (m : ℕ) (e : ℤ) → le (fin true m e) largest ≡ true
+unfolding lt eq le ofBits top
+minus-below m e =
+    let p = mul-pos {m = (2 ^ 53 - 1) * 2 ^ 971} (lit< tt) (down-pos e) in
+    simp (lt-ltb 0 (m * up e * 1 + top (down e)) (more (m * up e * 1) (top (down e)) p))
+  where
+    more : (a b : ℕ) → 0 < b → 0 < a + b
+    more a b h = omega arith
+
+pub non-negative-is : (x : Float) → T (fits binary64 x) → (le zeroFloat x && le x largest) ≡ nonNegative x
 unfolding lt eq le ofBits nonNegative
 non-negative-is nan h = refl
 non-negative-is (inf true) h = refl
 non-negative-is (inf false) h = refl
 non-negative-is (fin false zero e) h =
-    simp (le-ltb (0 * down e) (0 * up e * 1) (omega arith), eq-eqb (0 * down e) (0 * up e * 1) (omega arith), not-above zero e h)
+    simp (le-ltb (0 * down e) (0 * up e * 1) (omega arith), eq-eqb (0 * down e) (0 * up e * 1) (omega arith), plus-below zero e h)
 non-negative-is (fin false (suc m) e) h =
-    let p = size-pos m e in simp (lt-ltb (0 * down e) (suc m * up e * 1) (omega arith), not-above (suc m) e h)
-non-negative-is (fin true zero e) h = simp (eq-eqb (0 * down e) (0 * up e * 1) (omega arith), eq-eqb (0 * down e) 0 (omega arith))
+    let p = size-pos m e in simp (lt-ltb (0 * down e) (suc m * up e * 1) (omega arith), plus-below (suc m) e h)
+non-negative-is (fin true zero e) h =
+    simp (eq-eqb (0 * down e) (0 * up e * 1) (omega arith), eq-eqb (0 * down e) 0 (omega arith), minus-below zero e)
 non-negative-is (fin true (suc m) e) h =
     let p = size-pos m e in
     let n : 0 * down e ≡ suc m * up e * 1 → ⊥ = λ q. omega arith in
     simp (ne-eqb (0 * down e) (suc m * up e * 1) n, eqb·suc-zero m)
 
-pub positive-is : (x : Float) → T (fits binary64 x) → (lt zeroFloat x && not (lt largest x)) ≡ positive x
-unfolding lt ofBits positive
+pub positive-is : (x : Float) → T (fits binary64 x) → (lt zeroFloat x && le x largest) ≡ positive x
+unfolding lt eq le ofBits positive
 positive-is nan h = refl
 positive-is (inf true) h = refl
 positive-is (inf false) h = refl
 positive-is (fin true m e) h = refl
 positive-is (fin false zero e) h = simp (le-ltb (0 * down e) (0 * up e * 1) (omega arith))
 positive-is (fin false (suc m) e) h =
-    let p = size-pos m e in simp (lt-ltb (0 * down e) (suc m * up e * 1) (omega arith), not-above (suc m) e h, eqb·suc-zero m)
+    let p = size-pos m e in simp (lt-ltb (0 * down e) (suc m * up e * 1) (omega arith), plus-below (suc m) e h, eqb·suc-zero m)
 
 -- ---- the kinds that take a pitch
 

@@ -13,14 +13,14 @@ const LARGEST: f64 = 1.7976931348623157e308;
 fn is_non_negative(x: f64) -> bool
     ensures { λ r. ⌜ r ≡ nonNegative x ⌝ }
 {
-    (0.0 <= x) & !(LARGEST < x)
+    (0.0 <= x) & (x <= LARGEST)
 }
 
 // Whether x is finite and above zero.
 fn is_positive(x: f64) -> bool
     ensures { λ r. ⌜ r ≡ positive x ⌝ }
 {
-    (0.0 < x) & !(LARGEST < x)
+    (0.0 < x) & (x <= LARGEST)
 }
 
 // Whether a kind takes a pitch in hertz.
