@@ -1,6 +1,6 @@
 """Whether host/include/buvcsolta.h declares what the library exports: names, arguments and their types, refusal numbers, constants.
 
-    python3 check_header.py HEADER.h c_api/src/lib.rt scheme/src/lib.rt LIBRARY.so
+    python3 check_header.py HEADER.h c_api/src/lib.rt types/src/lib.rt LIBRARY.so
 """
 
 import pathlib

@@ -1,6 +1,6 @@
 """Wrong headers that check_header.py must find.
 
-    python3 test_check_header.py HEADER.h c_api/src/lib.rt scheme/src/lib.rt
+    python3 test_check_header.py HEADER.h c_api/src/lib.rt types/src/lib.rt
 """
 
 import pathlib

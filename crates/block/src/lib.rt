@@ -4,11 +4,11 @@ mod levels;
 ghost use mathlib.Core.Path.{_≡_};
 ghost use Rattle.scheme.specs.Calls.{block, blockLeft};
 use crate::levels::settle;
-use scheme::BlockAnswer;
-use scheme::Hit;
-use scheme::Instrument;
 use slices::clear;
 use steps::steps_in_turn;
+use types::BlockAnswer;
+use types::Hit;
+use types::Instrument;
 
 // As many steps as samples has places, the hit in the first; or what refuses them.
 // Ruled out: a count that does not match the levels; levels never touched.

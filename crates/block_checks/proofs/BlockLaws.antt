@@ -6,9 +6,9 @@ use Prim.Native.Nat.{ℕ}
 use lib.Dec.{eqb}
 use lib.IntN.{ℤ}
 use lib.ListN.{length}
-use Rattle.scheme.specs.declared.Grid.{Grid}
-use Rattle.scheme.specs.declared.Instrument.{Instrument}
-use Rattle.scheme.specs.declared.Hit.{Hit}
+use Rattle.types.specs.declared.Grid.{Grid}
+use Rattle.types.specs.declared.Instrument.{Instrument}
+use Rattle.types.specs.declared.Hit.{Hit}
 use Rattle.scheme.specs.Instruments.{inTable}
 use Rattle.scheme.specs.Step.{someBeyond}
 use Rattle.scheme.specs.Refusals.{wrongLength, fixedNotZero, Check, lowest, instrumentChecks, lengthChecks, hitChecks, pickChecks}

@@ -2,8 +2,8 @@
 use mathlib.Core.Bool.{_||_}
 use mathlib.Core.List.{List}
 use lib.IntN.{ℤ}
-use Rattle.scheme.specs.declared.Grid.{Grid}
-use Rattle.scheme.specs.declared.Refusal.{Refusal}
+use Rattle.types.specs.declared.Grid.{Grid}
+use Rattle.types.specs.declared.Refusal.{Refusal}
 use Rattle.scheme.specs.Step.{someBeyond}
 use Rattle.scheme.specs.Refusals.{lowest, stateChecks}
 use Rattle.levels.specs.Levels.{unfixed}

@@ -9,10 +9,10 @@ use instruments::is_nothing;
 use instruments::wrong_length;
 use levels::is_unfixed;
 use levels::some_beyond;
-use scheme::Grid;
-use scheme::Hit;
-use scheme::Instrument;
-use scheme::Refusal;
+use types::Grid;
+use types::Hit;
+use types::Instrument;
+use types::Refusal;
 
 fn either(a: bool, b: bool) -> bool
     ensures { λ r. ⌜ r ≡ (a || b) ⌝ }

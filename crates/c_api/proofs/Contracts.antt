@@ -5,10 +5,10 @@ use contract.Lifetimes.{Lfts}
 use borrow.Fn.Kinds.{endedOf}
 use borrow.Fn.World.{ArgsD, ResD}
 use denote.Triple.Clauses.{AtExit}
-use Rattle.scheme.specs.declared.Grid.{Grid}
-use Rattle.scheme.specs.declared.Instrument.{Instrument}
-use Rattle.scheme.specs.declared.Hit.{Hit}
-use Rattle.scheme.specs.Refusals.{number}
+use Rattle.types.specs.declared.Grid.{Grid}
+use Rattle.types.specs.declared.Instrument.{Instrument}
+use Rattle.types.specs.declared.Hit.{Hit}
+use Rattle.types.specs.Numbers.{number}
 use Rattle.scheme.specs.Calls as Calls
 use Rattle.scheme.specs.Book.{blockCall, pluckCall, blockOutcome, pluckOutcome, leaves, leftByBlock, leftByPluck}
 use Rattle.scheme.specs.Program.{Made, Kept}

@@ -3,8 +3,8 @@ use mathlib.Core.List.{List}
 use Prim.Native.Nat.{ℕ}
 use lib.Ieee.{Float}
 use lib.IntN.{ℤ}
-use Rattle.scheme.specs.declared.ReadingAnswer.{ReadingAnswer}
-use Rattle.scheme.specs.Refusals.{number}
+use Rattle.types.specs.declared.ReadingAnswer.{ReadingAnswer}
+use Rattle.types.specs.Numbers.{number}
 use Rattle.scheme.specs.Calls.{AfterBlock, AfterPluck}
 use Rattle.scheme.specs.Calls as Calls
 use Rattle.sheet.specs.declared.SheetAnswer.{SheetAnswer}

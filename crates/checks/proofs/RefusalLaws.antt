@@ -4,8 +4,8 @@ use mathlib.Core.Bool.{Bool, true}
 use mathlib.Core.List.{List, _++_}
 use Prim.Native.Nat.{ℕ}
 use lib.IntN.{ℤ}
-use Rattle.scheme.specs.declared.Grid.{Grid}
-use Rattle.scheme.specs.declared.Hit.the-variants.{At}
+use Rattle.types.specs.declared.Grid.{Grid}
+use Rattle.types.specs.declared.Hit.the-variants.{At}
 use Rattle.scheme.specs.Instruments.{inTable}
 use Rattle.scheme.specs.Refusals.{Check, lowest, gridChecks, lengthChecks, hitChecks, widthChecks, lastPlucked, pluckChecks}
 use Rattle.instruments.proofs.RefusalLaws.{second-same, grid-in}

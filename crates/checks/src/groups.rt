@@ -5,11 +5,11 @@ ghost use Rattle.scheme.specs.Instruments.{inTable};
 ghost use Rattle.scheme.specs.Refusals.{lowest, hitChecks, pickChecks, widthChecks};
 use levels::is_beyond;
 use runs::is_moving;
-use scheme::Grid;
-use scheme::Hit;
-use scheme::Refusal;
 use sizes::is_within;
 use sizes::points_of;
+use types::Grid;
+use types::Hit;
+use types::Refusal;
 
 // 7 and 8.
 pub(crate) fn hit_refusal(g: Grid, h: Hit) -> Refusal

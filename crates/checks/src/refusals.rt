@@ -7,10 +7,10 @@ use crate::groups::width_refusal;
 use instruments::grid_refusal;
 use instruments::instrument_refusal;
 use instruments::is_nothing;
-use scheme::Grid;
-use scheme::Hit;
-use scheme::Instrument;
-use scheme::Refusal;
+use types::Grid;
+use types::Hit;
+use types::Instrument;
+use types::Refusal;
 
 // A block's 1, 2 and 4 to 9, by a test of all the lengths that are lent. Ruled out: the hit not looked at; the pick-up not looked at.
 pub fn input_refusal(i: Instrument, wrong: bool, pick: usize, h: Hit) -> Refusal

@@ -7,12 +7,13 @@ use native.Mathlib.Omega.{arith}
 use borrow.Author.Tests.{ne-eqb, not-true, not-false}
 use mir.Facts as F
 use lib.Dec.{T, eqb, ltb, ltb→lt}
-use Rattle.scheme.specs.declared.Grid.{Grid}
-use Rattle.scheme.specs.declared.Instrument.{Instrument}
-use Rattle.scheme.specs.declared.Refusal.{Refusal}
-use Rattle.scheme.specs.declared.Refusal.the-variants.{Nothing}
+use Rattle.types.specs.declared.Grid.{Grid}
+use Rattle.types.specs.declared.Instrument.{Instrument}
+use Rattle.types.specs.declared.Refusal.{Refusal}
+use Rattle.types.specs.declared.Refusal.the-variants.{Nothing}
+use Rattle.types.specs.Numbers.{number}
 use Rattle.scheme.specs.Instruments.{points, inTable}
-use Rattle.scheme.specs.Refusals.{number, wrongLength, Check, _⇒_, lowest, gridChecks, instrumentChecks}
+use Rattle.scheme.specs.Refusals.{wrongLength, Check, _⇒_, lowest, gridChecks, instrumentChecks}
 use Rattle.scheme.specs.Calls.{accepted}
 use Rattle.scheme.proofs.Laws.Refusals.{refusing, NoneApplies, none-applies, accepted-is}
 use Rattle.instruments.specs.Refused.{notLong}

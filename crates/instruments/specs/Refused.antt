@@ -2,7 +2,7 @@
 use mathlib.Core.Bool.{Bool, not}
 use Prim.Native.Nat.{ℕ}
 use lib.Dec.{eqb}
-use Rattle.scheme.specs.declared.Grid.{Grid}
+use Rattle.types.specs.declared.Grid.{Grid}
 use Rattle.sizes.specs.Sizes.{pointsOf}
 
 -- 6, of n points: `wrongLength` where the table has the size (`long-is`); where it has not, 1 or 2 answers

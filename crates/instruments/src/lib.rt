@@ -3,14 +3,14 @@ ghost use mathlib.Core.Path.{_≡_};
 ghost use Rattle.scheme.specs.Refusals.{wrongCoefficient, lowest, gridChecks, settingsChecks, instrumentRefusal};
 ghost use Rattle.scheme.specs.Calls.{accepted};
 ghost use Rattle.instruments.specs.Refused.{notLong};
-use scheme::Grid;
-use scheme::Instrument;
-use scheme::Refusal;
-use scheme::Settings;
 use sizes::has_size;
 use sizes::is_stable;
 use sizes::is_within;
 use sizes::points_of;
+use types::Grid;
+use types::Instrument;
+use types::Refusal;
+use types::Settings;
 
 // Whether a call is carried out. Ruled out: 13 taken for nothing; nothing taken for a refusal.
 pub fn is_nothing(r: Refusal) -> bool

@@ -10,7 +10,7 @@ use borrow.Author.Tests.{ltb-true, ltb-false, leb-true, leb-false, eqb-false, lt
 use lib.Arith.{digits-lt, digits-div, digits-mod}
 use lib.Dec.{ltb, leb, eqb, leb·zero, eqb·suc-zero}
 use Rattle.integers.proofs.Order.{≤-totalℕ}
-use Rattle.scheme.specs.declared.Grid.{Grid}
+use Rattle.types.specs.declared.Grid.{Grid}
 use Rattle.scheme.specs.Instruments.{Kind, unknown, fixedString, halfFreeString, freeString, bar, membrane, roundMembrane, kindOf, kind}
 use Rattle.scheme.specs.Instruments.{points, sizeIn, atEdge, roundEdge, fixedIn, fixed, moving, inTable}
 use Rattle.scheme.proofs.Laws.Bools.{and-both, and-yes, and-no, or-no, not-so, same}

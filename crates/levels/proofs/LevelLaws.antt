@@ -15,7 +15,7 @@ use lib.Signed.{mag, ltZ}
 use mir.Syntax.{w64}
 use mir.Val.{toZ, ofZ}
 use Rattle.bounded.proofs.Num.{back}
-use Rattle.scheme.specs.declared.Grid.{Grid}
+use Rattle.types.specs.declared.Grid.{Grid}
 use Rattle.scheme.proofs.Laws.Bools.{cases}
 use Rattle.scheme.specs.Lists.{someBelow}
 use Rattle.scheme.specs.Instruments.{beyond, Kind, roundMembrane, points, column, row, roundEdge, fixedIn, fixed}

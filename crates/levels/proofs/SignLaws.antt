@@ -11,7 +11,8 @@ use lib.Signed.{mag, ltZ}
 use mir.Syntax.{w64}
 use mir.Val.{toZ, ofZ}
 use Rattle.bounded.proofs.Num.{back}
-use Rattle.scheme.specs.Instruments.{ceiling, beyond}
+use Rattle.types.specs.Numbers.{ceiling}
+use Rattle.scheme.specs.Instruments.{beyond}
 use Rattle.scheme.proofs.Laws.Bools.{cases}
 use Rattle.levels.specs.Levels.{bitsOf, signed}
 

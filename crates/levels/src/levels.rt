@@ -13,12 +13,12 @@ ghost use Rattle.levels.specs.Levels.{bitsOf, signed, someNotZero, rowNo
 use kinds::Run;
 use kinds::is_round_fixed;
 use kinds::straight_run;
-use scheme::Grid;
-use scheme::Settings;
 use sizes::has_size;
 use sizes::points_of;
 use std::num::wrapping_add_u64;
 use std::num::wrapping_sub_u64;
+use types::Grid;
+use types::Settings;
 
 // Ruled out: the ceiling itself taken as beyond; below zero, all but the points beyond.
 pub fn is_beyond(v: i64) -> bool

@@ -14,7 +14,7 @@ use lib.Ieee.Compare.{differs-from-itself, nan-differs}
 use lib.Ieee.Exact.{HasValue, odd-sign}
 use lib.Ieee.Fits.{down-pos}
 use Rattle.integers.proofs.Ring.{_⊗_, ⊝_, _≈_, ring}
-use Rattle.scheme.specs.Instruments.{D}
+use Rattle.types.specs.Numbers.{D}
 use Rattle.scheme.specs.Step.{nearest}
 use Rattle.nearest.specs.declared.Whole.the-variants.{Is, Outside}
 use Rattle.nearest.specs.Nearest.{signed, halvesUp, wholeIn, nearestTimes, nearestWhole}

@@ -10,7 +10,7 @@ use lib.IntN.{ℤ, pos, negsuc, negℤ, _+ℤ_, _*ℤ_}
 use lib.Pow.{pow-add, pow-pos}
 use lib.Signed.{shrZ}
 use Rattle.integers.proofs.Ring.{_⊕_, _⊗_, ⊝_, #_, _≈_, ring}
-use Rattle.scheme.specs.Instruments.{D}
+use Rattle.types.specs.Numbers.{D}
 use Rattle.scheme.specs.Step.{nearest}
 use Rattle.nearest.specs.declared.Whole.the-variants.{Is, Outside}
 use Rattle.nearest.specs.Nearest.{signed, halvesUp, wholeIn}

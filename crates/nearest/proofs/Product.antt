@@ -14,7 +14,7 @@ use lib.Ieee.Digits.{back, size-le}
 use lib.Ieee.Exact.{round-exact}
 use lib.Ieee.Fits.{round-is, down-pos, and-l, and-r}
 use lib.Ieee.Nearest.{nearest-ge}
-use Rattle.scheme.specs.Instruments.{D}
+use Rattle.types.specs.Numbers.{D}
 use Rattle.nearest.specs.Nearest.{signed, halvesUp, wholeIn, nearestTimes, nearestWhole}
 use Rattle.nearest.specs.Claims.{ProductAlike}
 use Rattle.nearest.proofs.Fields.{same-size, by-value, two-or-more}

@@ -4,7 +4,7 @@ use Prim.Native.Nat.{_*_, _≤_, zero-le}
 use lib.Dec.{T, leb, leb→le}
 use lib.Ieee.{Float, nan, inf, fin, up, down}
 use lib.IntN.{ℤ, pos, negsuc}
-use Rattle.scheme.specs.Instruments.{D}
+use Rattle.types.specs.Numbers.{D}
 use Rattle.nearest.specs.declared.Whole.the-variants.{Is, Outside}
 use Rattle.nearest.specs.Nearest.{valueOf, signed, halvesUp, wholeIn, nearestTimes, nearestWhole}
 

@@ -3,7 +3,7 @@ use mathlib.Core.Path.{_≡_}
 use lib.Dec.{T}
 use lib.Ieee.{Float, binary64, mul, ofInt, fits}
 use lib.IntN.{pos}
-use Rattle.scheme.specs.Instruments.{D}
+use Rattle.types.specs.Numbers.{D}
 use Rattle.nearest.specs.Nearest.{nearestTimes, nearestWhole}
 
 -- "Each result times 65536" may be read as a float operation or exactly: the product of floats is exact, or an infinity that is outside

@@ -4,7 +4,7 @@ use mathlib.Core.Bool.{true, false}
 use Prim.Native.Nat.{ℕ, _+_, _-_, _^_}
 use lib.Ieee.{Float, nan, inf, fin}
 use lib.IntN.{pos, negsuc}
-use Rattle.scheme.specs.Instruments.{D}
+use Rattle.types.specs.Numbers.{D}
 use Rattle.nearest.specs.declared.Whole.the-variants.{Is, Outside}
 use Rattle.nearest.specs.Nearest.{nearestTimes, nearestWhole}
 

@@ -5,7 +5,7 @@ use lib.Dec.{leb}
 use lib.Ieee.{Float, nan, inf, fin, up, down}
 use lib.IntN.{ℤ, pos, negsuc, negℤ, _+ℤ_, _*ℤ_}
 use lib.Signed.{shrZ}
-use Rattle.scheme.specs.Instruments.{D}
+use Rattle.types.specs.Numbers.{D}
 use Rattle.nearest.specs.declared.Whole.{Whole}
 use Rattle.nearest.specs.declared.Whole.the-variants.{Is, Outside}
 

@@ -4,7 +4,7 @@ ghost use Prim.Native.Nat.{_≤_, _<_, _/_, _%_, _^_};
 ghost use lib.Ieee.{binary64, ofBits};
 ghost use Rattle.scheme.specs.Step.{nearest};
 ghost use Rattle.nearest.specs.Nearest.{outside, valueOf, nearestWhole};
-use scheme::Settings;
+use types::Settings;
 
 // A whole number from 0 to D, or none. The definitions `outside` and `valueOf` tell what the paper makes of each.
 pub enum Whole {

@@ -1,13 +1,13 @@
 // What C's numbers and flags stand for: an instrument, a hit, a sheet.
 ghost use mathlib.Core.Path.{_≡_};
 ghost use Rattle.packing.specs.Packing.{instrumentOf, hitOf, speedOf, lossOf, sheetOf};
-use scheme::Grid;
-use scheme::Hit;
-use scheme::Instrument;
-use scheme::Settings;
 use sheet::Loss;
 use sheet::Sheet;
 use sheet::Speed;
+use types::Grid;
+use types::Hit;
+use types::Instrument;
+use types::Settings;
 
 // Ruled out: columns and rows exchanged; q and m exchanged.
 pub fn instrument_of(kind: u64, columns: usize, rows: usize, q: u64, m: u64, s: u64) -> Instrument

@@ -9,10 +9,10 @@ use borrow.Author.Tests.{ltb-false}
 use lib.Dec.{ltb}
 use lib.IntN.{ℤ, pos}
 use lib.ListN.{length, take, replicate}
-use Rattle.scheme.specs.declared.Instrument.{Instrument}
-use Rattle.scheme.specs.declared.Hit.{Hit}
-use Rattle.scheme.specs.declared.Refusal.{Refusal}
-use Rattle.scheme.specs.declared.Refusal.the-variants.{UnknownKind, WrongSize}
+use Rattle.types.specs.declared.Instrument.{Instrument}
+use Rattle.types.specs.declared.Hit.{Hit}
+use Rattle.types.specs.declared.Refusal.{Refusal}
+use Rattle.types.specs.declared.Refusal.the-variants.{UnknownKind, WrongSize}
 use Rattle.scheme.specs.Instruments.{within, points}
 use Rattle.scheme.specs.Refusals.{lastKind, wrongLength, blockRefusal}
 use Rattle.scheme.specs.Calls.{AfterBlock, accepted, block, blockRefused}

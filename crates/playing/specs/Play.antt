@@ -4,10 +4,10 @@ use mathlib.Core.List.{List}
 use Prim.Native.Nat.{ℕ}
 use lib.IntN.{ℤ, pos}
 use lib.ListN.{replicate}
-use Rattle.scheme.specs.declared.Instrument.{Instrument}
-use Rattle.scheme.specs.declared.Hit.{Hit}
-use Rattle.scheme.specs.declared.BlockAnswer.{BlockAnswer}
-use Rattle.scheme.specs.declared.Refusal.the-variants.{WrongSize}
+use Rattle.types.specs.declared.Instrument.{Instrument}
+use Rattle.types.specs.declared.Hit.{Hit}
+use Rattle.types.specs.declared.BlockAnswer.{BlockAnswer}
+use Rattle.types.specs.declared.Refusal.the-variants.{WrongSize}
 use Rattle.scheme.specs.Instruments.{points}
 use Rattle.scheme.specs.Calls.{AfterBlock, block}
 use Rattle.line.specs.declared.types.Numbers.{Numbers}

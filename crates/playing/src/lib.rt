@@ -6,11 +6,11 @@ ghost use lib.ListN.{replicate};
 ghost use Rattle.playing.specs.Play.{heard, heardOf, blockAtRest, played};
 use block::block;
 use line::Numbers;
-use scheme::BlockAnswer;
-use scheme::Hit;
-use scheme::Instrument;
-use scheme::Refusal;
 use setup::set_up;
+use types::BlockAnswer;
+use types::Hit;
+use types::Instrument;
+use types::Refusal;
 
 // A level at rest.
 fn at_rest() -> [i64; 1024]

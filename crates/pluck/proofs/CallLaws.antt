@@ -8,12 +8,13 @@ use native.Mathlib.Omega.{arith}
 use borrow.Author.Tests.{ltb-true, ltb-false, leb-true, not-false}
 use lib.Dec.{leb}
 use lib.IntN.{ℤ, pos, natAbs}
-use Rattle.scheme.specs.declared.Grid.{Grid}
+use Rattle.types.specs.declared.Grid.{Grid}
+use Rattle.types.specs.declared.Refusal.the-variants.{Nothing}
+use Rattle.types.specs.Numbers.{ceiling}
 use Rattle.scheme.specs.Lists.{tabulate}
-use Rattle.scheme.specs.Instruments.{ceiling, points, moving}
+use Rattle.scheme.specs.Instruments.{points, moving}
 use Rattle.scheme.specs.Pluck.{distanceFrom, pluckValue, pluckAt, pluckLevel}
 use Rattle.scheme.specs.Refusals.{lastPlucked, wrongLength, lowest, pluckChecks, pluckRefusal}
-use Rattle.scheme.specs.declared.Refusal.the-variants.{Nothing}
 use Rattle.scheme.specs.Passing.{PluckPasses}
 use Rattle.scheme.proofs.Laws.Bools.{and-both}
 use Rattle.scheme.proofs.Laws.Kinds.{within-is, sized}

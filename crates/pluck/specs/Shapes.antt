@@ -6,8 +6,8 @@ use Prim.Native.Nat.{ℕ, _+_, _-_, _*_, _/_, _≤_, _<_}
 use lib.Dec.{leb, ltb}
 use lib.IntN.{ℤ, pos, natAbs}
 use lib.ListN.{length, set}
+use Rattle.types.specs.Numbers.{ceiling}
 use Rattle.scheme.specs.Lists.{point}
-use Rattle.scheme.specs.Instruments.{ceiling}
 use Rattle.scheme.specs.Pluck.{distanceFrom, pluckValue}
 use Rattle.kinds.specs.Runs.{inRun}
 use Rattle.pluck.specs.declared.shape.Shape.{Shape}

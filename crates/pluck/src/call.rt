@@ -2,9 +2,9 @@
 ghost use mathlib.Core.Path.{_≡_};
 ghost use mathlib.Core.Bool.{_||_};
 ghost use lib.ListN.{length};
-ghost use Rattle.scheme.specs.declared.Refusal.the-variants.{Nothing};
+ghost use Rattle.types.specs.declared.Refusal.the-variants.{Nothing};
+ghost use Rattle.pluck_table.specs.Table.{ShapeRule};
 ghost use Rattle.scheme.specs.Refusals.{pluckRefusal};
-ghost use Rattle.scheme.specs.Table.{ShapeRule};
 ghost use Rattle.scheme.specs.Pluck.{pluckLevel};
 ghost use Rattle.scheme.specs.Calls.{pluckLeft};
 ghost use Rattle.scheme.specs.Calls as Calls;
@@ -15,9 +15,9 @@ use crate::table::TABLE;
 use checks::pluck_refusal;
 use instruments::is_nothing;
 use kinds::straight_run;
-use scheme::Grid;
-use scheme::Refusal;
 use sizes::points_of;
+use types::Grid;
+use types::Refusal;
 
 // 6, of two levels of so many points.
 fn wrong_levels(g: Grid, older: usize, newer: usize) -> bool

@@ -2,14 +2,14 @@
 ghost use mathlib.Core.Path.{_≡_};
 ghost use Prim.Native.Nat.{_≤_};
 ghost use lib.IntN.{natAbs};
-ghost use Rattle.scheme.specs.Instruments.{ceiling};
+ghost use Rattle.types.specs.Numbers.{ceiling};
 ghost use Rattle.scheme.specs.Step.{floatOf};
 ghost use Rattle.scheme.specs.Calls as Calls;
 use instruments::is_nothing;
 use reading_checks::reading_refusal;
-use scheme::Grid;
-use scheme::ReadingAnswer;
-use scheme::Refusal;
+use types::Grid;
+use types::ReadingAnswer;
+use types::Refusal;
 
 // The value of a point over 2⁴³.
 fn float_of(v: i64) -> f64

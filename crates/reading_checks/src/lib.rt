@@ -8,8 +8,8 @@ use instruments::is_nothing;
 use instruments::wrong_length;
 use levels::is_unfixed;
 use levels::some_beyond;
-use scheme::Grid;
-use scheme::Refusal;
+use types::Grid;
+use types::Refusal;
 
 // 11 and 12 of one level.
 fn level_refusal(g: Grid, xs: &[i64]) -> Refusal

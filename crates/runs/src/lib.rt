@@ -7,8 +7,8 @@ ghost use Rattle.kinds.specs.Runs.{inRun, roundRun, rowRun, runOf};
 use kinds::Run;
 use kinds::is_round_fixed;
 use kinds::straight_run;
-use scheme::Grid;
 use sizes::has_size;
+use types::Grid;
 
 // Row b of a round membrane of c columns: from its first moving column, and as far from the right.
 fn round_run(c: usize, b: usize) -> Run

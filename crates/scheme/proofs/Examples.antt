@@ -2,11 +2,11 @@
 use mathlib.Core.Path.{refl}
 use lib.Ieee.{ofBits, div, ofInt}
 use Rattle.integers.specs.Sum.{sum, sumOver}
+use Rattle.pluck_table.specs.Table.{table}
 use Rattle.scheme.specs.Lists.{tabulate, someBelow, countBelow, only}
 use Rattle.scheme.specs.Instruments.{kindOf, sizeIn, stableIn, roundEdge, fixedIn, moving, freeIn}
 use Rattle.scheme.specs.Step.{beside, neighbours, laplacian, innerLaplacian, numerator, roundAway, nextAt, nextLevel, someBeyond}
 use Rattle.scheme.specs.Step.{sampleOf, floatOf}
-use Rattle.scheme.specs.Table.{table}
 use Rattle.scheme.specs.Pluck.{pluckAt, pluckLevel}
 use Rattle.scheme.specs.Refusals.{fixedNotZero, blockRefusal, pluckRefusal, readingRefusal, instrumentRefusal}
 use Rattle.scheme.specs.Calls.{play, block, pluck, reading}

@@ -8,4 +8,3 @@ pub mod Step
 pub mod Refusals
 pub mod Ranges
 pub mod Calls
-pub mod Table

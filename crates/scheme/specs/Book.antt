@@ -4,17 +4,17 @@ use mathlib.Core.List.{List, [], _∷_, map}
 use Prim.Native.Nat.{ℕ, zero, suc, _^_}
 use lib.Dec.{eqb}
 use lib.IntN.{ℤ, pos, _*ℤ_}
-use Rattle.scheme.specs.declared.Settings.{Settings}
-use Rattle.scheme.specs.declared.Grid.{Grid}
-use Rattle.scheme.specs.declared.Instrument.{Instrument}
-use Rattle.scheme.specs.declared.Hit.{Hit}
-use Rattle.scheme.specs.declared.Hit.the-variants.{Absent}
-use Rattle.scheme.specs.declared.BlockAnswer.{BlockAnswer}
-use Rattle.scheme.specs.declared.Refusal.{Refusal}
+use Rattle.types.specs.declared.Settings.{Settings}
+use Rattle.types.specs.declared.Grid.{Grid}
+use Rattle.types.specs.declared.Instrument.{Instrument}
+use Rattle.types.specs.declared.Hit.{Hit}
+use Rattle.types.specs.declared.Hit.the-variants.{Absent}
+use Rattle.types.specs.declared.BlockAnswer.{BlockAnswer}
+use Rattle.types.specs.declared.Refusal.{Refusal}
+use Rattle.pluck_table.specs.Table.{table}
 use Rattle.scheme.specs.Lists.{tabulate, point}
 use Rattle.scheme.specs.Instruments.{points, moving}
 use Rattle.scheme.specs.Step.{numerator, forceOf, divisor}
-use Rattle.scheme.specs.Table.{table}
 use Rattle.scheme.specs.Pluck.{pluckLevel}
 use Rattle.scheme.specs.Calls.{accepted, AfterBlock, block, AfterPluck, pluck}
 

@@ -8,20 +8,21 @@ use lib.Dec.{eqb}
 use lib.Ieee.{binary64, ofInt}
 use lib.IntN.{ℤ, pos}
 use lib.ListN.{length, replicate}
-use Rattle.scheme.specs.declared.Grid.{Grid}
-use Rattle.scheme.specs.declared.Instrument.{Instrument}
-use Rattle.scheme.specs.declared.Hit.{Hit}
-use Rattle.scheme.specs.declared.Hit.the-variants.{Absent}
-use Rattle.scheme.specs.declared.BlockAnswer.{BlockAnswer}
-use Rattle.scheme.specs.declared.ReadingAnswer.{ReadingAnswer}
-use Rattle.scheme.specs.declared.Refusal.{Refusal}
-use Rattle.scheme.specs.declared.Refusal.the-variants.{Nothing, NextBeyond}
+use Rattle.types.specs.declared.Grid.{Grid}
+use Rattle.types.specs.declared.Instrument.{Instrument}
+use Rattle.types.specs.declared.Hit.{Hit}
+use Rattle.types.specs.declared.Hit.the-variants.{Absent}
+use Rattle.types.specs.declared.BlockAnswer.{BlockAnswer}
+use Rattle.types.specs.declared.ReadingAnswer.{ReadingAnswer}
+use Rattle.types.specs.declared.Refusal.{Refusal}
+use Rattle.types.specs.declared.Refusal.the-variants.{Nothing, NextBeyond}
+use Rattle.types.specs.Numbers.{number}
+use Rattle.pluck_table.specs.Table.{table}
 use Rattle.scheme.specs.Lists.{point}
 use Rattle.scheme.specs.Instruments.{points}
 use Rattle.scheme.specs.Step.{nextLevel, someBeyond, sampleOf, floatOf}
-use Rattle.scheme.specs.Table.{table}
 use Rattle.scheme.specs.Pluck.{pluckLevel}
-use Rattle.scheme.specs.Refusals.{number, wrongLength, blockRefusal, pluckRefusal, readingRefusal}
+use Rattle.scheme.specs.Refusals.{wrongLength, blockRefusal, pluckRefusal, readingRefusal}
 
 -- "a call for which none applies is carried out"
 abbrev pub accepted : Refusal → Bool

@@ -7,11 +7,11 @@ use Prim.Native.Nat.{ℕ, zero, suc, _*_}
 use lib.IntN.{ℤ, pos, _*ℤ_}
 use lib.ListN.{length}
 use lib.Signed.{_≤ℤ_}
-use Rattle.scheme.specs.declared.Grid.{Grid}
-use Rattle.scheme.specs.declared.Instrument.{Instrument}
-use Rattle.scheme.specs.declared.Hit.{Hit}
-use Rattle.scheme.specs.declared.Hit.the-variants.{Absent}
-use Rattle.scheme.specs.declared.Refusal.the-variants.{Nothing}
+use Rattle.types.specs.declared.Grid.{Grid}
+use Rattle.types.specs.declared.Instrument.{Instrument}
+use Rattle.types.specs.declared.Hit.{Hit}
+use Rattle.types.specs.declared.Hit.the-variants.{Absent}
+use Rattle.types.specs.declared.Refusal.the-variants.{Nothing}
 use Rattle.scheme.specs.Lists.{point, square}
 use Rattle.scheme.specs.Instruments.{points}
 use Rattle.scheme.specs.Step.{divisor, someBeyond}

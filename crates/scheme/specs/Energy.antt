@@ -5,10 +5,11 @@ use Prim.Native.Nat.{ℕ, _+_, _*_}
 use lib.Dec.{ltb}
 use lib.IntN.{ℤ, pos, _+ℤ_, _-ℤ_, _*ℤ_}
 use Rattle.integers.specs.Sum.{sum, sumOver}
-use Rattle.scheme.specs.declared.Grid.{Grid}
-use Rattle.scheme.specs.declared.Instrument.{Instrument}
+use Rattle.types.specs.declared.Grid.{Grid}
+use Rattle.types.specs.declared.Instrument.{Instrument}
+use Rattle.types.specs.Numbers.{D}
 use Rattle.scheme.specs.Lists.{only, square}
-use Rattle.scheme.specs.Instruments.{D, points, column, row, freeEnd}
+use Rattle.scheme.specs.Instruments.{points, column, row, freeEnd}
 use Rattle.scheme.specs.Step.{innerLaplacian}
 
 -- "In the first sum a free end counts half": doubled, 1 at a free end and 2 elsewhere

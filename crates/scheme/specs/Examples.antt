@@ -4,13 +4,14 @@ use mathlib.Core.Bool.{true}
 use mathlib.Core.List.{List, [], _∷_, map}
 use Prim.Native.Nat.{ℕ}
 use lib.IntN.{ℤ, pos, negℤ}
-use Rattle.scheme.specs.declared.Grid.{Grid}
-use Rattle.scheme.specs.declared.Instrument.{Instrument}
-use Rattle.scheme.specs.declared.Hit.the-variants.{Absent}
+use Rattle.types.specs.declared.Grid.{Grid}
+use Rattle.types.specs.declared.Instrument.{Instrument}
+use Rattle.types.specs.declared.Hit.the-variants.{Absent}
+use Rattle.types.specs.Numbers.{number}
 use Rattle.scheme.specs.Lists.{countBelow}
 use Rattle.scheme.specs.Instruments.{kindOf, sizeIn, moving}
 use Rattle.scheme.specs.Step.{nextLevel}
-use Rattle.scheme.specs.Refusals.{number, instrumentRefusal}
+use Rattle.scheme.specs.Refusals.{instrumentRefusal}
 
 -- kind, columns, rows
 abbrev pub grid : ℕ → ℕ → ℕ → Grid

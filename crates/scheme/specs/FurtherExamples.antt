@@ -8,18 +8,18 @@ use Prim.Native.Nat.{ℕ, _+_, _^_}
 use lib.Ieee.{binary64, ofBits}
 use lib.IntN.{ℤ, pos}
 use lib.ListN.{length}
-use Rattle.scheme.specs.declared.Instrument.{Instrument}
-use Rattle.scheme.specs.declared.Hit.{Hit}
-use Rattle.scheme.specs.declared.Hit.the-variants.{Absent, At}
-use Rattle.scheme.specs.declared.Refusal.the-variants.{Nothing, UnknownKind, WrongSize, SheetNumber, Coefficient, Unstable}
-use Rattle.scheme.specs.declared.Refusal.the-variants.{WrongLength, NotMoving, TooStrong, PickUp, HalfWidth, PointBeyond}
-use Rattle.scheme.specs.declared.Refusal.the-variants.{FixedNotZero, NextBeyond}
+use Rattle.types.specs.declared.Instrument.{Instrument}
+use Rattle.types.specs.declared.Hit.{Hit}
+use Rattle.types.specs.declared.Hit.the-variants.{Absent, At}
+use Rattle.types.specs.declared.Refusal.the-variants.{Nothing, UnknownKind, WrongSize, SheetNumber, Coefficient, Unstable}
+use Rattle.types.specs.declared.Refusal.the-variants.{WrongLength, NotMoving, TooStrong, PickUp, HalfWidth, PointBeyond}
+use Rattle.types.specs.declared.Refusal.the-variants.{FixedNotZero, NextBeyond}
+use Rattle.types.specs.Numbers.{ceiling, number}
+use Rattle.pluck_table.specs.Table.{table}
 use Rattle.scheme.specs.Lists.{point}
-use Rattle.scheme.specs.Instruments.{ceiling}
 use Rattle.scheme.specs.Step.{nextLevel, sampleOf}
-use Rattle.scheme.specs.Table.{table}
 use Rattle.scheme.specs.Pluck.{pluckLevel}
-use Rattle.scheme.specs.Refusals.{number, wrongLength, instrumentRefusal, blockRefusal, pluckRefusal, readingRefusal}
+use Rattle.scheme.specs.Refusals.{wrongLength, instrumentRefusal, blockRefusal, pluckRefusal, readingRefusal}
 use Rattle.scheme.specs.Calls.{block, pluck, reading}
 use Rattle.scheme.specs.Energy.{energy}
 use Rattle.scheme.specs.Book.{stepOf, Call, blockCall, pluckCall, blockOutcome, pluckOutcome, AfterCalls, State, start, calls}

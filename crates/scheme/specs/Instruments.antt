@@ -1,21 +1,16 @@
 -- "The instrument and its numbers".
 use mathlib.Core.Bool.{Bool, true, false, not, _&&_, _||_}
 use mathlib.Core.List.{[], _∷_}
-use Prim.Native.Nat.{ℕ, _+_, _*_, _/_, _%_, _^_}
+use Prim.Native.Nat.{ℕ, _+_, _*_, _/_, _%_}
 use lib.Dec.{leb, ltb, eqb}
 use lib.IntN.{ℤ, pos, natAbs, _+ℤ_, _-ℤ_}
 use lib.ListN.{getD}
 use lib.Signed.{leZ}
-use Rattle.scheme.specs.declared.Grid.{Grid}
+use Rattle.types.specs.declared.Grid.{Grid}
+use Rattle.types.specs.Numbers.{D, ceiling}
 use Rattle.scheme.specs.Lists.{square}
 
--- "Settings are whole numbers over D = 65536"
-abbrev pub D : ℕ
-D = 65536
-
--- "The ceiling is 32767 × 2²⁸"
-abbrev pub ceiling : ℕ
-ceiling = 32767 * 2 ^ 28
+-- "Settings are whole numbers over D = 65536", "The ceiling is 32767 × 2²⁸": `D` and `ceiling` of crate types
 
 -- "every point lies within it on either side of zero": this one does not
 abbrev pub beyond : ℤ → Bool

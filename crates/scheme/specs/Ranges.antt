@@ -1,8 +1,8 @@
 -- How large the numbers of a step are. Vocabulary of proofs and of private functions: no promise of a public function cites it.
 use Prim.Native.Nat.{ℕ, _+_, _*_, _^_, _≤_}
 use lib.IntN.{ℤ, pos, natAbs, _+ℤ_, _-ℤ_, _*ℤ_}
-use Rattle.scheme.specs.declared.Settings.{Settings}
-use Rattle.scheme.specs.Instruments.{D, ceiling}
+use Rattle.types.specs.declared.Settings.{Settings}
+use Rattle.types.specs.Numbers.{D, ceiling}
 use Rattle.scheme.specs.Step.{numeratorOf}
 
 -- every value is at most B

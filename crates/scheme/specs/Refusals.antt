@@ -5,35 +5,20 @@ use Prim.Native.Nat.{ℕ, _-_}
 use lib.Dec.{T, leb, ltb, eqb}
 use lib.IntN.{ℤ, natAbs}
 use lib.ListN.{length}
-use Rattle.scheme.specs.declared.Settings.{Settings}
-use Rattle.scheme.specs.declared.Grid.{Grid}
-use Rattle.scheme.specs.declared.Instrument.{Instrument}
-use Rattle.scheme.specs.declared.Hit.{Hit}
-use Rattle.scheme.specs.declared.Hit.the-variants.{Absent, At}
-use Rattle.scheme.specs.declared.Refusal.{Refusal}
-use Rattle.scheme.specs.declared.Refusal.the-variants.{Nothing, UnknownKind, WrongSize, SheetNumber, Coefficient, Unstable}
-use Rattle.scheme.specs.declared.Refusal.the-variants.{WrongLength, NotMoving, TooStrong, PickUp, HalfWidth, PointBeyond}
-use Rattle.scheme.specs.declared.Refusal.the-variants.{FixedNotZero, NextBeyond}
+use Rattle.types.specs.declared.Settings.{Settings}
+use Rattle.types.specs.declared.Grid.{Grid}
+use Rattle.types.specs.declared.Instrument.{Instrument}
+use Rattle.types.specs.declared.Hit.{Hit}
+use Rattle.types.specs.declared.Hit.the-variants.{Absent, At}
+use Rattle.types.specs.declared.Refusal.{Refusal}
+use Rattle.types.specs.declared.Refusal.the-variants.{Nothing, UnknownKind, WrongSize, Coefficient, Unstable, WrongLength, NotMoving}
+use Rattle.types.specs.declared.Refusal.the-variants.{TooStrong, PickUp, HalfWidth, PointBeyond, FixedNotZero}
+use Rattle.types.specs.Numbers.{D, number}
 use Rattle.scheme.specs.Lists.{point, someBelow}
-use Rattle.scheme.specs.Instruments.{D, kind, beyond, points, within, inTable, stableIn, fixed, moving}
+use Rattle.scheme.specs.Instruments.{kind, beyond, points, within, inTable, stableIn, fixed, moving}
 use Rattle.scheme.specs.Step.{someBeyond}
 
--- the paper's number of each, 0 for none
-abbrev pub number : Refusal → ℕ
-number Nothing = 0
-number UnknownKind = 1
-number WrongSize = 2
-number SheetNumber = 3
-number Coefficient = 4
-number Unstable = 5
-number WrongLength = 6
-number NotMoving = 7
-number TooStrong = 8
-number PickUp = 9
-number HalfWidth = 10
-number PointBeyond = 11
-number FixedNotZero = 12
-number NextBeyond = 13
+-- the paper's number of each, 0 for none, is `number` of crate types
 
 -- the last kind, and the last that a pluck admits
 abbrev pub lastKind : ℕ

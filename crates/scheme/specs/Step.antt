@@ -8,13 +8,14 @@ use lib.IntN.{ℤ, pos, negsuc, negℤ, _+ℤ_, _-ℤ_, _*ℤ_}
 use lib.ListN.{length}
 use lib.Signed.{shrZ}
 use Rattle.integers.specs.Sum.{sumOver}
-use Rattle.scheme.specs.declared.Settings.{Settings}
-use Rattle.scheme.specs.declared.Grid.{Grid}
-use Rattle.scheme.specs.declared.Instrument.{Instrument}
-use Rattle.scheme.specs.declared.Hit.{Hit}
-use Rattle.scheme.specs.declared.Hit.the-variants.{Absent, At}
+use Rattle.types.specs.declared.Settings.{Settings}
+use Rattle.types.specs.declared.Grid.{Grid}
+use Rattle.types.specs.declared.Instrument.{Instrument}
+use Rattle.types.specs.declared.Hit.{Hit}
+use Rattle.types.specs.declared.Hit.the-variants.{Absent, At}
+use Rattle.types.specs.Numbers.{D}
 use Rattle.scheme.specs.Lists.{tabulate, point, someBelow, only}
-use Rattle.scheme.specs.Instruments.{D, beyond, points, column, row, moving, freeEnd}
+use Rattle.scheme.specs.Instruments.{beyond, points, column, row, moving, freeEnd}
 
 -- the points beside i in its grid: left, right, above, below
 unfoldable pub beside : Grid → ℕ → List ℕ

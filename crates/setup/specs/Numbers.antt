@@ -2,10 +2,10 @@
 use mathlib.Core.Bool.{Bool, _&&_, cond}
 use Prim.Native.Nat.{ℕ}
 use lib.Dec.{ltb}
-use Rattle.scheme.specs.declared.Grid.{Grid}
-use Rattle.scheme.specs.declared.Instrument.{Instrument}
-use Rattle.scheme.specs.declared.Hit.{Hit}
-use Rattle.scheme.specs.declared.Hit.the-variants.{At}
+use Rattle.types.specs.declared.Grid.{Grid}
+use Rattle.types.specs.declared.Instrument.{Instrument}
+use Rattle.types.specs.declared.Hit.{Hit}
+use Rattle.types.specs.declared.Hit.the-variants.{At}
 use Rattle.scheme.specs.Instruments.{within, points}
 use Rattle.scheme.specs.Refusals.{lastKind}
 use Rattle.line.specs.declared.types.Numbers.{Numbers}

@@ -4,11 +4,11 @@ ghost use Prim.Native.Nat.{_*_};
 ghost use lib.Dec.{ltb};
 ghost use Rattle.setup.specs.Numbers.{instrumentOf, hitOf, isTooLarge, levelLength, setupOf};
 use line::Numbers;
-use scheme::Grid;
-use scheme::Hit;
-use scheme::Instrument;
-use scheme::Settings;
 use sizes::is_within;
+use types::Grid;
+use types::Hit;
+use types::Instrument;
+use types::Settings;
 
 const MOST: usize = 1024;
 

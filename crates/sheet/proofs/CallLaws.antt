@@ -6,11 +6,12 @@ use Prim.Native.Nat.{ℕ}
 use borrow.Author.Tests.{le-ltb, not-true}
 use lib.Dec.{ltb}
 use lib.Ieee.{Float}
-use Rattle.scheme.specs.declared.Settings.{Settings}
-use Rattle.scheme.specs.declared.Grid.{Grid}
-use Rattle.scheme.specs.declared.Refusal.{Refusal}
-use Rattle.scheme.specs.declared.Refusal.the-variants.{Nothing}
-use Rattle.scheme.specs.Instruments.{D, inTable}
+use Rattle.types.specs.declared.Settings.{Settings}
+use Rattle.types.specs.declared.Grid.{Grid}
+use Rattle.types.specs.declared.Refusal.{Refusal}
+use Rattle.types.specs.declared.Refusal.the-variants.{Nothing}
+use Rattle.types.specs.Numbers.{D}
+use Rattle.scheme.specs.Instruments.{inTable}
 use Rattle.scheme.specs.Refusals.{lastKind, wrongCoefficient, Check, _⇒_, lowest, gridChecks, instrumentChecks, instrumentRefusal}
 use Rattle.scheme.specs.Calls.{accepted}
 use Rattle.scheme.proofs.Laws.Bools.{cases, neither-or}

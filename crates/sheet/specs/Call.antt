@@ -1,11 +1,11 @@
 -- "A sheet call (kind, columns, rows, sheet) meets 1 to 5, with 4 and 5 on the coefficients it works out."
 use mathlib.Core.Bool.{not, cond}
 use mathlib.Core.List.{List, [], _∷_, _++_}
-use Rattle.scheme.specs.declared.Settings.{Settings}
-use Rattle.scheme.specs.declared.Grid.{Grid}
-use Rattle.scheme.specs.declared.Instrument.{Instrument}
-use Rattle.scheme.specs.declared.Refusal.{Refusal}
-use Rattle.scheme.specs.declared.Refusal.the-variants.{Nothing, SheetNumber, Coefficient, Unstable}
+use Rattle.types.specs.declared.Settings.{Settings}
+use Rattle.types.specs.declared.Grid.{Grid}
+use Rattle.types.specs.declared.Instrument.{Instrument}
+use Rattle.types.specs.declared.Refusal.{Refusal}
+use Rattle.types.specs.declared.Refusal.the-variants.{Nothing, SheetNumber, Coefficient, Unstable}
 use Rattle.scheme.specs.Instruments.{kind}
 use Rattle.scheme.specs.Refusals.{lastKind, unstable, Check, _⇒_, lowest, gridChecks}
 use Rattle.scheme.specs.Calls.{accepted}

@@ -1,8 +1,8 @@
 -- What is claimed of the call. The proofs are `checks-in-order` and `accepted-playable`.
 use mathlib.Core.Path.{_≡_}
 use lib.Dec.{T}
-use Rattle.scheme.specs.declared.Grid.{Grid}
-use Rattle.scheme.specs.declared.Refusal.the-variants.{Nothing}
+use Rattle.types.specs.declared.Grid.{Grid}
+use Rattle.types.specs.declared.Refusal.the-variants.{Nothing}
 use Rattle.scheme.specs.Refusals.{standsIn, order, instrumentRefusal}
 use Rattle.sheet.specs.declared.Sheet.{Sheet}
 use Rattle.sheet.specs.Call.{sheetChecks, sheetCall}

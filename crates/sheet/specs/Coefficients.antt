@@ -3,7 +3,7 @@ use mathlib.Core.Bool.{Bool, false, _||_}
 use Prim.Native.Nat.{ℕ, _-_, _^_}
 use lib.Ieee.{Float, binary64, mul, div, round, ofInt}
 use lib.IntN.{pos}
-use Rattle.scheme.specs.declared.Settings.{Settings}
+use Rattle.types.specs.declared.Settings.{Settings}
 use Rattle.nearest.specs.Nearest.{nearestWhole, outside, valueOf}
 use Rattle.sheet.specs.declared.Speed.{Speed}
 use Rattle.sheet.specs.declared.Speed.the-variants.{Hertz, Tension}

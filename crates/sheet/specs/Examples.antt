@@ -5,8 +5,8 @@ use mathlib.Core.List.{List, [], _∷_, map}
 use Prim.Native.Nat.{ℕ, _^_}
 use lib.Ieee.{Float, nan, inf, fin}
 use lib.IntN.{pos}
-use Rattle.scheme.specs.declared.Grid.{Grid}
-use Rattle.scheme.specs.declared.Refusal.the-variants.{UnknownKind, WrongSize, SheetNumber, Coefficient, Unstable}
+use Rattle.types.specs.declared.Grid.{Grid}
+use Rattle.types.specs.declared.Refusal.the-variants.{UnknownKind, WrongSize, SheetNumber, Coefficient, Unstable}
 use Rattle.sheet.specs.declared.Speed.{Speed}
 use Rattle.sheet.specs.declared.Speed.the-variants.{Hertz, Tension}
 use Rattle.sheet.specs.declared.Loss.{Loss}

@@ -6,7 +6,7 @@ use crate::Loss;
 use crate::Sheet;
 use crate::Speed;
 use nearest::Whole;
-use scheme::Settings;
+use types::Settings;
 
 // Each times D and rounded: q for R, m for μ², s for σ₀k.
 pub(crate) struct Coefficients {

@@ -8,10 +8,10 @@ ghost use Rattle.sheet.specs.Coefficients.{settingsOf};
 use crate::coefficients::Coefficients;
 use instruments::grid_refusal;
 use instruments::is_nothing;
-use scheme::Grid;
-use scheme::Refusal;
-use scheme::Settings;
 use sizes::is_stable;
+use types::Grid;
+use types::Refusal;
+use types::Settings;
 
 // A speed: hertz, which is wave speed over twice the length, or a tension with a density. The definitions `speedAllowed` and
 // `courantSquared` tell what the paper makes of each.

@@ -7,10 +7,10 @@ use native.Mathlib.Omega.{arith}
 use borrow.Author.Tests.{leb-true}
 use lib.Dec.{leb, eqb}
 use lib.ListN.{length, take}
-use Rattle.scheme.specs.declared.Refusal.{Refusal}
-use Rattle.scheme.specs.declared.Refusal.the-variants.{Nothing, UnknownKind, WrongSize, SheetNumber, Coefficient, Unstable, WrongLength}
-use Rattle.scheme.specs.declared.Refusal.the-variants.{NotMoving, TooStrong, PickUp, HalfWidth, PointBeyond, FixedNotZero, NextBeyond}
-use Rattle.scheme.specs.Refusals.{number}
+use Rattle.types.specs.declared.Refusal.{Refusal}
+use Rattle.types.specs.declared.Refusal.the-variants.{Nothing, UnknownKind, WrongSize, SheetNumber, Coefficient, Unstable, WrongLength}
+use Rattle.types.specs.declared.Refusal.the-variants.{NotMoving, TooStrong, PickUp, HalfWidth, PointBeyond, FixedNotZero, NextBeyond}
+use Rattle.types.specs.Numbers.{number}
 use Rattle.scheme.proofs.Laws.Bools.{and-both}
 use Rattle.decimals.specs.Decimals.{all, digitsValue, isUnsigned, isSigned}
 use Rattle.line.specs.declared.types.Numbers.{Numbers}

@@ -5,7 +5,8 @@ use Prim.Native.Nat.{ℕ, zero, suc, _+_, _*_, _≤_, _<_}
 use native.Mathlib.Omega.{arith}
 use borrow.Author.Tests.{eqb-true, lt-leb}
 use lib.Dec.{T, leb, eqb, leb→le}
-use Rattle.scheme.specs.Instruments.{D, Kind, unknown, fixedString, halfFreeString, freeString, bar, membrane, roundMembrane, kindOf}
+use Rattle.types.specs.Numbers.{D}
+use Rattle.scheme.specs.Instruments.{Kind, unknown, fixedString, halfFreeString, freeString, bar, membrane, roundMembrane, kindOf}
 use Rattle.scheme.specs.Instruments.{within, sizeIn, stableIn}
 use Rattle.scheme.specs.Refusals.{lastKind}
 use Rattle.scheme.proofs.Laws.Bools.{and-both, and-no, not-so}

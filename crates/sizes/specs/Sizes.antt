@@ -1,7 +1,7 @@
 -- How many points a grid has. Vocabulary between the engine's crates: no call that a maker embeds cites it.
 use mathlib.Core.Bool.{cond}
 use Prim.Native.Nat.{ℕ}
-use Rattle.scheme.specs.declared.Grid.{Grid}
+use Rattle.types.specs.declared.Grid.{Grid}
 use Rattle.scheme.specs.Instruments.{points, inTable}
 
 -- columns × rows, where the table has the size

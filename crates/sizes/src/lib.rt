@@ -3,8 +3,8 @@ ghost use mathlib.Core.Path.{_≡_};
 ghost use mathlib.Core.Bool.{_&&_};
 ghost use Rattle.scheme.specs.Instruments.{kindOf, within, inTable, stableIn};
 ghost use Rattle.sizes.specs.Sizes.{pointsOf};
-use scheme::Grid;
-use scheme::Settings;
+use types::Grid;
+use types::Settings;
 
 // Whether a ≤ n ≤ b. Ruled out: a itself outside; b itself outside.
 pub fn is_within(a: usize, b: usize, n: usize) -> bool

@@ -12,10 +12,11 @@ use lib.ListN.{length}
 use Rattle.integers.specs.Sum.{sumOver}
 use Rattle.integers.proofs.Ring.{#_, _⊕_, _⊖_, _⊗_, _≈_, ring}
 use Rattle.bounded.proofs.Expr.{E, via, num, _⊞_, _⊟_, _⊠_, size}
-use Rattle.scheme.specs.declared.Grid.{Grid}
-use Rattle.scheme.specs.declared.Instrument.{Instrument}
+use Rattle.types.specs.declared.Grid.{Grid}
+use Rattle.types.specs.declared.Instrument.{Instrument}
+use Rattle.types.specs.Numbers.{ceiling}
 use Rattle.scheme.specs.Lists.{point}
-use Rattle.scheme.specs.Instruments.{Kind, bar, ceiling, kind, points, column, row, atEdge, fixedIn, fixed, moving}
+use Rattle.scheme.specs.Instruments.{Kind, bar, kind, points, column, row, atEdge, fixedIn, fixed, moving}
 use Rattle.scheme.specs.Step.{laplacian, innerLaplacian, biharmonic}
 use Rattle.scheme.specs.Ranges.{AtMost}
 use Rattle.scheme.proofs.Laws.Bools.{or-neither, neither-or}

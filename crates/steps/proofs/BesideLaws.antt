@@ -11,10 +11,11 @@ use lib.ListN.{length}
 use Rattle.integers.specs.Sum.{sumOver}
 use Rattle.integers.proofs.Ring.{#_, _⊕_, _≈_, ring}
 use Rattle.bounded.proofs.Expr.{E, at, via, _⊞_, size}
-use Rattle.scheme.specs.declared.Grid.{Grid}
-use Rattle.scheme.specs.declared.Instrument.{Instrument}
+use Rattle.types.specs.declared.Grid.{Grid}
+use Rattle.types.specs.declared.Instrument.{Instrument}
+use Rattle.types.specs.Numbers.{ceiling}
 use Rattle.scheme.specs.Lists.{point}
-use Rattle.scheme.specs.Instruments.{bar, ceiling, kind, points, moving}
+use Rattle.scheme.specs.Instruments.{bar, kind, points, moving}
 use Rattle.scheme.specs.Step.{neighbours, laplacian, biharmonic}
 use Rattle.scheme.specs.Passing.{InstrumentPasses}
 use Rattle.scheme.specs.Ranges.{AtMost}

@@ -6,7 +6,7 @@ use lib.IntN.{ℤ, natAbs}
 use mir.Syntax.{w64}
 use mir.Val.{toZ, ofZ}
 use Rattle.bounded.proofs.Num.{given}
-use Rattle.scheme.specs.Instruments.{ceiling}
+use Rattle.types.specs.Numbers.{ceiling}
 
 -- within a bound
 pub held-below : (B : ℕ) → T (ltb B (2 ^ 63)) → {z : ℤ} → natAbs z ≤ B → toZ w64 (ofZ w64 z) ≡ z

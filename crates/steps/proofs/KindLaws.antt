@@ -11,10 +11,11 @@ use lib.IntN.{pos, _+ℤ_, _-ℤ_}
 use Rattle.integers.proofs.Ring.{#_, _⊕_, _⊖_, _⊗_, _≈_, ring}
 use Rattle.integers.proofs.Order.{_⩽_, square-nonneg, ≡-≤ℤ}
 use Rattle.integers.proofs.Lin.{_*≤_, _⊴_, _⇒_, ⊩_, lin}
-use Rattle.scheme.specs.declared.Grid.{Grid}
-use Rattle.scheme.specs.declared.Instrument.{Instrument}
+use Rattle.types.specs.declared.Grid.{Grid}
+use Rattle.types.specs.declared.Instrument.{Instrument}
+use Rattle.types.specs.Numbers.{D}
 use Rattle.scheme.specs.Lists.{square}
-use Rattle.scheme.specs.Instruments.{D, Kind, unknown, fixedString, halfFreeString, freeString, bar, membrane, roundMembrane, kind, points}
+use Rattle.scheme.specs.Instruments.{Kind, unknown, fixedString, halfFreeString, freeString, bar, membrane, roundMembrane, kind, points}
 use Rattle.scheme.specs.Instruments.{column, row, within, lineSize, sizeIn, stableIn, atEdge, offCentre, roundEdge, fixedIn, fixed, moving}
 use Rattle.scheme.specs.Instruments.{freeIn, freeEnd}
 use Rattle.scheme.proofs.Laws.Bools.{and-both, or-neither}

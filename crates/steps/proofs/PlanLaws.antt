@@ -12,7 +12,8 @@ use mir.Val.{toZ, ofZ}
 use Rattle.integers.proofs.Size.{size-less}
 use Rattle.bounded.specs.Between.{Between}
 use Rattle.bounded.proofs.Num.{given, between}
-use Rattle.scheme.specs.Instruments.{D, ceiling, beyond, kind, points}
+use Rattle.types.specs.Numbers.{D, ceiling}
+use Rattle.scheme.specs.Instruments.{beyond, kind, points}
 use Rattle.scheme.specs.Step.{roundAway, divisor}
 use Rattle.scheme.proofs.Laws.Kinds.{Sized, sized}
 use Rattle.scheme.proofs.Laws.Rounding.{round-limit}

@@ -4,8 +4,8 @@ use mathlib.Core.Bool.{Bool}
 use mathlib.Core.List.{List}
 use Prim.Native.Nat.{ℕ, zero, suc}
 use lib.IntN.{ℤ}
-use Rattle.scheme.specs.declared.Instrument.{Instrument}
-use Rattle.scheme.specs.declared.Hit.{Hit}
+use Rattle.types.specs.declared.Instrument.{Instrument}
+use Rattle.types.specs.declared.Hit.{Hit}
 use Rattle.steps.specs.declared.plan.Plan.{Plan}
 use Rattle.steps.specs.Roles.{Steppable, Stepped, SteppedIn, turnedOf, olderOf, newerOf, outOf}
 

@@ -10,11 +10,12 @@ use borrow.Author.Tests.{ltb-false, lt-ltb, le-ltb, le-leb, lt-leb}
 use lib.Dec.{leb}
 use lib.IntN.{ℤ, pos}
 use lib.ListN.{length}
-use Rattle.scheme.specs.declared.Grid.{Grid}
-use Rattle.scheme.specs.declared.Instrument.{Instrument}
-use Rattle.scheme.specs.declared.Hit.{Hit}
+use Rattle.types.specs.declared.Grid.{Grid}
+use Rattle.types.specs.declared.Instrument.{Instrument}
+use Rattle.types.specs.declared.Hit.{Hit}
+use Rattle.types.specs.Numbers.{ceiling}
 use Rattle.scheme.specs.Lists.{point}
-use Rattle.scheme.specs.Instruments.{ceiling, beyond, points, inTable, moving}
+use Rattle.scheme.specs.Instruments.{beyond, points, inTable, moving}
 use Rattle.scheme.specs.Step.{nextAt, nextLevel, someBeyond}
 use Rattle.scheme.proofs.Laws.Bools.{and-yes, and-no}
 use Rattle.scheme.proofs.Laws.Lists.{is-tabulate, some-at}

@@ -5,10 +5,11 @@ use Prim.Native.Nat.{ℕ, _+_, _-_, _*_, _/_, _≤_, _<_}
 use lib.IntN.{ℤ, pos, natAbs, _-ℤ_, _*ℤ_}
 use lib.ListN.{length}
 use Rattle.integers.specs.Sum.{sumOver}
-use Rattle.scheme.specs.declared.Settings.{Settings}
-use Rattle.scheme.specs.declared.Instrument.{Instrument}
+use Rattle.types.specs.declared.Settings.{Settings}
+use Rattle.types.specs.declared.Instrument.{Instrument}
+use Rattle.types.specs.Numbers.{D, ceiling}
 use Rattle.scheme.specs.Lists.{point}
-use Rattle.scheme.specs.Instruments.{D, ceiling, points}
+use Rattle.scheme.specs.Instruments.{points}
 use Rattle.scheme.specs.Step.{neighbours, biharmonic, divisor}
 use Rattle.scheme.specs.Passing.{InstrumentPasses}
 use Rattle.scheme.specs.Ranges.{AtMost, Terms}

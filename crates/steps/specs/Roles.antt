@@ -6,14 +6,14 @@ use Prim.Native.Nat.{ℕ, zero, suc}
 use lib.Dec.{ltb}
 use lib.IntN.{ℤ, pos}
 use lib.ListN.{length}
-use Rattle.scheme.specs.declared.Grid.{Grid}
-use Rattle.scheme.specs.declared.Instrument.{Instrument}
-use Rattle.scheme.specs.declared.Hit.{Hit}
+use Rattle.types.specs.declared.Grid.{Grid}
+use Rattle.types.specs.declared.Instrument.{Instrument}
+use Rattle.types.specs.declared.Hit.{Hit}
+use Rattle.types.specs.declared.Refusal.the-variants.{Nothing, NextBeyond}
 use Rattle.scheme.specs.Lists.{point}
 use Rattle.scheme.specs.Instruments.{points, moving}
 use Rattle.scheme.specs.Step.{nextLevel, someBeyond}
 use Rattle.scheme.specs.Refusals.{notMoving, tooStrong}
-use Rattle.scheme.specs.declared.Refusal.the-variants.{Nothing, NextBeyond}
 use Rattle.scheme.specs.Calls.{AfterSteps}
 use Rattle.scheme.specs.Claims.{LevelPasses}
 use Rattle.steps.specs.declared.plan.Plan.{Plan}

@@ -4,7 +4,7 @@ use mathlib.Core.Bool.{true, false}
 use mathlib.Core.List.{List}
 use lib.IntN.{ℤ, pos}
 use lib.ListN.{length, replicate}
-use Rattle.scheme.specs.declared.Refusal.{Refusal}
+use Rattle.types.specs.declared.Refusal.{Refusal}
 use Rattle.scheme.specs.Calls.{AfterBlock, accepted}
 use Rattle.steps.specs.declared.turns.InTurn.{InTurn}
 use Rattle.steps.specs.Roles.{olderOf, newerOf}

@@ -3,7 +3,7 @@ ghost use mathlib.Core.Path.{_≡_};
 ghost use Prim.Native.Nat.{_≤_, _^_};
 ghost use lib.IntN.{natAbs, _-ℤ_, _*ℤ_};
 ghost use Rattle.bounded.specs.Between.{Between};
-ghost use Rattle.scheme.specs.Instruments.{ceiling};
+ghost use Rattle.types.specs.Numbers.{ceiling};
 ghost use Rattle.scheme.specs.Step.{roundAway, sampleOf, numeratorOf};
 ghost use Rattle.steps.specs.Plan.{Planned, Updatable};
 use crate::plan::D;

@@ -6,7 +6,7 @@ ghost use lib.ListN.{length};
 ghost use Rattle.scheme.specs.Instruments.{inTable};
 ghost use Rattle.steps.specs.Edges.{EdgesOf};
 use runs::row_run;
-use scheme::Grid;
+use types::Grid;
 
 // For each row its first moving column, and the column after its last.
 // Ruled out: every row taken as the first.

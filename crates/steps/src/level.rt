@@ -13,7 +13,7 @@ use crate::points::points_run;
 use crate::stretch::Stretch;
 use crate::stretch::force_at;
 use crate::stretch::stretch_end;
-use scheme::Hit;
+use types::Hit;
 
 // The moving points of a row.
 fn row_run(

@@ -2,8 +2,8 @@
 ghost use mathlib.Core.Path.{_≡_};
 ghost use Prim.Native.Nat.{_+_, _≤_, _<_};
 ghost use lib.ListN.{length};
+ghost use Rattle.types.specs.Numbers.{ceiling};
 ghost use Rattle.scheme.specs.Lists.{point};
-ghost use Rattle.scheme.specs.Instruments.{ceiling};
 ghost use Rattle.scheme.specs.Ranges.{AtMost};
 ghost use Rattle.steps.specs.Run.{twoBeside, fourBeside, barLaplacian};
 

@@ -5,8 +5,8 @@ ghost use Rattle.scheme.specs.Instruments.{beyond};
 ghost use Rattle.scheme.specs.Step.{roundAway, divisor};
 ghost use Rattle.scheme.specs.Passing.{InstrumentPasses};
 ghost use Rattle.steps.specs.Plan.{Planned};
-use scheme::Instrument;
-use scheme::Settings;
+use types::Instrument;
+use types::Settings;
 
 // D of the papers, signed.
 pub(crate) const D: i64 = Settings::D as i64;

@@ -11,7 +11,7 @@ use crate::plan::Plan;
 use crate::roles::sample_in_roles;
 use crate::roles::step_in_roles;
 use crate::roles::turned;
-use scheme::Hit;
+use types::Hit;
 
 // The hit acts in the first step alone.
 fn hit_of(hit: Hit, j: usize) -> Hit

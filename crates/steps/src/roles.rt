@@ -3,8 +3,8 @@
 ghost use mathlib.Core.Path.{_≡_};
 ghost use Prim.Native.Nat.{_<_};
 ghost use lib.ListN.{length};
+ghost use Rattle.types.specs.Numbers.{ceiling};
 ghost use Rattle.scheme.specs.Lists.{point};
-ghost use Rattle.scheme.specs.Instruments.{ceiling};
 ghost use Rattle.scheme.specs.Step.{sampleOf};
 ghost use Rattle.scheme.specs.Ranges.{AtMost};
 ghost use Rattle.steps.specs.Edges.{EdgesOf};
@@ -12,7 +12,7 @@ ghost use Rattle.steps.specs.Roles.{Steppable, SteppedIn, turnedOf, olde
 use crate::arithmetic::sample;
 use crate::level::level_run;
 use crate::plan::Plan;
-use scheme::Hit;
+use types::Hit;
 
 // A step with the three slices in their roles.
 pub(crate) fn step_in_roles(

@@ -3,11 +3,11 @@ ghost use mathlib.Core.Path.{_≡_};
 ghost use mathlib.Core.Bool.{false};
 ghost use Prim.Native.Nat.{_≤_, _<_};
 ghost use lib.IntN.{natAbs};
-ghost use Rattle.scheme.specs.Instruments.{ceiling};
+ghost use Rattle.types.specs.Numbers.{ceiling};
 ghost use Rattle.scheme.specs.Step.{forceOf};
 ghost use Rattle.scheme.specs.Refusals.{tooStrong};
 ghost use Rattle.steps.specs.Run.{clamp, partOf, Ends};
-use scheme::Hit;
+use types::Hit;
 
 // The points from..to, and the force on each. The next value of point k goes to place k − base, if it is written.
 pub(crate) struct Stretch {

@@ -3,7 +3,7 @@ ghost use mathlib.Core.Path.{_≡_};
 ghost use mathlib.Core.Bool.{cond};
 ghost use lib.Dec.{ltb};
 ghost use lib.ListN.{length};
-ghost use Rattle.scheme.specs.declared.Refusal.the-variants.{Nothing, NextBeyond};
+ghost use Rattle.types.specs.declared.Refusal.the-variants.{Nothing, NextBeyond};
 ghost use Rattle.scheme.specs.Refusals.{wrongLength, blockRefusal};
 ghost use Rattle.scheme.specs.Calls.{block};
 ghost use Rattle.scheme.specs.Calls as Calls;
@@ -15,10 +15,10 @@ use crate::play::Steps;
 use crate::play::play;
 use block_checks::block_refusal;
 use instruments::is_nothing;
-use scheme::Hit;
-use scheme::Instrument;
-use scheme::Refusal;
 use slices::clear;
+use types::Hit;
+use types::Instrument;
+use types::Refusal;
 
 // What the steps of a call leave: whether it was carried out, the steps done, what refused or ended them,
 // and the phase that the three slices are in.

@@ -11,9 +11,10 @@ use Rattle.integers.proofs.Order.{_⩽_, 0≤pos, 0<pos, pos≤, pos<, *ℤ-mon
 use Rattle.integers.proofs.Order.{≤ℤ-trans}
 use Rattle.integers.proofs.Lin.{_⊴_, _*≤_, _*⊴_, _⇒_, ⊩_, lin}
 use Rattle.forms.proofs.Level.{Level, _⊞_, _⊡_, zeros, Still, still-zeros, still-add, still-scale}
-use Rattle.scheme.specs.declared.Instrument.{Instrument}
+use Rattle.types.specs.declared.Instrument.{Instrument}
+use Rattle.types.specs.Numbers.{D}
 use Rattle.scheme.specs.Lists.{point, square}
-use Rattle.scheme.specs.Instruments.{D, kind, points, moving}
+use Rattle.scheme.specs.Instruments.{kind, points, moving}
 use Rattle.scheme.specs.Step.{divisor}
 use Rattle.scheme.specs.Book.{LastStep, Book, scale, State, start, calls}
 use Rattle.scheme.specs.Claims.{distance}

@@ -16,9 +16,10 @@ use Rattle.integers.proofs.Lin.{_⊴_, _*≤_, _*⊴_, _*≈_, _⇒_, ⊩_, lin
 use Rattle.integers.proofs.Sum.{sum-ext, sum-add, sum-scale, sum-mono, sum-nonneg, over-ext, over-add, over-nonneg, over-const}
 use Rattle.forms.proofs.Level.{Level, _⊞_, _⊡_, Still, still-add, still-scale}
 use Rattle.forms.proofs.Form.{square-sum, square-difference, square-combination, polarisation}
-use Rattle.scheme.specs.declared.Grid.{Grid}
-use Rattle.scheme.specs.declared.Instrument.{Instrument}
-use Rattle.scheme.specs.Instruments.{D, Kind, unknown, fixedString, halfFreeString, freeString, bar, membrane, roundMembrane, kind, points}
+use Rattle.types.specs.declared.Grid.{Grid}
+use Rattle.types.specs.declared.Instrument.{Instrument}
+use Rattle.types.specs.Numbers.{D}
+use Rattle.scheme.specs.Instruments.{Kind, unknown, fixedString, halfFreeString, freeString, bar, membrane, roundMembrane, kind, points}
 use Rattle.scheme.specs.Instruments.{moving}
 use Rattle.scheme.specs.Step.{beside, laplacian, innerLaplacian}
 use Rattle.scheme.specs.Energy.{weight, later, pairSum, laplacianSum, energy}

@@ -14,7 +14,7 @@ use Rattle.integers.proofs.Order.{_⩽_, 0≤pos, pos≤, square-nonneg, *ℤ-m
 use Rattle.integers.proofs.Lin.{_⊴_, _*≤_, _*⊴_, _⇒_, ⊩_, lin}
 use Rattle.integers.proofs.Sum.{sum-ext, sum-cong, sum-scale, sum-mono, sum-nonneg, sum-split, over-append, over-nonneg}
 use Rattle.forms.proofs.Level.{Level, Still}
-use Rattle.scheme.specs.declared.Grid.{Grid}
+use Rattle.types.specs.declared.Grid.{Grid}
 use Rattle.scheme.specs.Instruments.{Kind, unknown, fixedString, halfFreeString, freeString, bar, membrane, roundMembrane, kind, points}
 use Rattle.scheme.specs.Instruments.{column, row, fixedIn, roundEdge, offCentre, moving, freeEnd}
 use Rattle.scheme.specs.Energy.{weight, later, pairSum}

@@ -10,10 +10,11 @@ use Rattle.integers.proofs.Ring.{#_, _⊕_, _⊖_, _⊗_, _≈_, ring}
 use Rattle.integers.proofs.Order.{_⩽_, 0≤pos, 0<pos, pos≤, pos<, nonneg-add, *ℤ-mono-r, ≡-≤ℤ, ≤ℤ-≡, ≤ℤ-trans}
 use Rattle.integers.proofs.Sum.{sum-ext}
 use Rattle.forms.proofs.Level.{Level, zeros, Still}
-use Rattle.scheme.specs.declared.Grid.{Grid}
-use Rattle.scheme.specs.declared.Instrument.{Instrument}
+use Rattle.types.specs.declared.Grid.{Grid}
+use Rattle.types.specs.declared.Instrument.{Instrument}
+use Rattle.types.specs.Numbers.{D}
 use Rattle.scheme.specs.Lists.{point}
-use Rattle.scheme.specs.Instruments.{D, kind, points, moving}
+use Rattle.scheme.specs.Instruments.{kind, points, moving}
 use Rattle.scheme.specs.Energy.{weight, squares, energy}
 use Rattle.scheme.proofs.Laws.Ranges.{coefficients-small}
 use Rattle.scheme.specs.Passing.{InstrumentPasses}

@@ -13,9 +13,10 @@ use Rattle.integers.proofs.Order.{_⩽_, 0≤pos, pos≤, pos<, square-nonneg, 
 use Rattle.integers.proofs.Order.{≤ℤ-trans}
 use Rattle.integers.proofs.Lin.{_⊴_, _*≤_, _*⊴_, _⇒_, ⊩_, lin}
 use Rattle.integers.proofs.Sum.{sum-nonneg}
-use Rattle.scheme.specs.declared.Instrument.{Instrument}
+use Rattle.types.specs.declared.Instrument.{Instrument}
+use Rattle.types.specs.Numbers.{D}
 use Rattle.scheme.specs.Lists.{square}
-use Rattle.scheme.specs.Instruments.{D, kindOf, kind, points, freeIn}
+use Rattle.scheme.specs.Instruments.{kindOf, kind, points, freeIn}
 use Rattle.scheme.specs.Energy.{weight, squares}
 use Rattle.scheme.specs.Book.{LastStep, noStep, stepOf, scale, start, calls}
 use Rattle.scheme.specs.Claims.{distance, bound, Near}

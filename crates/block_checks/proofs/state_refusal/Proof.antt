@@ -1,7 +1,7 @@
 -- `state_refusal` meets its contract: both levels are asked for 11, then both for 12.
 use mathlib.Core.Path.{_≡_, sym, ap₂, _∙_}
 use mathlib.Core.Bool.{Bool, _||_}
-use Rattle.scheme.specs.declared.Refusal.the-variants.{PointBeyond, FixedNotZero}
+use Rattle.types.specs.declared.Refusal.the-variants.{PointBeyond, FixedNotZero}
 use Rattle.scheme.specs.Step.{someBeyond}
 use Rattle.levels.specs.Levels.{unfixed}
 use Rattle.instruments.proofs.RefusalLaws.{refused-first, refused-second, refused-neither}

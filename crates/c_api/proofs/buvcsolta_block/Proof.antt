@@ -1,8 +1,8 @@
 -- `buvcsolta_block` meets its contract: by that of `block`.
 use mathlib.Core.Path.{ap, ap₂, _∙_}
 use Prim.Native.Nat.{ℕ}
-use Rattle.scheme.specs.declared.Instrument.{Instrument}
-use Rattle.scheme.specs.declared.Hit.{Hit}
+use Rattle.types.specs.declared.Instrument.{Instrument}
+use Rattle.types.specs.declared.Hit.{Hit}
 use Rattle.scheme.specs.Calls as Calls
 use Rattle.packing.specs.Packing.{hitOf}
 use Rattle.c_api.specs.Exports.{blockLeft, blockNumbers}

@@ -1,7 +1,7 @@
 -- `buvcsolta_reading` meets its contract: by that of `reading`.
 use mathlib.Core.Path.{ap, _∙_}
 use Prim.Native.Nat.{ℕ}
-use Rattle.scheme.specs.declared.Grid.{Grid}
+use Rattle.types.specs.declared.Grid.{Grid}
 use Rattle.scheme.specs.Calls as Calls
 use Rattle.c_api.specs.Exports.{readingLeft, readingNumbers}
 use borrow.Author.Needs.{needs}

@@ -1,7 +1,7 @@
 -- `buvcsolta_sheet` meets its contract: by that of `settings_for`.
 use mathlib.Core.Path.{ap, ap₂, _∙_}
 use Prim.Native.Nat.{ℕ}
-use Rattle.scheme.specs.declared.Grid.{Grid}
+use Rattle.types.specs.declared.Grid.{Grid}
 use Rattle.sheet.specs.declared.Sheet.{Sheet}
 use Rattle.sheet.specs.Call.{sheetCall}
 use Rattle.c_api.specs.Exports.{SheetLeft, sheetLeft, sheetNumbers}

@@ -1,7 +1,7 @@
 -- `grid_refusal` meets its contract: the kind first, then the size.
 use mathlib.Core.Path.{_≡_, sym, ap, _∙_}
 use mathlib.Core.Bool.{Bool, false, not}
-use Rattle.scheme.specs.declared.Refusal.the-variants.{UnknownKind, WrongSize}
+use Rattle.types.specs.declared.Refusal.the-variants.{UnknownKind, WrongSize}
 use Rattle.scheme.specs.Refusals.{unknownKind, wrongSize}
 use Rattle.instruments.proofs.RefusalLaws.{refused-first, refused-second, refused-neither}
 use Rattle.instruments.proofs.grid_refusal.Statement.{statement}

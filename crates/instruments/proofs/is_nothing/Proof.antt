@@ -4,8 +4,8 @@ use mathlib.Core.List.{List, [], _∷_}
 use Prim.Native.Nat.{ℕ}
 use denote.Enum.Declared.{tagOf}
 use types.Run.{OneOf, miss}
-use Rattle.scheme.specs.declared.Refusal.{Refusal}
-use Rattle.scheme.proofs.Refusal.{the-type}
+use Rattle.types.specs.declared.Refusal.{Refusal}
+use Rattle.types.proofs.Refusal.{the-type}
 use Rattle.scheme.specs.Calls.{accepted}
 use Rattle.scheme.proofs.Laws.Bools.{not-so}
 use Rattle.scheme.proofs.Laws.Refusals.{accepted-is}

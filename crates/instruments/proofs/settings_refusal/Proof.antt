@@ -1,7 +1,7 @@
 -- `settings_refusal` meets its contract: the coefficients first, then whether they are stable.
 use mathlib.Core.Path.{sym, ap, _∙_}
 use mathlib.Core.Bool.{not}
-use Rattle.scheme.specs.declared.Refusal.the-variants.{Coefficient, Unstable}
+use Rattle.types.specs.declared.Refusal.the-variants.{Coefficient, Unstable}
 use Rattle.scheme.specs.Refusals.{wrongCoefficient, unstable}
 use Rattle.instruments.proofs.RefusalLaws.{refused-first, refused-second, refused-neither}
 use Rattle.instruments.proofs.settings_refusal.Statement.{statement}

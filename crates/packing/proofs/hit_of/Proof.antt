@@ -1,7 +1,7 @@
 -- `hit_of` meets its contract: by its flag.
 use mathlib.Core.Path.{ap, _∙_}
 use borrow.Author.Needs.{needs}
-use Rattle.scheme.specs.declared.Hit.the-variants.{At}
+use Rattle.types.specs.declared.Hit.the-variants.{At}
 use Rattle.packing.proofs.Flags.{unset, set}
 use Rattle.packing.proofs.hit_of.Statement.{statement}
 use Rattle.packing.proofs.hit_of.Tie as tie

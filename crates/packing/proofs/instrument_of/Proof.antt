@@ -1,9 +1,9 @@
 -- `instrument_of` meets its contract: by the constructors.
 use mathlib.Core.Path.{ap₂}
 use borrow.Author.Needs.{needs}
-use Rattle.scheme.specs.declared.Grid.{Grid}
-use Rattle.scheme.specs.declared.Settings.{Settings}
-use Rattle.scheme.specs.declared.Instrument.{Instrument}
+use Rattle.types.specs.declared.Grid.{Grid}
+use Rattle.types.specs.declared.Settings.{Settings}
+use Rattle.types.specs.declared.Instrument.{Instrument}
 use Rattle.packing.proofs.instrument_of.Statement.{statement}
 use Rattle.packing.proofs.instrument_of.Tie as tie
 

@@ -7,7 +7,7 @@ use lib.Ieee.{binary64, inFloat, ofInt, ofBits, round}
 use lib.IntN.{ℤ, pos, negsuc, natAbs}
 use mir.Syntax.{w64}
 use mir.ValLaws.{toZ-ofZ}
-use Rattle.scheme.specs.Instruments.{ceiling}
+use Rattle.types.specs.Numbers.{ceiling}
 use Rattle.scheme.specs.Step.{floatOf}
 use Rattle.reading.proofs.float_of.Statement.{statement}
 use Rattle.reading.proofs.float_of.Tie as tie

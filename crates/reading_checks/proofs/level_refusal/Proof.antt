@@ -1,6 +1,6 @@
 -- `level_refusal` meets its contract.
 use mathlib.Core.Path.{sym, _∙_}
-use Rattle.scheme.specs.declared.Refusal.the-variants.{PointBeyond, FixedNotZero}
+use Rattle.types.specs.declared.Refusal.the-variants.{PointBeyond, FixedNotZero}
 use Rattle.scheme.specs.Step.{someBeyond}
 use Rattle.levels.specs.Levels.{unfixed}
 use Rattle.instruments.proofs.RefusalLaws.{refused-first, refused-second, refused-neither}

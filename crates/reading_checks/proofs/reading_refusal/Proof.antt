@@ -5,8 +5,8 @@ use mathlib.Core.List.{List, _++_}
 use borrow.Author.Tests.{lt-ltb, le-ltb}
 use lib.Dec.{ltb}
 use lib.ListN.{length}
-use Rattle.scheme.specs.declared.Refusal.{Refusal}
-use Rattle.scheme.specs.declared.Refusal.the-variants.{WrongLength, PickUp}
+use Rattle.types.specs.declared.Refusal.{Refusal}
+use Rattle.types.specs.declared.Refusal.the-variants.{WrongLength, PickUp}
 use Rattle.scheme.specs.Instruments.{points, inTable}
 use Rattle.scheme.specs.Step.{someBeyond}
 use Rattle.scheme.specs.Refusals.{lastKind, wrongLength, fixedNotZero, Check, lowest, gridChecks, lengthChecks, pickChecks, stateChecks}

@@ -10,9 +10,10 @@ use native.Mathlib.Omega.{arith}
 use borrow.Author.Tests.{leb-true, eqb-true, le-leb, eq-eqb, le-ltb}
 use lib.Dec.{T, leb, ltb, eqb, lit≤}
 use lib.ListN.{length, length-append}
-use Rattle.scheme.specs.declared.Grid.{Grid}
+use Rattle.types.specs.declared.Grid.{Grid}
+use Rattle.types.specs.Numbers.{D}
 use Rattle.scheme.specs.Lists.{only}
-use Rattle.scheme.specs.Instruments.{D, Kind, unknown, fixedString, halfFreeString, freeString, bar, membrane, roundMembrane, kind}
+use Rattle.scheme.specs.Instruments.{Kind, unknown, fixedString, halfFreeString, freeString, bar, membrane, roundMembrane, kind}
 use Rattle.scheme.specs.Instruments.{within, lineSize, sizeIn, stableIn, points, column, row, atEdge, freeIn, freeEnd}
 use Rattle.scheme.specs.Step.{beside}
 use Rattle.scheme.specs.Energy.{weight}

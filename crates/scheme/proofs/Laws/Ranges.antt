@@ -15,10 +15,11 @@ use Rattle.integers.proofs.Ring.{#_, _⊕_, _⊗_, _≈_, ring}
 use Rattle.integers.proofs.Order.{pos-inj}
 use Rattle.integers.proofs.Size.{size-add, size-minus, size-mul, size-less, size-over}
 use Rattle.forms.proofs.Level.{Level}
-use Rattle.scheme.specs.declared.Settings.{Settings}
-use Rattle.scheme.specs.declared.Grid.{Grid}
-use Rattle.scheme.specs.declared.Instrument.{Instrument}
-use Rattle.scheme.specs.Instruments.{D, ceiling, kind, points, moving, freeEnd, sizeIn}
+use Rattle.types.specs.declared.Settings.{Settings}
+use Rattle.types.specs.declared.Grid.{Grid}
+use Rattle.types.specs.declared.Instrument.{Instrument}
+use Rattle.types.specs.Numbers.{D, ceiling}
+use Rattle.scheme.specs.Instruments.{kind, points, moving, freeEnd, sizeIn}
 use Rattle.scheme.specs.Step.{beside, neighbours, laplacian, innerLaplacian, biharmonic}
 use Rattle.scheme.specs.Ranges.{AtMost, Terms, PartialSums}
 use Rattle.scheme.specs.Refusals.{wrongCoefficient}

@@ -10,17 +10,18 @@ use lib.Dec.{T, ltb}
 use lib.IntN.{ℤ, pos, negsuc, natAbs}
 use lib.ListN.{length, List·getD-eq-default}
 use Rattle.forms.proofs.Level.{Still}
-use Rattle.scheme.specs.declared.Grid.{Grid}
-use Rattle.scheme.specs.declared.Instrument.{Instrument}
-use Rattle.scheme.specs.declared.Hit.{Hit}
-use Rattle.scheme.specs.declared.Refusal.{Refusal}
-use Rattle.scheme.specs.declared.Refusal.the-variants.{Nothing, UnknownKind, WrongSize, SheetNumber, Coefficient, Unstable}
-use Rattle.scheme.specs.declared.Refusal.the-variants.{WrongLength, NotMoving, TooStrong, PickUp, HalfWidth, PointBeyond}
-use Rattle.scheme.specs.declared.Refusal.the-variants.{FixedNotZero, NextBeyond}
+use Rattle.types.specs.declared.Grid.{Grid}
+use Rattle.types.specs.declared.Instrument.{Instrument}
+use Rattle.types.specs.declared.Hit.{Hit}
+use Rattle.types.specs.declared.Refusal.{Refusal}
+use Rattle.types.specs.declared.Refusal.the-variants.{Nothing, UnknownKind, WrongSize, SheetNumber, Coefficient, Unstable}
+use Rattle.types.specs.declared.Refusal.the-variants.{WrongLength, NotMoving, TooStrong, PickUp, HalfWidth, PointBeyond}
+use Rattle.types.specs.declared.Refusal.the-variants.{FixedNotZero, NextBeyond}
+use Rattle.types.specs.Numbers.{ceiling, number}
 use Rattle.scheme.specs.Lists.{point}
-use Rattle.scheme.specs.Instruments.{ceiling, points, beyond, fixed, moving}
+use Rattle.scheme.specs.Instruments.{points, beyond, fixed, moving}
 use Rattle.scheme.specs.Step.{someBeyond}
-use Rattle.scheme.specs.Refusals.{number, wrongLength, fixedNotZero, Check, _⇒_, lowest, instrumentChecks, blockChecks, pluckChecks}
+use Rattle.scheme.specs.Refusals.{wrongLength, fixedNotZero, Check, _⇒_, lowest, instrumentChecks, blockChecks, pluckChecks}
 use Rattle.scheme.specs.Refusals.{readingChecks, instrumentRefusal, blockRefusal, pluckRefusal, readingRefusal, ChecksInOrder}
 use Rattle.scheme.specs.Calls.{accepted}
 use Rattle.scheme.specs.Claims.{LevelPasses}

@@ -9,7 +9,7 @@ use lib.Dec.{ltb, ltb→lt, nltb→le}
 use lib.IntN.{ℤ, pos, negsuc, negℤ, natAbs, subℕ, _+ℤ_, _-ℤ_, _*ℤ_, +ℤ-idr, negℤ-negℤ}
 use lib.Signed.{ltZ, quotZ}
 use Rattle.integers.proofs.Size.{cond-ind, size-neg}
-use Rattle.scheme.specs.Instruments.{ceiling}
+use Rattle.types.specs.Numbers.{ceiling}
 use Rattle.scheme.specs.Step.{nearest, roundAway, sampleOf}
 
 near : (m k q : ℕ) → 0 < k → (2 * m + k) / (2 * k) ≡ q → (2 * (k * q) ≤ 2 * m + k) × (2 * m ≤ 2 * (k * q) + k)

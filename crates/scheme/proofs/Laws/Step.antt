@@ -11,12 +11,13 @@ use Rattle.integers.specs.Sum.{sumOver}
 use Rattle.integers.proofs.Ring.{#_, _⊕_, _⊖_, _⊗_, _≈_, ring}
 use Rattle.integers.proofs.Sum.{over-less}
 use Rattle.forms.proofs.Level.{Level, _⊞_, _⊡_, Linear, linear-at, linear-minus, linear-times, linear-cond, linear-over}
-use Rattle.scheme.specs.declared.Settings.{Settings}
-use Rattle.scheme.specs.declared.Grid.{Grid}
-use Rattle.scheme.specs.declared.Instrument.{Instrument}
-use Rattle.scheme.specs.declared.Hit.{Hit}
+use Rattle.types.specs.declared.Settings.{Settings}
+use Rattle.types.specs.declared.Grid.{Grid}
+use Rattle.types.specs.declared.Instrument.{Instrument}
+use Rattle.types.specs.declared.Hit.{Hit}
+use Rattle.types.specs.Numbers.{D, ceiling}
 use Rattle.scheme.specs.Lists.{tabulate, point}
-use Rattle.scheme.specs.Instruments.{D, ceiling, beyond, points, fixed, moving}
+use Rattle.scheme.specs.Instruments.{beyond, points, fixed, moving}
 use Rattle.scheme.specs.Step.{neighbours, laplacian, innerLaplacian, biharmonic, numeratorOf, numerator, roundAway, forceOf, divisor}
 use Rattle.scheme.specs.Step.{nextAt, nextLevel, someBeyond}
 use Rattle.scheme.proofs.Laws.Bools.{and-both}

@@ -13,7 +13,7 @@ use lib.IntN.{ℤ, pos, negℤ, _+ℤ_, _-ℤ_, _*ℤ_, +ℤ-idl, +ℤ-idr, *ℤ
 use Rattle.integers.specs.Sum.{sum, sumOver}
 use Rattle.integers.proofs.Ring.{#_, ⊝_, _⊕_, _⊖_, _⊗_, _≈_, ring}
 use Rattle.integers.proofs.Sum.{sum-cong, sum-ext, sum-add, sum-scale, sum-split, sum-vanish, over-ext, over-append, over-scale}
-use Rattle.scheme.specs.declared.Grid.{Grid}
+use Rattle.types.specs.declared.Grid.{Grid}
 use Rattle.scheme.specs.Lists.{only}
 use Rattle.scheme.specs.Instruments.{points, freeEnd}
 use Rattle.scheme.specs.Step.{beside, neighbours, laplacian}

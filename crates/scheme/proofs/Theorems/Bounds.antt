@@ -15,9 +15,10 @@ use Rattle.integers.proofs.Lin.{_⊴_, _*≤_, _*⊴_, _*≈_, _⇒_, ⊩_, lin
 use Rattle.integers.proofs.Sum.{sum-ext, sum-scale, sum-mono, over-ext, over-scale, over-mono, over-nonneg, over-const, cauchy}
 use Rattle.forms.proofs.Level.{Level, _⊞_, _⊡_}
 use Rattle.forms.proofs.Form.{polarisation}
-use Rattle.scheme.specs.declared.Grid.{Grid}
-use Rattle.scheme.specs.declared.Instrument.{Instrument}
-use Rattle.scheme.specs.Instruments.{D, kind, points, column, moving, freeIn, freeEnd}
+use Rattle.types.specs.declared.Grid.{Grid}
+use Rattle.types.specs.declared.Instrument.{Instrument}
+use Rattle.types.specs.Numbers.{D}
+use Rattle.scheme.specs.Instruments.{kind, points, column, moving, freeIn, freeEnd}
 use Rattle.scheme.specs.Step.{beside, neighbours, laplacian, innerLaplacian}
 use Rattle.scheme.specs.Energy.{weight, later, pairSum, laplacianSum, energy}
 use Rattle.scheme.proofs.Laws.Step.{laplacian-differences}

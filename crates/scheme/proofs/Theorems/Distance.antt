@@ -15,12 +15,13 @@ use Rattle.integers.proofs.Lin.{_⊴_, _*≤_, _*⊴_, _⇒_, ⊩_, lin}
 use Rattle.integers.proofs.Sum.{sum-mono, sum-scale}
 use Rattle.forms.proofs.Level.{Level, _⊞_, _⊡_, zeros, Still}
 use Rattle.forms.proofs.Distance as Forms
-use Rattle.scheme.specs.declared.Settings.{Settings}
-use Rattle.scheme.specs.declared.Instrument.{Instrument}
-use Rattle.scheme.specs.declared.Hit.{Hit}
-use Rattle.scheme.specs.declared.Hit.the-variants.{Absent}
+use Rattle.types.specs.declared.Settings.{Settings}
+use Rattle.types.specs.declared.Instrument.{Instrument}
+use Rattle.types.specs.declared.Hit.{Hit}
+use Rattle.types.specs.declared.Hit.the-variants.{Absent}
+use Rattle.types.specs.Numbers.{D}
 use Rattle.scheme.specs.Lists.{point, square}
-use Rattle.scheme.specs.Instruments.{D, points, moving, freeEnd}
+use Rattle.scheme.specs.Instruments.{points, moving, freeEnd}
 use Rattle.scheme.specs.Step.{numerator, roundAway, forceOf, divisor, nextAt, nextLevel}
 use Rattle.scheme.specs.Energy.{weight, squares}
 use Rattle.scheme.specs.Book.{LastStep, stepOf, Book, fresh, scale, unroundedAt, unroundedStep, unroundedSteps, sameInstrument}

@@ -10,12 +10,13 @@ use Rattle.integers.proofs.Order.{_⩽_, ≡-≤ℤ, ≤ℤ-≡}
 use Rattle.integers.proofs.Lin.{_*≈_, _⇒_, ⊩≈_, lin}
 use Rattle.forms.proofs.Level.{Level, _⊡_, Still, still-scale}
 use Rattle.forms.proofs.Energy as Forms
-use Rattle.scheme.specs.declared.Grid.{Grid}
-use Rattle.scheme.specs.declared.Instrument.{Instrument}
-use Rattle.scheme.specs.declared.Hit.{Hit}
-use Rattle.scheme.specs.declared.Hit.the-variants.{Absent}
+use Rattle.types.specs.declared.Grid.{Grid}
+use Rattle.types.specs.declared.Instrument.{Instrument}
+use Rattle.types.specs.declared.Hit.{Hit}
+use Rattle.types.specs.declared.Hit.the-variants.{Absent}
+use Rattle.types.specs.Numbers.{D}
 use Rattle.scheme.specs.Lists.{point, square}
-use Rattle.scheme.specs.Instruments.{D, moving}
+use Rattle.scheme.specs.Instruments.{moving}
 use Rattle.scheme.specs.Step.{numerator, divisor}
 use Rattle.scheme.specs.Energy.{energy}
 use Rattle.scheme.specs.Book.{noStep, Book, fresh, scale, unroundedAt, unroundedStep}

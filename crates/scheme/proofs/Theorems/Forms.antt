@@ -11,9 +11,10 @@ use Rattle.integers.proofs.Sum.{sum-ext, sum-scale, sum-nonneg, over-nonneg}
 use Rattle.forms.proofs.Level.{Level, _⊞_, _⊡_, linear-at, linear-minus}
 use Rattle.forms.proofs.Form.{Form, product, times, minus, form-sum, form-over, square-difference}
 use Rattle.forms.proofs.Energy as Energy
-use Rattle.scheme.specs.declared.Grid.{Grid}
-use Rattle.scheme.specs.declared.Instrument.{Instrument}
-use Rattle.scheme.specs.Instruments.{D, points, moving}
+use Rattle.types.specs.declared.Grid.{Grid}
+use Rattle.types.specs.declared.Instrument.{Instrument}
+use Rattle.types.specs.Numbers.{D}
+use Rattle.scheme.specs.Instruments.{points, moving}
 use Rattle.scheme.specs.Step.{laplacian, innerLaplacian, biharmonic}
 use Rattle.scheme.specs.Energy.{weight, later, pairSum, squares, laplacianSum, energy}
 use Rattle.scheme.proofs.Laws.Step.{inner-linear}

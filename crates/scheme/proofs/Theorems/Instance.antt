@@ -9,8 +9,9 @@ use Rattle.integers.proofs.Lin.{_⊴_, _*⊴_, _⇒_, ⊩_, lin}
 use Rattle.integers.proofs.Sum.{sum-ext, sum-add, sum-scale}
 use Rattle.forms.proofs.Level.{Level, zeros, Still}
 use Rattle.forms.proofs.Energy.{Scheme}
-use Rattle.scheme.specs.declared.Instrument.{Instrument}
-use Rattle.scheme.specs.Instruments.{D, points, moving}
+use Rattle.types.specs.declared.Instrument.{Instrument}
+use Rattle.types.specs.Numbers.{D}
+use Rattle.scheme.specs.Instruments.{points, moving}
 use Rattle.scheme.specs.Step.{laplacian, biharmonic, numerator, divisor}
 use Rattle.scheme.specs.Energy.{weight, pairSum, laplacianSum}
 use Rattle.scheme.specs.Passing.{InstrumentPasses}

@@ -3,8 +3,8 @@ use mathlib.Core.Path.{_≡_}
 use mathlib.Core.Bool.{Bool}
 use Prim.Native.Nat.{ℕ}
 use borrow.Author.Needs.{needs}
-use Rattle.scheme.specs.declared.Instrument.{Instrument}
-use Rattle.scheme.specs.declared.Hit.{Hit}
+use Rattle.types.specs.declared.Instrument.{Instrument}
+use Rattle.types.specs.declared.Hit.{Hit}
 use Rattle.line.specs.declared.types.Numbers.{Numbers}
 use Rattle.setup.specs.declared.Setup.{Setup}
 use Rattle.setup.specs.Numbers.{instrumentOf, hitOf, isTooLarge, levelLength, setupOf}

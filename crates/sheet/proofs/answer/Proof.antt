@@ -2,7 +2,7 @@
 use mathlib.Core.Path.{_≡_, refl, sym, ap, _∙_}
 use mathlib.Core.Bool.{not}
 use borrow.Author.Needs.{needs}
-use Rattle.scheme.specs.declared.Refusal.the-variants.{Coefficient, Unstable}
+use Rattle.types.specs.declared.Refusal.the-variants.{Coefficient, Unstable}
 use Rattle.scheme.specs.Instruments.{kind, stableIn}
 use Rattle.scheme.specs.Refusals.{unstable}
 use Rattle.sheet.specs.Call.{instrumentOf, sheetAccepted}

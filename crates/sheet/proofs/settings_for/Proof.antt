@@ -3,7 +3,7 @@ use mathlib.Core.Path.{refl, sym, ap, _∙_}
 use mathlib.Core.Bool.{not}
 use native.Mathlib.Omega.{arith}
 use borrow.Author.Needs.{needs}
-use Rattle.scheme.specs.declared.Refusal.the-variants.{SheetNumber}
+use Rattle.types.specs.declared.Refusal.the-variants.{SheetNumber}
 use Rattle.scheme.specs.Instruments.{kind}
 use Rattle.scheme.proofs.Laws.Kinds.{sized}
 use Rattle.sheet.specs.Call.{coefficientChecks, answerTo, sheetCall}

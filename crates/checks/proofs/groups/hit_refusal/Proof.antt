@@ -3,7 +3,7 @@ use mathlib.Core.Path.{_≡_, sym, ap, _∙_}
 use mathlib.Core.Bool.{Bool, not}
 use mir.Syntax.{w64}
 use mir.ValLaws.{toZ-ofZ}
-use Rattle.scheme.specs.declared.Refusal.the-variants.{NotMoving, TooStrong}
+use Rattle.types.specs.declared.Refusal.the-variants.{NotMoving, TooStrong}
 use Rattle.scheme.specs.Instruments.{beyond}
 use Rattle.scheme.specs.Refusals.{notMoving, tooStrong}
 use Rattle.scheme.proofs.Laws.Bools.{and-yes}

@@ -4,7 +4,7 @@ use mathlib.Core.Bool.{Bool, not, cond}
 use mathlib.Core.List.{[]}
 use borrow.Author.Tests.{lt-ltb, le-ltb}
 use lib.Dec.{ltb}
-use Rattle.scheme.specs.declared.Refusal.the-variants.{PickUp}
+use Rattle.types.specs.declared.Refusal.the-variants.{PickUp}
 use Rattle.scheme.specs.Instruments.{points}
 use Rattle.scheme.specs.Refusals.{notGridPoint}
 use Rattle.instruments.proofs.RefusalLaws.{refused-here, passed-here}

@@ -3,7 +3,7 @@ use mathlib.Core.Path.{refl, sym, ap, _∙_}
 use mathlib.Core.Bool.{not}
 use mathlib.Core.List.{[]}
 use native.Mathlib.Omega.{arith}
-use Rattle.scheme.specs.declared.Refusal.the-variants.{HalfWidth}
+use Rattle.types.specs.declared.Refusal.the-variants.{HalfWidth}
 use Rattle.scheme.specs.Refusals.{wrongWidth}
 use Rattle.scheme.proofs.Laws.Kinds.{sized}
 use Rattle.instruments.proofs.RefusalLaws.{refused-here, passed-here}

@@ -2,8 +2,8 @@
 use mathlib.Core.Path.{_≡_, ap}
 use mathlib.Core.Bool.{true, not}
 use mathlib.Core.List.{List, _++_}
-use Rattle.scheme.specs.declared.Refusal.{Refusal}
-use Rattle.scheme.specs.declared.Refusal.the-variants.{WrongLength}
+use Rattle.types.specs.declared.Refusal.{Refusal}
+use Rattle.types.specs.declared.Refusal.the-variants.{WrongLength}
 use Rattle.scheme.specs.Instruments.{inTable}
 use Rattle.scheme.specs.Refusals.{Check, lowest, lengthChecks, hitChecks, pickChecks, instrumentChecks, instrumentRefusal}
 use Rattle.instruments.proofs.RefusalLaws.{refused-here, passed-here, passed, refused-by, goes-on, instrument-in}

@@ -4,9 +4,9 @@ use mathlib.Core.Bool.{true, not}
 use mathlib.Core.List.{List, _++_}
 use lib.IntN.{ℤ}
 use Rattle.bounded.proofs.Num.{back}
-use Rattle.scheme.specs.declared.Hit.the-variants.{At}
-use Rattle.scheme.specs.declared.Refusal.{Refusal}
-use Rattle.scheme.specs.declared.Refusal.the-variants.{WrongLength}
+use Rattle.types.specs.declared.Hit.the-variants.{At}
+use Rattle.types.specs.declared.Refusal.{Refusal}
+use Rattle.types.specs.declared.Refusal.the-variants.{WrongLength}
 use Rattle.scheme.specs.Instruments.{inTable}
 use Rattle.scheme.specs.Refusals.{lastPlucked, Check, lowest, gridChecks, lengthChecks, hitChecks, widthChecks}
 use Rattle.instruments.proofs.RefusalLaws.{refused-here, passed-here, passed, refused-by, goes-on, grid-in}

@@ -3,7 +3,7 @@ use mathlib.Core.Path.{sym, ap, _∙_}
 use Prim.Native.Nat.{ℕ, _+_, _%_, _^_}
 use borrow.Author.Needs.{needs}
 use Rattle.bounded.proofs.Num.{back}
-use Rattle.scheme.specs.Instruments.{ceiling}
+use Rattle.types.specs.Numbers.{ceiling}
 use Rattle.levels.specs.Levels.{bitsOf}
 use Rattle.levels.proofs.SignLaws.{excess-is}
 use Rattle.levels.proofs.levels.excess.Statement.{statement}

@@ -4,10 +4,10 @@ use mathlib.Core.Bool.{Bool, true, cond}
 use mathlib.Core.List.{List}
 use borrow.Author.Needs.{needs}
 use borrow.Author.Tests.{ne-eqb, not-true, not-false}
+use Rattle.types.specs.declared.Grid.{Grid}
 use Rattle.scheme.proofs.Laws.Bools.{and-yes, and-no}
 use lib.IntN.{ℤ}
 use lib.ListN.{length}
-use Rattle.scheme.specs.declared.Grid.{Grid}
 use Rattle.scheme.specs.Instruments.{points, inTable}
 use Rattle.scheme.specs.Refusals.{fixedNotZero}
 use Rattle.levels.specs.Levels.{unfixed}

@@ -7,7 +7,7 @@ use native.Mathlib.Omega.{arith}
 use borrow.Author.Needs.{needs}
 use lib.IntN.{ℤ}
 use lib.ListN.{length}
-use Rattle.scheme.specs.declared.Grid.{Grid}
+use Rattle.types.specs.declared.Grid.{Grid}
 use Rattle.scheme.specs.Instruments.{inTable, points}
 use Rattle.scheme.proofs.Laws.Lists.{some-at}
 use Rattle.scheme.proofs.Laws.Kinds.{sized}

@@ -8,13 +8,13 @@ use lib.ListN.{length}
 use mir.Syntax.{w64}
 use mir.Val.{toZ, ofZ}
 use Rattle.bounded.proofs.Num.{back}
-use Rattle.scheme.specs.declared.Refusal.{Refusal}
-use Rattle.scheme.specs.declared.Refusal.the-variants.{Nothing}
-use Rattle.scheme.specs.Table.{table}
+use Rattle.types.specs.declared.Refusal.{Refusal}
+use Rattle.types.specs.declared.Refusal.the-variants.{Nothing}
+use Rattle.pluck_table.specs.Table.{table}
 use Rattle.scheme.specs.Pluck.{pluckLevel}
 use Rattle.scheme.specs.Refusals.{pluckRefusal}
 use Rattle.scheme.specs.Calls.{accepted, pluckLeft}
-use Rattle.scheme.proofs.Laws.Table.{table-rule}
+use Rattle.pluck_table.proofs.TableLaws.{table-rule}
 use Rattle.scheme.proofs.Laws.Refusals.{accepted-is}
 use Rattle.scheme.proofs.Laws.Calls.{pluck-done, pluck-refused}
 use Rattle.pluck.proofs.call.pluck.Statement.{statement}

@@ -8,8 +8,8 @@ use lib.IntN.{pos, _*ℤ_}
 use lib.ListN.{length, getD}
 use lib.Signed.{quotZ}
 use Rattle.bounded.proofs.Expr.{E, at, num, _⊠_, _÷_, fits, is}
-use Rattle.scheme.specs.Instruments.{ceiling}
-use Rattle.scheme.proofs.Laws.Table.{entry-high}
+use Rattle.types.specs.Numbers.{ceiling}
+use Rattle.pluck_table.proofs.TableLaws.{entry-high}
 use Rattle.pluck.proofs.PlaceLaws.{place-is, place-inside}
 use Rattle.pluck.proofs.shape.value.Statement.{statement}
 use Rattle.pluck.proofs.shape.value.Tie as tie

@@ -7,7 +7,7 @@ use Rattle.bounded.proofs.Num as Num
 use Rattle.bounded.proofs.Num.{Num}
 use borrow.Author.Needs.{needs}
 use Rattle.bounded.proofs.Expr.{E, at, num, product, stored, _⊞_, _⊟_, _⊠_, fits, is, red, val}
-use Rattle.scheme.specs.Instruments.{D, ceiling}
+use Rattle.types.specs.Numbers.{D, ceiling}
 use Rattle.scheme.specs.Step.{numeratorOf}
 use Rattle.steps.specs.Plan.{Planned, Updatable}
 use Rattle.steps.proofs.PlanLaws.{q-low, m-low, kept-low}

@@ -6,7 +6,7 @@ use mir.Syntax.{w16}
 use mir.Val.{SFits, toZ, ofZ}
 use Rattle.bounded.proofs.Num.{fits16, back16}
 use Rattle.bounded.proofs.Expr.{E, at, _≫_, is, said}
-use Rattle.scheme.specs.Instruments.{ceiling}
+use Rattle.types.specs.Numbers.{ceiling}
 use Rattle.scheme.specs.Step.{sampleOf}
 use Rattle.scheme.proofs.Laws.Rounding.{sample-fits}
 use Rattle.steps.proofs.arithmetic.sample.Statement.{statement}

@@ -11,8 +11,8 @@ use lib.ListN.{length}
 use mir.Syntax.{w64}
 use mir.Val.{toZ, ofZ}
 use Rattle.bounded.proofs.Num.{back}
-use Rattle.scheme.specs.declared.Grid.{Grid}
-use Rattle.scheme.specs.Instruments.{ceiling}
+use Rattle.types.specs.declared.Grid.{Grid}
+use Rattle.types.specs.Numbers.{ceiling}
 use Rattle.scheme.specs.Step.{forceOf, nextAt}
 use Rattle.steps.specs.Plan.{Ready}
 use Rattle.steps.specs.Run.{valueAt, Ran, Placed, Moves, Ends}

@@ -6,7 +6,7 @@ use borrow.Author.Needs.{needs}
 use lib.IntN.{pos}
 use Rattle.integers.proofs.Size.{pos-less}
 use Rattle.bounded.proofs.Expr.{E, at, num, _⊞_, _⊟_, _⊠_, _÷_, fits, is, val}
-use Rattle.scheme.specs.Instruments.{D, ceiling}
+use Rattle.types.specs.Numbers.{D, ceiling}
 use Rattle.scheme.proofs.Laws.Ranges.{coefficients-small}
 use Rattle.steps.specs.Plan.{limitOf}
 use Rattle.steps.proofs.plan.make_plan.Statement.{statement}

@@ -2,8 +2,8 @@
 use mathlib.Core.Path.{_≡_, refl}
 use Prim.Native.Nat.{ℕ, zero, suc}
 use borrow.Author.Needs.{needs}
-use Rattle.scheme.specs.declared.Hit.{Hit}
-use Rattle.scheme.specs.declared.Hit.the-variants.{Absent}
+use Rattle.types.specs.declared.Hit.{Hit}
+use Rattle.types.specs.declared.Hit.the-variants.{Absent}
 use Rattle.scheme.specs.Calls.{hitAfter}
 use Rattle.steps.proofs.play.hit_of.Statement.{statement}
 use Rattle.steps.proofs.play.hit_of.Tie as tie

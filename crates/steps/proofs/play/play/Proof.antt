@@ -7,7 +7,7 @@ use lib.IntN.{ℤ}
 use lib.ListN.{length}
 use mir.Syntax.{w16}
 use mir.ValLaws.{toZ-ofZ}
-use Rattle.scheme.specs.declared.Grid.{Grid}
+use Rattle.types.specs.declared.Grid.{Grid}
 use Rattle.scheme.specs.Instruments.{points}
 use Rattle.scheme.specs.Calls as Calls
 use Rattle.scheme.specs.Calls.{AfterSteps}

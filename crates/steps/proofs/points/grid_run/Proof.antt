@@ -9,7 +9,7 @@ use lib.ListN.{length}
 use mir.Syntax.{w64}
 use mir.Val.{toZ, ofZ}
 use Rattle.bounded.proofs.Num.{back}
-use Rattle.scheme.specs.declared.Grid.{Grid}
+use Rattle.types.specs.declared.Grid.{Grid}
 use Rattle.scheme.specs.Instruments.{column, row}
 use Rattle.scheme.proofs.Laws.Neighbours.{grid-above, grid-below}
 use Rattle.steps.specs.Plan.{Ready, Neighbouring}

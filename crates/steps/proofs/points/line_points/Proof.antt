@@ -8,7 +8,7 @@ use borrow.Author.Needs.{needs}
 use borrow.Author.Tests.{not-true, not-false}
 use lib.IntN.{ℤ}
 use lib.ListN.{length}
-use Rattle.scheme.specs.declared.Grid.{Grid}
+use Rattle.types.specs.declared.Grid.{Grid}
 use Rattle.steps.specs.declared.stretch.Stretch.{Stretch}
 use Rattle.steps.specs.Plan.{Ready}
 use Rattle.steps.specs.Run.{Advanced, Placed, Moves, OnLine, FreeEnd, partOf}

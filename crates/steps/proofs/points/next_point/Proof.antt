@@ -10,9 +10,10 @@ use mir.Val.{toZ, ofZ}
 use Rattle.bounded.specs.Between.{Between}
 use Rattle.bounded.proofs.Num.{back}
 use Rattle.bounded.proofs.Expr.{E, at, is, said}
-use Rattle.scheme.specs.declared.Settings.{Settings}
+use Rattle.types.specs.declared.Settings.{Settings}
+use Rattle.types.specs.Numbers.{ceiling}
 use Rattle.scheme.specs.Lists.{point}
-use Rattle.scheme.specs.Instruments.{ceiling, beyond}
+use Rattle.scheme.specs.Instruments.{beyond}
 use Rattle.scheme.specs.Step.{numeratorOf, roundAway, divisor}
 use Rattle.scheme.proofs.Laws.Ranges.{partial-sums}
 use Rattle.steps.specs.Plan.{Updatable, Ready, Neighbouring}

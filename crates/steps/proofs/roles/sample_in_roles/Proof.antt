@@ -7,8 +7,8 @@ use lib.ListN.{length}
 use mir.Syntax.{w16, w64}
 use mir.Val.{toZ, ofZ}
 use mir.ValLaws.{toZ-ofZ}
+use Rattle.types.specs.Numbers.{ceiling}
 use Rattle.scheme.specs.Lists.{point}
-use Rattle.scheme.specs.Instruments.{ceiling}
 use Rattle.scheme.specs.Step.{sampleOf}
 use Rattle.steps.specs.Roles.{outOf}
 use Rattle.steps.proofs.Held.{held, low-held}

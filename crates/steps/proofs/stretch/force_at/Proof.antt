@@ -3,9 +3,9 @@ use mathlib.Core.Path.{_≡_, sym, ap, _∙_}
 use Prim.Native.Nat.{_≤_}
 use borrow.Author.Tests.{ltb-false}
 use lib.IntN.{ℤ, natAbs}
-use Rattle.scheme.specs.declared.Hit.{Hit}
-use Rattle.scheme.specs.declared.Hit.the-variants.{At}
-use Rattle.scheme.specs.Instruments.{ceiling}
+use Rattle.types.specs.declared.Hit.{Hit}
+use Rattle.types.specs.declared.Hit.the-variants.{At}
+use Rattle.types.specs.Numbers.{ceiling}
 use Rattle.scheme.specs.Refusals.{tooStrong}
 use Rattle.scheme.specs.Step.{forceOf}
 use Rattle.steps.proofs.Held.{held}

@@ -4,8 +4,8 @@ use Prim.Native.Nat.{ℕ, _<_}
 use native.Mathlib.Omega.{arith}
 use borrow.Author.Needs.{needs}
 use lib.IntN.{ℤ}
-use Rattle.scheme.specs.declared.Hit.{Hit}
-use Rattle.scheme.specs.declared.Hit.the-variants.{At}
+use Rattle.types.specs.declared.Hit.{Hit}
+use Rattle.types.specs.declared.Hit.the-variants.{At}
 use Rattle.steps.specs.Run.{Ends}
 use Rattle.steps.proofs.StretchLaws.{ends-row, ends-alone, ends-away, ends-before}
 use Rattle.steps.proofs.stretch.stretch_end.Statement.{statement}

@@ -2,7 +2,7 @@
 use mathlib.Core.Path.{_≡_}
 use borrow.Author.Needs.{needs}
 use lib.ListN.{length}
-use Rattle.scheme.specs.declared.Refusal.the-variants.{Nothing}
+use Rattle.types.specs.declared.Refusal.the-variants.{Nothing}
 use Rattle.scheme.specs.Refusals.{wrongLength, blockRefusal}
 use Rattle.scheme.proofs.Laws.Refusals.{instrument-passes, block-passes}
 use Rattle.steps.specs.declared.plan.Plan.{Plan}

@@ -2,7 +2,7 @@
 use mathlib.Core.Path.{sym, ap}
 use mathlib.Core.Bool.{Bool, cond}
 use borrow.Author.Tests.{lt-ltb, le-ltb}
-use Rattle.scheme.specs.declared.Refusal.the-variants.{Nothing, NextBeyond}
+use Rattle.types.specs.declared.Refusal.the-variants.{Nothing, NextBeyond}
 use Rattle.steps.proofs.turns.ending.Statement.{statement}
 use Rattle.steps.proofs.turns.ending.Tie as tie
 

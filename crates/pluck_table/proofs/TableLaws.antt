@@ -8,7 +8,7 @@ use native.Mathlib.Omega.{arith}
 use mir.Facts.{and-yes}
 use lib.Dec.{T, leb, eqb, leb→le, eqb→eq}
 use lib.ListN.{length, getD}
-use Rattle.scheme.specs.Table.{ShapeRule, TableRule, table}
+use Rattle.pluck_table.specs.Table.{ShapeRule, TableRule, table}
 
 -- the test f passes at each place of the list, counted from i, and its entry
 abbrev every : (ℕ → ℕ → Bool) → ℕ → List ℕ → Bool
