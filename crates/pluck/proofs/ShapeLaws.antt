@@ -4,7 +4,6 @@ use mathlib.Core.Bool.{Bool, true, false, true≢false, _&&_, cond, and-false}
 use mathlib.Core.List.{List}
 use Prim.Native.Nat.{ℕ, _+_, _-_, _≤_, _<_}
 use native.Mathlib.Omega.{arith}
-use borrow.Author.Count.{below-none, below-more}
 use borrow.Author.Tests.{ltb-true, leb-true, leb-false, lt-ltb, le-ltb, le-leb, lt-leb}
 use lib.Dec.{leb, ltb}
 use lib.IntN.{ℤ, pos}
@@ -17,7 +16,7 @@ use Rattle.scheme.proofs.Laws.Lists.{is-tabulate, point-tabulate}
 use Rattle.kinds.specs.Runs.{inRun, apart}
 use Rattle.kinds.proofs.RoundLaws.{gap}
 use Rattle.pluck.specs.declared.shape.Shape.{Shape}
-use Rattle.pluck.specs.Shapes.{Shaped, shapeAt, putAt, putLeft, putBoth, Filled, Raised}
+use Rattle.pluck.specs.Shapes.{Shaped, shapeAt, putAt, putLeft, putBoth, Raised}
 
 -- ---- a point
 
@@ -49,26 +48,6 @@ module _ (table : List ℕ) (s : Shape) (i : ℕ) where
   in-shape a b d =
       let inside = and-yes (le-leb (s .run .from) i a) ∙ lt-ltb i (s .run .to) b in
       sym (at (and-yes inside ∙ le-leb away (s .width) d))
-
--- ---- a level, point by point
-
-module _ (n : ℕ) (f : ℕ → ℤ) where
-  pub filled-none : {xs : List ℤ} → length xs ≡ n → Filled n f xs 0
-  filled-none l = record { long = l; each = below-none _ }
-
-  pub filled-more : {xs : List ℤ} {k : ℕ} {v : ℤ} → k < n → Filled n f xs k → v ≡ f k → Filled n f (set xs k v) (k + 1)
-  filled-more {xs} {k} {v} h m e = record {
-    long = length-set xs k v ∙ m .long;
-    each = below-more _ k (λ j p. getD-set-other xs k j v (pos 0) (λ q. omega arith) ∙ m .each j p)
-        (getD-set-same xs k v (pos 0) (omega (arith, m .long)) ∙ e);
-  }
-
-  pub filled-all : {xs : List ℤ} {k : ℕ} → n ≤ k → Filled n f xs k → xs ≡ tabulate n f
-  filled-all {xs} h m = is-tabulate n f (pos 0) xs (m .long) (λ i p. m .each i (omega arith))
-
--- as long as another, and the same at each point
-pub copied : (n : ℕ) (xs : List ℤ) {ys : List ℤ} {k : ℕ} → length xs ≡ n → n ≤ k → Filled n (point xs) ys k → ys ≡ xs
-copied n xs l h m = filled-all n (point xs) h m ∙ sym (is-tabulate n (point xs) (pos 0) xs l (λ i p. refl))
 
 -- ---- a level, distance by distance
 

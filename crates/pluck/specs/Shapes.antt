@@ -44,11 +44,6 @@ putRight s d v xs = putAt (ltb d (s .run .to - s .centre)) (s .centre + d) v xs
 abbrev pub putBoth : Shape → ℕ → ℤ → List ℤ → List ℤ
 putBoth s d v xs = putRight s d v (putLeft s d v xs)
 
--- the first k of n points are f's
-pub record Filled (n : ℕ) (f : ℕ → ℤ) (xs : List ℤ) (k : ℕ) : Type 0 where
-  pub long : length xs ≡ n
-  pub each : (j : ℕ) → j < k → point xs j ≡ f j
-
 -- of n points those nearer than k to the centre c are f's, the others 0
 pub record Raised (n c : ℕ) (f : ℕ → ℤ) (xs : List ℤ) (k : ℕ) : Type 0 where
   pub long : length xs ≡ n

@@ -16,6 +16,7 @@ use checks::pluck_refusal;
 use instruments::is_nothing;
 use kinds::straight_run;
 use sizes::points_of;
+use slices::copy;
 use types::Grid;
 use types::Refusal;
 
@@ -40,18 +41,6 @@ fn refusal_of(
 {
     let wrong = wrong_levels(g, older, newer);
     pluck_refusal(g, wrong, centre, half_width, height)
-}
-
-// Copies a level to another of its length.
-fn copy(from: &[i64], to: &mut [i64])
-    requires { ⌜ length (now from) ≡ length (now to) ⌝ }
-    ensures { λ _. ⌜ now (to .exit) ≡ now (from .entry) ⌝ }
-{
-    let mut point = 0;
-    while point < to.len() {
-        to[point] = from[point];
-        point += 1;
-    }
 }
 
 // A pluck that nothing refuses, by any table that keeps the rule of a shape.
@@ -80,7 +69,7 @@ fn carry_out(
 }
 
 // Both levels overwritten with the shape of the pluck; or what refuses it, and both as they were.
-// Ruled out: point 0 left as it was; the index of the table taken with 1023 for 1024; a refused pluck answered as carried out.
+// Ruled out: newer left as it was; the index of the table taken with 1023 for 1024; a refused pluck answered as carried out.
 pub fn pluck(
     g: Grid,
     older: &mut [i64],

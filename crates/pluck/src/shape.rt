@@ -1,13 +1,13 @@
 // The shape of a pluck: what its rule gives at each point of a line, by any table that keeps the rule of a shape.
 ghost use mathlib.Core.Path.{_≡_};
 ghost use Prim.Native.Nat.{_≤_};
-ghost use lib.IntN.{pos};
 ghost use lib.ListN.{length};
 ghost use Rattle.pluck_table.specs.Table.{ShapeRule};
 ghost use Rattle.scheme.specs.Lists.{tabulate};
 ghost use Rattle.scheme.specs.Pluck.{pluckValue};
 ghost use Rattle.pluck.specs.Shapes.{Shaped, stepOf, putBoth, shapeAt};
 use kinds::Run;
+use slices::clear;
 
 // A place in the table is counted in parts of an entry.
 const PARTS: usize = 4294967296;
@@ -36,17 +36,6 @@ fn value(shape: Shape, table: &[u32], step: usize, d: usize) -> i64
     let j = (shape.width - d) * step / PARTS;
     let t = table[j] as i64;
     shape.height * t / 65536
-}
-
-// Puts 0 everywhere.
-fn clear(level: &mut [i64])
-    ensures { λ _. ⌜ now (level .exit) ≡ tabulate (length (now (level .entry))) (λ i. pos 0) ⌝ }
-{
-    let mut point = 0;
-    while point < level.len() {
-        level[point] = 0;
-        point += 1;
-    }
 }
 
 // The two points at distance d, where they move.

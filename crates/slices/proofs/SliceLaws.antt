@@ -10,7 +10,7 @@ use lib.Dec.{ltb}
 use lib.IntN.{ℤ, pos}
 use lib.ListN.{length, set, length-set, replicate, length-replicate}
 use lib.Seq.{ext-getD, getD-set-same, getD-set-other}
-use Rattle.scheme.specs.Lists.{point}
+use Rattle.scheme.specs.Lists.{tabulate, point}
 use Rattle.scheme.proofs.Laws.Bools.{cases}
 use Rattle.scheme.proofs.Laws.Lists.{is-tabulate}
 use Rattle.slices.specs.Slices.{Common, copied}
@@ -47,6 +47,10 @@ pub cleared : {xs₀ xs : List ℤ} {k : ℕ} → length xs₀ ≤ k → Passed 
 cleared {xs₀} {xs} {k} h p =
     ext-getD (pos 0) xs (replicate (length xs₀) (pos 0)) (p .long ∙ sym (length-replicate (length xs₀) (pos 0)))
     (λ j l. p .put j (omega (arith, p .long)) ∙ sym (zeros (length xs₀) j))
+
+-- the same, point by point
+pub zeros-are : (n : ℕ) → replicate n (pos 0) ≡ tabulate n (λ k. pos 0)
+zeros-are n = is-tabulate n (λ k. pos 0) (pos 0) (replicate n (pos 0)) (length-replicate n (pos 0)) (λ k h. zeros n k)
 
 -- ---- copies
 

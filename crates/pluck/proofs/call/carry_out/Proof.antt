@@ -2,7 +2,6 @@
 use mathlib.Core.Path.{_≡_, sym, ap, ap₂, _∙_, subst}
 use mathlib.Core.List.{List}
 use Prim.Native.Nat.{_≤_}
-use native.Mathlib.Omega.{arith}
 use borrow.Author.Needs.{needs}
 use lib.IntN.{ℤ}
 use lib.ListN.{length}
@@ -12,6 +11,7 @@ use Rattle.bounded.proofs.Num.{back}
 use Rattle.scheme.specs.Lists.{tabulate}
 use Rattle.scheme.specs.Pluck.{pluckLevel}
 use Rattle.scheme.proofs.Laws.Lists.{length-tabulate}
+use Rattle.slices.proofs.SliceLaws.{copied-whole}
 use Rattle.kinds.specs.declared.runs.Run.{Run}
 use Rattle.kinds.specs.Runs.{runOf}
 use Rattle.pluck.specs.declared.shape.Shape.{Shape}
@@ -69,12 +69,7 @@ fill-requires c κs =
     )
 
 copy-requires : tie.Need-copy-requires
-copy-requires c κs =
-    let f = c .before .before .before in
-    let a = s (m f) .args in
-    let l : length (filled f) ≡ length (a .newer .now) =
-    ap length (filled-is f) ∙ length-tabulate _ _ ∙ as-long _ _ _ _ _ _ (s (m f) .pre .1) in
-    omega arith
+copy-requires c κs = search needs
 
 same-length : tie.Need-same-length
 same-length c = search needs
@@ -85,7 +80,9 @@ same-length-2 c = search needs
 returns : tie.Need-returns
 returns c =
     let f = c .before .before .before .before .before in
-    (older-is f, c .before .copy .ensures ∙ older-is f)
+    let l : length (filled f) ≡ length (s (m f) .args .newer .now) =
+    ap length (filled-is f) ∙ length-tabulate _ _ ∙ as-long _ _ _ _ _ _ (s (m f) .pre .1) in
+    (older-is f, c .before .copy .ensures ∙ copied-whole _ _ l ∙ older-is f)
 
 pub carry-out-spec : {M : Type 1} → statement M
 carry-out-spec =

@@ -5,10 +5,10 @@ use Prim.Native.Nat.{ℕ, _+_, _-_}
 use native.Mathlib.Omega.{arith}
 use borrow.Author.Needs.{needs}
 use lib.IntN.{ℤ}
-use lib.ListN.{length}
+use lib.ListN.{length, length-replicate}
 use Rattle.bounded.proofs.Num.{back}
 use Rattle.scheme.specs.Lists.{tabulate}
-use Rattle.scheme.proofs.Laws.Lists.{length-tabulate}
+use Rattle.slices.proofs.SliceLaws.{zeros-are}
 use Rattle.pluck.specs.Shapes.{shapeAt, Raised}
 use Rattle.pluck.proofs.ShapeLaws.{raised-none, raised-more, raised-all}
 use Rattle.pluck.proofs.shape.fill.Statement.{statement}
@@ -28,7 +28,7 @@ module _ (c : tie.At-loop Inv-loop μ-loop) where
   cleared = c .before .before .before .clear .last .0
 
   as-long : length cleared ≡ length (s .args .level .now)
-  as-long = ap length (c .before .before .before .clear .ensures) ∙ length-tabulate _ _
+  as-long = ap length (c .before .before .before .clear .ensures) ∙ length-replicate _ _
 
 clear-requires : tie.Need-clear-requires Inv-loop μ-loop
 clear-requires c κs = search needs
@@ -37,7 +37,9 @@ step-of-requires : tie.Need-step-of-requires Inv-loop μ-loop
 step-of-requires c κs = search needs
 
 loop-holds : tie.Need-loop-holds Inv-loop μ-loop
-loop-holds c = raised-none _ _ (c .before .before .before .before .before .pre .0) _ _ refl (c .before .before .clear .ensures)
+loop-holds c =
+    let s = c .before .before .before .before .before in
+    raised-none _ _ (s .pre .0) _ _ refl (c .before .before .clear .ensures ∙ zeros-are (length (s .args .level .now)))
 
 value-requires : tie.Need-value-requires Inv-loop μ-loop
 value-requires c κs =
