@@ -48,6 +48,7 @@ fn put_steps(out: &mut [u8], samples: &[i16], count: usize) -> usize
     at
 }
 
+// The first word of the last line.
 fn put_word(out: &mut [u8], at: usize) -> usize
     requires { ⌜ at + 5 ≤ length (now out) ⌝ }
     ensures { λ r. ⌜ Put (now (out .entry)) at (text "done ") r (now (out .exit)) ⌝ }

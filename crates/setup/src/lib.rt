@@ -68,7 +68,8 @@ fn level_length(g: Grid) -> usize
     g.columns * g.rows
 }
 
-// Ruled out: columns and rows exchanged; no hit where the force is 0; 1025 points admitted; an unknown kind that is too large.
+// What the block is called with. Ruled out: columns and rows exchanged; no hit where the force is 0; 1025 points admitted; an unknown
+// kind that is too large.
 pub fn set_up(n: Numbers) -> Setup
     ensures { λ r. ⌜ r ≡ setupOf n ⌝ }
 {

@@ -1,7 +1,7 @@
 -- The program's literals, and its tests of a float, as the definitions have them.
 use mathlib.Core.Path.{_≡_, refl, sym, ap, _∙_}
 use mathlib.Core.Logic.{_⊎_, inl, inr}
-use mathlib.Core.Bool.{Bool, true, false, not, _&&_, and-false, or-true}
+use mathlib.Core.Bool.{Bool, true, false, _&&_, and-false, or-true}
 use Prim.Native.Nat.{ℕ, zero, suc, _+_, _*_, _^_, _%_, _-_, _≤_, _<_, zero-le}
 use native.Mathlib.Nat.{mul-pos, zero-mul, zero-lt-suc, le-of-suc-le-suc, eq-or-lt-of-le}
 use native.Mathlib.Nat.{mul-assoc, mul-le-mul, mul-le-mul-right, lt-of-mul-lt-mul-right}

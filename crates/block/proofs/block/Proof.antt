@@ -48,7 +48,8 @@ returns-2 : tie.Need-returns-2
 returns-2 c =
     let p = c .before .before .before .before .before .settle in
     let e = c .before .before .before .before .before .before .before .before .before in
-    left-carried (e .before .before .before .before .before .before .steps-in-turn .ensures) (not-false _ (e .if1 .left)) (p .ensures .0) (p .ensures .1) (c .before .clear .ensures)
+    left-carried (e .before .before .before .before .before .before .steps-in-turn .ensures) (not-false _ (e .if1 .left)) (p .ensures .0)
+    (p .ensures .1) (c .before .clear .ensures)
 
 pub block-spec : {M : Type 1} → statement M
 block-spec =

@@ -83,8 +83,8 @@ returns c =
     let q = c .before .before .before .before in
     let b = q .before in
     let a = start b .args in
-    own-steps (a .i) (a .older .now) (a .newer .now) (a .work .now) (a .pick) (a .hit) (passes b) (plan b) (planned b .make-plan .ensures .0)
-    (a .samples .now) (q .play .ensures)
+    own-steps (a .i) (a .older .now) (a .newer .now) (a .work .now) (a .pick) (a .hit) (passes b) (plan b)
+    (planned b .make-plan .ensures .0) (a .samples .now) (q .play .ensures)
 
 pub begin-spec : {M : Type 1} → statement M
 begin-spec =

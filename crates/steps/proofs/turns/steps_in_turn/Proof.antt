@@ -30,7 +30,8 @@ module _ (c : tie.After-block-refusal) where
   refusal-is =
       let a = start .args in
       c .block-refusal .ensures ∙
-      block-same (a .i) (a .older .now) (a .newer .now) (not (eqb (length (a .work .now)) (length (a .older .now)))) wrong (a .pick) (a .hit)
+      block-same (a .i) (a .older .now) (a .newer .now) (not (eqb (length (a .work .now)) (length (a .older .now)))) wrong (a .pick)
+      (a .hit)
       (λ right. other-length (a .i .grid) (length (a .older .now)) (length (a .work .now)) right)
 
 block-refusal-requires : tie.Need-block-refusal-requires
