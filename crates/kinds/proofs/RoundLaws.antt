@@ -8,11 +8,11 @@ use borrow.Author.Tests.{ltb-true, leb-true, le-leb, lt-ltb, le-ltb}
 use lib.Dec.{ltb, leb, ltb→lt, nltb→le}
 use lib.IntN.{ℤ, pos, negsuc, natAbs, _+ℤ_, _-ℤ_}
 use lib.Signed.{leZ}
-use Rattle.integers.proofs.Ring.{_⊕_, _⊖_, #_, _≈_, ring}
+use Rattle.integers.proofs.Ring.{_⊕_, _⊖_, _⊗_, #_, _², _≈_, ring}
 use Rattle.integers.proofs.Size.{cond-ind}
 use Rattle.scheme.specs.Lists.{square}
 use Rattle.scheme.specs.Instruments.{offCentre, roundEdge}
-use Rattle.scheme.proofs.Laws.Bools.{and-both, and-yes, not-so}
+use Rattle.scheme.proofs.Laws.Bools.{and-both, and-yes, not-so, same}
 use Rattle.kinds.specs.Search.{Passed}
 use Rattle.kinds.specs.Runs.{run, onSquare, roundRun, apart}
 use Rattle.kinds.proofs.SearchLaws.{leading-is}
@@ -47,12 +47,33 @@ pub offset-mirror : (G a c : ℕ) → a + c + 1 ≡ G → offset G a ≤ offset 
 offset-mirror G a c e = omega arith
 
 -- the left side of the paper's test
-abbrev pub reach : ℕ → ℕ → ℕ → ℕ
+abbrev reach : ℕ → ℕ → ℕ → ℕ
 reach G a b = offset G a * offset G a + offset G b * offset G b
 
-pub round-edge-is : (G a b : ℕ) → 1 ≤ G → roundEdge G a b ≡ leb ((G - 1) * (G - 1)) (reach G a b)
+round-edge-is : (G a b : ℕ) → 1 ≤ G → roundEdge G a b ≡ leb ((G - 1) * (G - 1)) (reach G a b)
 unfolding roundEdge
 round-edge-is G a b h = ap₂ leZ (less-one G h) (ap₂ _+ℤ_ (offset-is G a) (offset-is G b))
+
+-- what the square of an offset lacks of the largest, by the columns on both sides
+ends : (a m : ℕ) → offset (a + m + 1) a * offset (a + m + 1) a + 4 * a * m ≡ (a + m) * (a + m)
+ends a m =
+    ap natAbs (ap (λ (z : ℤ). z +ℤ pos (4 * a * m)) (sym (offset-is (a + m + 1) a)) ∙
+    ring 2 (λ x y. (# 2 ⊗ x ⊖ (x ⊕ y ⊕ # 1) ⊕ # 1) ² ⊕ # 4 ⊗ x ⊗ y ≈ (x ⊕ y) ²) refl (pos a) (pos m))
+
+pub offset-ends : (G a : ℕ) → a < G → offset G a * offset G a + 4 * a * (G - 1 - a) ≡ (G - 1) * (G - 1)
+offset-ends G a h =
+    let m = G - 1 - a in
+    let whole : G ≡ a + m + 1 = omega arith in
+    ap (λ (n : ℕ). offset n a * offset n a + 4 * a * m) whole ∙ ends a m ∙ ap (λ (n : ℕ). n * n) (omega arith)
+
+-- the paper's test by what both squares lack
+rests : (r x y p q : ℕ) → x + p ≡ r → y + q ≡ r → leb p (r - q) ≡ leb r (x + y)
+rests r x y p q e f = same (λ t. le-leb r (x + y) (omega (arith, leb-true p (r - q) t)))
+    (λ t. le-leb p (r - q) (omega (arith, leb-true r (x + y) t)))
+
+pub round-edge-ends : (G a b : ℕ) → a < G → b < G
+    → leb (4 * a * (G - 1 - a)) ((G - 1) * (G - 1) - 4 * b * (G - 1 - b)) ≡ roundEdge G a b
+round-edge-ends G a b p q = rests _ _ _ _ _ (offset-ends G a p) (offset-ends G b q) ∙ sym (round-edge-is G a b (omega arith))
 
 -- a column that is no further from the middle is at the edge only where the other is
 pub edge-inward : (G b a c : ℕ) → 1 ≤ G → offset G a ≤ offset G c → roundEdge G a b ≡ true → roundEdge G c b ≡ true

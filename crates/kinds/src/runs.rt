@@ -3,7 +3,7 @@ ghost use mathlib.Core.Path.{_≡_};
 ghost use mathlib.Core.Bool.{_&&_};
 ghost use Prim.Native.Nat.{_≤_, _<_};
 ghost use Rattle.scheme.specs.Instruments.{roundEdge};
-ghost use Rattle.kinds.specs.Runs.{innerRun, onSquare, straightRun, apart};
+ghost use Rattle.kinds.specs.Runs.{innerRun, onSquare, straightRun};
 
 // The columns a with from ≤ a < to.
 pub struct Run {
@@ -11,20 +11,14 @@ pub struct Run {
     pub to: usize,
 }
 
-fn distance(x: usize, y: usize) -> usize
-    ensures { λ r. ⌜ r ≡ apart x y ⌝ }
-{
-    if x < y { y - x } else { x - y }
-}
-
 // Whether column a of row b is at the edge of a round membrane of c columns.
+// 4a(c − 1 − a) is what (2a − c + 1)² lacks of (c − 1)²: by it the test has no sign, and takes no branch.
 fn is_round_edge(c: usize, a: usize, b: usize) -> bool
     requires { ⌜ (c ≤ 64) × (a < c) × (b < c) ⌝ }
     ensures { λ r. ⌜ r ≡ roundEdge c a b ⌝ }
 {
-    let x = distance(2 * a + 1, c);
-    let y = distance(2 * b + 1, c);
-    (c - 1) * (c - 1) <= x * x + y * y
+    let last = c - 1;
+    4 * a * (last - a) <= last * last - 4 * b * (last - b)
 }
 
 // Whether a membrane of c columns and rows, of 64 at most, has column a and row b.
