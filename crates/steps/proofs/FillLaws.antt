@@ -1,15 +1,14 @@
 -- A list that is filled, and runs that fill it: how they begin, grow and end.
-use mathlib.Core.Path.{_≡_, refl, sym, ap, _∙_, subst}
+use mathlib.Core.Path.{_≡_, refl, sym, _∙_, subst}
 use mathlib.Core.Bool.{Bool, true, false, true≢false}
 use mathlib.Core.List.{List}
 use mathlib.Core.Logic.{_⊎_, inl, inr}
 use Prim.Native.Nat.{ℕ, _+_, _-_, _≤_, _<_}
-use native.Mathlib.Nat.{sub-zero}
 use native.Mathlib.Decide.{decLt}
 use native.Mathlib.Omega.{arith}
 use lib.IntN.{ℤ, pos}
 use lib.ListN.{length, set, length-set}
-use lib.Seq.{ext-getD, getD-set-same, getD-set-other}
+use lib.Seq.{getD-set-same, getD-set-other}
 use Rattle.scheme.specs.Lists.{point}
 use Rattle.scheme.specs.Instruments.{beyond}
 use Rattle.steps.specs.declared.stretch.Stretch.{Stretch}
@@ -78,14 +77,6 @@ module _ (v : ℕ → ℤ) (write : Bool) (base : ℕ) where
   -- points that have their values already
   pub filled-there : (out : List ℤ) (a b : ℕ) → ((k : ℕ) → a ≤ k → k < b → point out (k - base) ≡ v k) → Filled v write base out out a b
   filled-there out a b there = record { long = refl; written = λ w. there; kept = λ j o. refl }
-
--- from the first place to the last, all written
-pub filled-all : {v : ℕ → ℤ} {out₀ out : List ℤ} {k : ℕ} (xs : List ℤ) → length out₀ ≤ k → length xs ≡ length out₀
-    → ((j : ℕ) → v j ≡ point xs j)
-    → Filled v true 0 out₀ out 0 k → out ≡ xs
-filled-all {v} {out₀} {out} {k} xs h l same f =
-    ext-getD (pos 0) out xs (f .long ∙ sym l)
-    (λ j p. ap (point out) (sym (sub-zero j)) ∙ f .written refl j (omega arith) (omega (arith, f .long)) ∙ same j)
 
 -- ---- runs
 
@@ -198,31 +189,3 @@ module _ {v : ℕ → ℤ} {write : Bool} {base : ℕ} where
   -- what was answered, by the test that was made of it
   pub ran-fine : {out₀ out : List ℤ} {a b : ℕ} {r t : Bool} → r ≡ t → Ran v write base out₀ out a b r → Ran v write base out₀ out a b t
   ran-fine {out₀} {out} {a} {b} e q = subst (Ran v write base out₀ out a b) e q
-
--- ---- a loop that fills a list: the points from..at have their values
-
-pub record Filling (v : ℕ → ℤ) (base : ℕ) (out₀ : List ℤ) (from to : ℕ) (out : List ℤ) (at : ℕ) : Type 0 where
-  pub filled : Filled v true base out₀ out from at
-  pub above : base ≤ from
-  pub order : from ≤ at
-  pub upto : at ≤ to
-
-module _ {v : ℕ → ℤ} {base : ℕ} where
-  pub filling-start : (out : List ℤ) (from to : ℕ) → base ≤ from → from ≤ to → Filling v base out from to out from
-  filling-start out from to above h = record { filled = filled-none v true base out from; above = above; order = omega arith; upto = h }
-
-  module _ {out₀ out : List ℤ} {from to at : ℕ} (g : Filling v base out₀ from to out at) where
-    -- one value more, at its place j
-    pub filling-on : (j : ℕ) (x : ℤ) → j + base ≡ at → at < to → to ≤ base + length out₀ → x ≡ v at
-        → Filling v base out₀ from to (set out j x) (at + 1)
-    filling-on j x p l h e = record {
-      filled = filled-append v true base (g .above) (g .order) (omega arith) (g .filled)
-          (subst (λ (j : ℕ). Filled v true base out (set out j x) at (at + 1)) (omega (arith, g .above, g .order))
-          (filled-one v true base out at x refl (omega (arith, g .above, g .order)) (omega (arith, g .filled .long)) e));
-      above = g .above;
-      order = omega (arith, g .order);
-      upto = omega arith;
-    }
-
-    pub filling-done : to ≤ at → Filled v true base out₀ out from to
-    filling-done h = subst (λ (n : ℕ). Filled v true base out₀ out from n) (omega (arith, g .upto)) (g .filled)

@@ -2,7 +2,7 @@
 use mathlib.Core.Path.{_≡_, sym, ap, _∙_}
 use mathlib.Core.Bool.{true, false}
 use mathlib.Core.List.{List}
-use Prim.Native.Nat.{ℕ, _-_, _≤_, _<_, zero-le}
+use Prim.Native.Nat.{ℕ, _≤_, zero-le}
 use native.Mathlib.Omega.{arith}
 use borrow.Author.Tests.{ltb-false}
 use lib.Dec.{eqb}
@@ -14,10 +14,10 @@ use Rattle.types.specs.declared.Hit.{Hit}
 use Rattle.types.specs.declared.Hit.the-variants.{Absent, At}
 use Rattle.types.specs.Numbers.{ceiling}
 use Rattle.scheme.specs.Lists.{point}
-use Rattle.scheme.specs.Instruments.{points, moving}
+use Rattle.scheme.specs.Instruments.{moving}
 use Rattle.scheme.specs.Step.{laplacian, biharmonic, numeratorOf, numerator, roundAway, forceOf, divisor, nextAt}
 use Rattle.scheme.specs.Refusals.{tooStrong}
-use Rattle.scheme.proofs.Laws.Step.{next-moving, moving-inside}
+use Rattle.scheme.proofs.Laws.Step.{next-moving}
 use Rattle.steps.specs.declared.plan.Plan.{Plan}
 use Rattle.steps.specs.Plan.{Ready}
 use Rattle.steps.specs.Run.{valueAt, Moves}
@@ -42,10 +42,6 @@ ready-force r l = record {
 -- some of the moving points
 pub some-move : {g : Grid} {from to a b : ℕ} → Moves g from to → from ≤ a → a ≤ b → b ≤ to → Moves g a b
 some-move m l o h = record { order = o; each = λ k p q. m .each k (omega arith) (omega arith) }
-
--- they lie in the grid
-pub moves-inside : {g : Grid} {from to : ℕ} → Moves g from to → from < to → to ≤ points g
-moves-inside {g} {from} {to} m h = omega (arith, moving-inside g (to - 1) (m .each (to - 1) (omega arith) (omega arith)))
 
 -- the value with the hit's force is the scheme's
 pub next-value : (i : Instrument) (h : Hit) (older newer : List ℤ) (f : ℤ) (k : ℕ) → moving (i .grid) k ≡ true → forceOf h k ≡ f
