@@ -135,9 +135,6 @@ run-by g b e = ap (λ (t : Bool). cond t (runIn (kind g) (g .columns) (g .rows) 
 pub run-is : (g : Grid) (b : ℕ) → inTable g ≡ true → b < g .rows → runOf g b ≡ runIn (kind g) (g .columns) (g .rows) b
 run-is g b size h = run-by g b (and-yes size ∙ lt-ltb b (g .rows) h)
 
-pub run-unlisted : (g : Grid) (b : ℕ) → inTable g ≡ false → runOf g b ≡ run 0 0
-run-unlisted g b size = run-by g b (and-no _ size)
-
 pub run-past : (g : Grid) (b : ℕ) → g .rows ≤ b → runOf g b ≡ run 0 0
 run-past g b h = run-by g b (ap (λ (t : Bool). inTable g && t) (le-ltb b (g .rows) h) ∙ and-false (inTable g))
 

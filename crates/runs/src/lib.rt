@@ -3,7 +3,7 @@ ghost use mathlib.Core.Path.{_≡_};
 ghost use mathlib.Core.Bool.{_&&_};
 ghost use Prim.Native.Nat.{_≤_, _<_};
 ghost use Rattle.scheme.specs.Instruments.{inTable, moving};
-ghost use Rattle.kinds.specs.Runs.{inRun, roundRun, rowRun, runOf};
+ghost use Rattle.kinds.specs.Runs.{inRun, roundRun, rowRun};
 use kinds::Run;
 use kinds::is_round_fixed;
 use kinds::straight_run;
@@ -40,20 +40,6 @@ pub fn row_run(kind: u64, c: usize, r: usize, b: usize) -> Run
         return Run { from: 0, to: 0 };
     }
     round_run(c, b)
-}
-
-// The moving columns of a row; none where the table does not have the grid's size, or the grid does not have the row.
-// Ruled out: kind 5 taken as the round one; the rows taken for the columns.
-pub fn movable_run(g: Grid, row: usize) -> Run
-    ensures { λ r. ⌜ r ≡ runOf g row ⌝ }
-{
-    if !has_size(g) {
-        return Run { from: 0, to: 0 };
-    }
-    if g.rows <= row {
-        return Run { from: 0, to: 0 };
-    }
-    row_run(g.kind, g.columns, g.rows, row)
 }
 
 fn is_in(run: Run, a: usize) -> bool

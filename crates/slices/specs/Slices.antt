@@ -1,4 +1,5 @@
--- What is left of a slice that another was copied to. Vocabulary of the engine's crates.
+-- What is left of a slice that another was copied to. Vocabulary between the engine's crates: no call that a maker
+-- embeds cites it.
 use mathlib.Core.Bool.{cond}
 use mathlib.Core.List.{List}
 use Prim.Native.Nat.{ℕ, _≤_, _<_}

@@ -1,4 +1,5 @@
--- What the steps of a call leave in three slices whose roles turn. What the call itself promises is `block` of crate scheme.
+-- What the steps of a call leave in three slices whose roles turn. Vocabulary between the engine's crates: no call that a maker embeds
+-- cites it. What the call itself promises is `block` of crate scheme.
 use mathlib.Core.Path.{_≡_}
 use mathlib.Core.Bool.{true, false}
 use mathlib.Core.List.{List}
