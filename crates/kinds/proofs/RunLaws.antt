@@ -11,8 +11,9 @@ use lib.Arith.{digits-lt, digits-div, digits-mod}
 use lib.Dec.{ltb, leb, eqb, leb·zero, eqb·suc-zero}
 use Rattle.integers.proofs.Order.{≤-totalℕ}
 use Rattle.types.specs.declared.Grid.{Grid}
-use Rattle.scheme.specs.Instruments.{Kind, unknown, fixedString, halfFreeString, freeString, bar, membrane, roundMembrane, kindOf, kind}
-use Rattle.scheme.specs.Instruments.{points, sizeIn, atEdge, roundEdge, fixedIn, fixed, moving, inTable}
+use Rattle.scheme.specs.Instruments.{Kind, unknown, fixedString, halfFreeString, freeString, bar, membrane, roundMembrane, plate}
+use Rattle.scheme.specs.Instruments.{kindOf, kind, points, sizeIn, atEdge, outerRing, roundEdge, fixedIn, fixed, moving, inTable}
+use Rattle.scheme.specs.Refusals.{lastKind}
 use Rattle.scheme.proofs.Laws.Bools.{and-both, and-yes, and-no, or-no, not-so, same}
 use Rattle.scheme.proofs.Laws.Kinds.{Sized, sized}
 use Rattle.kinds.specs.declared.runs.Run.{Run}
@@ -62,7 +63,7 @@ module _ (c : ℕ) where
   neither a h = sym (and-yes (leb·zero a) ∙ lt-ltb a c h)
 
   -- the outer ring
-  ring-in : (r b a : ℕ) → a < c → not (atEdge c a || atEdge r b) ≡ inRun (innerRun c r b) a
+  ring-in : (r b a : ℕ) → a < c → not (outerRing c r a b) ≡ inRun (innerRun c r b) a
   unfolding innerRun
   ring-in r b a h = go (atEdge c a) (atEdge r b) (ends a h)
     where
@@ -126,6 +127,7 @@ not-fixed freeString c r b a s h = neither c a h
 not-fixed bar c r b a s h = ends c a h
 not-fixed membrane c r b a s h = ring-in c r b a h
 not-fixed roundMembrane c r b a s h = round-in c b (omega arith) a h
+not-fixed plate c r b a s h = ring-in c r b a h
 
 run-by : (g : Grid) (b : ℕ) {t : Bool} → (inTable g && ltb b (g .rows)) ≡ t → runOf g b
     ≡ cond t (runIn (kind g) (g .columns) (g .rows) b) (run 0 0)
@@ -153,17 +155,23 @@ module _ (k c r b : ℕ) where
   pub straight-past : r ≤ b → straightRun k c r b ≡ run 0 0
   straight-past h = straight-by (ap (λ (t : Bool). ltb 0 c && t) (and-no _ (le-ltb b r h)) ∙ and-false (ltb 0 c))
 
-  -- by a number past the kinds that are not round
-  pub straight-other : (1 ≤ k → 5 < k) → straightRun k c r b ≡ run 0 0
+  -- by a number that is no kind's, or the round one's
+  pub straight-other : ((k ≡ 6 → ⊥) → 1 ≤ k → lastKind < k) → straightRun k c r b ≡ run 0 0
   unfolding runIn
   straight-other past = go (ltb 0 c && (ltb b r && not (eqb k 6))) refl
     where
       none : (not (eqb k 6)) ≡ true → kindOf k ≡ unknown
-      none e = kind-none k (λ l. omega (arith, past l, eqb-false k 6 (not-true (eqb k 6) e)))
+      none e = kind-none k (past (eqb-false k 6 (not-true (eqb k 6) e)))
 
       go : (t : Bool) → (ltb 0 c && (ltb b r && not (eqb k 6))) ≡ t → straightRun k c r b ≡ run 0 0
       go true f = straight-by f ∙ ap (λ (K : Kind). runIn K c r b) (none (and-both (ltb b r) _ (and-both (ltb 0 c) _ f .1) .1))
       go false f = straight-by f
+
+-- the outer ring fixed
+pub ring-run : {k : ℕ} (c r b : ℕ) → (k ≡ 5) ⊎ (k ≡ 7) → runIn (kindOf k) c r b ≡ innerRun c r b
+unfolding runIn
+ring-run c r b (inl e) = simp (kind-is membrane e)
+ring-run c r b (inr e) = simp (kind-is plate e)
 
 -- both ends fixed
 pub ends-run : {k : ℕ} (c r b : ℕ) → (k ≡ 1) ⊎ (k ≡ 4) → runIn (kindOf k) c r b ≡ run 1 (c - 1)
@@ -213,15 +221,20 @@ moving-at g i size = go (ltb i (points g)) refl
 
 -- ---- a run lies in its row
 
+run-ring : (c r b : ℕ) → Sized c r → RunIn c (innerRun c r b)
+unfolding innerRun
+run-ring c r b s = run-cond c (atEdge r b) (run 0 0) (run 1 (c - 1)) (λ e. run-none c) (run-inner c (s .columns-low))
+
 run-in : (K : Kind) (c r b : ℕ) → Sized c r → RunIn c (runIn K c r b)
-unfolding runIn innerRun
+unfolding runIn
 run-in unknown c r b s = run-none c
 run-in fixedString c r b s = run-inner c (s .columns-low)
 run-in halfFreeString c r b s = record { rising = omega (arith, s .columns-low); inside = omega arith }
 run-in freeString c r b s = record { rising = zero-le; inside = omega arith }
 run-in bar c r b s = run-inner c (s .columns-low)
-run-in membrane c r b s = run-cond c (atEdge r b) (run 0 0) (run 1 (c - 1)) (λ e. run-none c) (run-inner c (s .columns-low))
+run-in membrane c r b s = run-ring c r b s
 run-in roundMembrane c r b s = round-bounds c b (omega (arith, s .columns-low))
+run-in plate c r b s = run-ring c r b s
 
 pub run-bounds : (g : Grid) (b : ℕ) → RunIn (g .columns) (runOf g b)
 unfolding runOf

@@ -4,8 +4,8 @@ use mathlib.Core.Bool.{Bool, not, _&&_, cond}
 use Prim.Native.Nat.{ℕ, _+_, _-_}
 use lib.Dec.{leb, ltb, eqb}
 use Rattle.types.specs.declared.Grid.{Grid}
-use Rattle.scheme.specs.Instruments.{Kind, unknown, fixedString, halfFreeString, freeString, bar, membrane, roundMembrane, kindOf}
-use Rattle.scheme.specs.Instruments.{kind, inTable, atEdge, roundEdge}
+use Rattle.scheme.specs.Instruments.{Kind, unknown, fixedString, halfFreeString, freeString, bar, membrane, roundMembrane, plate}
+use Rattle.scheme.specs.Instruments.{kindOf, kind, inTable, atEdge, roundEdge}
 use Rattle.kinds.specs.declared.runs.Run.{Run}
 use Rattle.kinds.specs.Search.{leading}
 
@@ -16,7 +16,7 @@ run a b = record { from = a; to = b }
 abbrev pub inRun : Run → ℕ → Bool
 inRun r a = leb (r .from) a && ltb a (r .to)
 
--- "the outer ring of kind 5" is fixed: what moves in row b of c columns and r rows
+-- "the outer ring of kind 5" is fixed, and a plate's: what moves in row b of c columns and r rows
 unfoldable pub innerRun : ℕ → ℕ → ℕ → Run
 innerRun c r b = cond (atEdge r b) (run 0 0) (run 1 (c - 1))
 
@@ -40,6 +40,7 @@ runIn freeString c r b = run 0 c
 runIn bar c r b = run 1 (c - 1)
 runIn membrane c r b = innerRun c r b
 runIn roundMembrane c r b = roundRun c b
+runIn plate c r b = innerRun c r b
 
 -- the same of a kind by its number: none in a round membrane, in no columns, or in a row that is not one of r
 unfoldable pub straightRun : ℕ → ℕ → ℕ → ℕ → Run

@@ -43,7 +43,7 @@ pub fn is_round_fixed(c: usize, a: usize, b: usize) -> bool
     }
 }
 
-// Row b of a rectangular membrane of c columns and r rows.
+// Row b of a rectangular membrane or of a plate, of c columns and r rows.
 fn inner_run(c: usize, r: usize, b: usize) -> Run
     requires { ⌜ (1 ≤ c) × (b < r) ⌝ }
     ensures { λ x. ⌜ x ≡ innerRun c r b ⌝ }
@@ -73,7 +73,7 @@ pub fn straight_run(kind: u64, c: usize, r: usize, b: usize) -> Run
         1 | 4 => Run { from: 1, to: last },
         2 => Run { from: 1, to: c },
         3 => Run { from: 0, to: c },
-        5 => inner_run(c, r, b),
+        5 | 7 => inner_run(c, r, b),
         _ => Run { from: 0, to: 0 },
     }
 }

@@ -11,8 +11,8 @@ use lib.IntN.{ℤ}
 use lib.ListN.{length}
 use Rattle.types.specs.declared.Grid.{Grid}
 use Rattle.scheme.specs.Lists.{someBelow}
-use Rattle.scheme.specs.Instruments.{Kind, unknown, fixedString, halfFreeString, freeString, bar, membrane, roundMembrane, kindOf}
-use Rattle.scheme.specs.Instruments.{kind, points, within, sizeIn, inTable}
+use Rattle.scheme.specs.Instruments.{Kind, unknown, fixedString, halfFreeString, freeString, bar, membrane, roundMembrane, plate}
+use Rattle.scheme.specs.Instruments.{kindOf, kind, points, within, sizeIn, inTable}
 use Rattle.scheme.specs.Refusals.{fixedNotZero}
 use Rattle.scheme.proofs.Laws.Bools.{and-both}
 use Rattle.scheme.proofs.Laws.Kinds.{sized}
@@ -35,10 +35,11 @@ one-row freeString c r s h = line-rows c r s
 one-row bar c r s h = line-rows c r s
 one-row membrane c r s h = absurd (omega arith)
 one-row roundMembrane c r s h = absurd (omega arith)
+one-row plate c r s h = absurd (omega arith)
 
 number-low : (k : ℕ) → k ≤ 4 → numberOf (kindOf k) ≤ 4
 number-low = by-number (λ k K. k ≤ 4 → numberOf K ≤ 4)
-    (λ h. zero-le) (λ h. h) (λ h. h) (λ h. h) (λ h. h) (λ h. h) (λ h. h) (λ k p h. zero-le)
+    (λ h. zero-le) (λ h. h) (λ h. h) (λ h. h) (λ h. h) (λ h. h) (λ h. h) (λ h. h) (λ k p h. zero-le)
 
 pub line-points : (g : Grid) → inTable g ≡ true → g .kind ≤ 4 → points g ≡ g .columns
 line-points g size low =
@@ -65,6 +66,7 @@ module _ (xs : List ℤ) where
   line-ends bar c r s h = two-ends c (sized bar c r s .columns-low)
   line-ends membrane c r s h = absurd (omega arith)
   line-ends roundMembrane c r s h = absurd (omega arith)
+  line-ends plate c r s h = absurd (omega arith)
 
   pub line-test : (g : Grid) → inTable g ≡ true → g .kind ≤ 4 → length xs ≡ points g
       → fixedNotZero g xs ≡ endsNotZero (kind g) xs (g .columns - 1)
@@ -85,4 +87,5 @@ module _ (xs : List ℤ) where
   both-ends c r last =
       by-number (λ k K. k ≤ 4 → (k ≡ 3 → ⊥) → (k ≡ 2 → ⊥) → sizeIn K c r ≡ true → endsNotZero K xs last ≡ (notZero xs 0 || notZero xs last))
       (λ h e f s. absurd (true≢false (sym s))) (λ h e f s. refl) (λ h e f s. absurd (f refl)) (λ h e f s. absurd (e refl)) (λ h e f s. refl)
-      (λ h e f s. absurd (omega arith)) (λ h e f s. absurd (omega arith)) (λ k p h e f s. absurd (omega arith))
+      (λ h e f s. absurd (omega arith)) (λ h e f s. absurd (omega arith)) (λ h e f s. absurd (omega arith))
+      (λ k p h e f s. absurd (omega arith))

@@ -7,7 +7,7 @@ use lib.IntN.{ℤ, pos, negsuc, natAbs}
 use lib.ListN.{length}
 use Rattle.types.specs.declared.Grid.{Grid}
 use Rattle.scheme.specs.Lists.{point, someBelow}
-use Rattle.scheme.specs.Instruments.{Kind, unknown, fixedString, halfFreeString, freeString, bar, membrane, roundMembrane}
+use Rattle.scheme.specs.Instruments.{Kind, unknown, fixedString, halfFreeString, freeString, bar, membrane, roundMembrane, plate}
 use Rattle.scheme.specs.Instruments.{points, inTable, roundEdge, fixed}
 use Rattle.scheme.specs.Refusals.{fixedNotZero}
 use Rattle.kinds.specs.declared.runs.Run.{Run}
@@ -50,6 +50,7 @@ endsNotZero bar xs last = notZero xs 0 || notZero xs last
 endsNotZero unknown xs last = false
 endsNotZero membrane xs last = false
 endsNotZero roundMembrane xs last = false
+endsNotZero plate xs last = false
 
 -- 12 "A fixed point .. not 0", of a level that is as long as a grid whose size the table has
 unfoldable pub unfixed : Grid → List ℤ → Bool

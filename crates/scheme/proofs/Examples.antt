@@ -1,4 +1,4 @@
--- Both tables of examples hold: each row by computing. A row that no longer holds is refused at its own line.
+-- The tables of examples hold: each row by computing. A row that no longer holds is refused at its own line.
 use mathlib.Core.Path.{refl}
 use lib.Ieee.{ofBits, div, ofInt}
 use Rattle.integers.specs.Sum.{sum, sumOver}
@@ -20,6 +20,8 @@ use Rattle.scheme.specs.FurtherExamples.{pluckCentres, pluckHeights, wid
 use Rattle.scheme.specs.FurtherExamples.{pluckedDown, pluckedFree, pluckedBoth, ringListing, endedBlock, atOnce, blockTurnedDown}
 use Rattle.scheme.specs.FurtherExamples.{emptyBlock, energies, bookGoesOn, bookStartsAnew, pluckedBook, pluckThenStep, outcomes}
 use Rattle.scheme.specs.FurtherExamples.{distances, halfOff, FurtherHold}
+use Rattle.scheme.specs.PlateExamples as Plates
+use Rattle.scheme.specs.PlateExamples.{PlatesHold}
 
 pub examples-hold : ExamplesHold
 unfolding tabulate only kindOf countBelow sumOver sizeIn stableIn roundEdge fixedIn moving freeIn beside neighbours laplacian innerLaplacian
@@ -87,3 +89,28 @@ further-hold pluckThenStep = refl
 further-hold outcomes = refl
 further-hold distances = (refl, refl)
 further-hold halfOff = record { all-points = refl; near = record { le = tt } }
+
+pub plates-hold : PlatesHold
+unfolding sum sumOver tabulate someBelow only countBelow kindOf sizeIn stableIn roundEdge fixedIn moving freeIn beside neighbours laplacian
+    innerLaplacian numerator roundAway nextAt nextLevel someBeyond sampleOf fixedNotZero blockRefusal pluckRefusal readingRefusal
+    instrumentRefusal play block weight squares later pairSum laplacianSum energy unroundedAt unroundedStep unroundedSteps goesOn bookBlock
+    leaves bookCall calls
+plates-hold Plates.middle = refl
+plates-hold Plates.corner = refl
+plates-hold Plates.smallest = refl
+plates-hold Plates.narrow = refl
+plates-hold Plates.flat = refl
+plates-hold Plates.withLoss = refl
+plates-hold Plates.withHit = refl
+plates-hold Plates.asMembrane = refl
+plates-hold Plates.sizes = refl
+plates-hold Plates.limits = refl
+plates-hold Plates.stiffKinds = refl
+plates-hold Plates.coefficients = refl
+plates-hold Plates.ringPoints = refl
+plates-hold Plates.hits = refl
+plates-hold Plates.fixedPoints = refl
+plates-hold Plates.otherCalls = refl
+plates-hold Plates.blockEnded = (refl, refl)
+plates-hold Plates.energies = refl
+plates-hold Plates.book = refl

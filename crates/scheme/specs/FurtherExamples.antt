@@ -147,8 +147,9 @@ shows numbers =
     ≡ 0 ∷ 1 ∷ 2 ∷ 3 ∷ 4 ∷ 5 ∷ 6 ∷ 7 ∷ 8 ∷ 9 ∷ 10 ∷ 11 ∷ 12 ∷ 13 ∷ []
 shows kinds =
     instrumentNumbers (instrument 0 3 1 0 0 0 ∷ instrument 1 3 1 0 0 0 ∷ instrument 2 3 1 0 0 0 ∷ instrument 3 3 1 0 0 0
-    ∷ instrument 4 3 1 0 0 0 ∷ instrument 5 3 3 0 0 0 ∷ instrument 6 3 3 0 0 0 ∷ instrument 7 3 3 0 0 0 ∷ [])
-    ≡ 1 ∷ 0 ∷ 0 ∷ 0 ∷ 0 ∷ 0 ∷ 0 ∷ 1 ∷ []
+    ∷ instrument 4 3 1 0 0 0 ∷ instrument 5 3 3 0 0 0 ∷ instrument 6 3 3 0 0 0 ∷ instrument 7 3 3 0 0 0
+    ∷ instrument 8 3 3 0 0 0 ∷ [])
+    ≡ 1 ∷ 0 ∷ 0 ∷ 0 ∷ 0 ∷ 0 ∷ 0 ∷ 0 ∷ 1 ∷ []
 shows lineSizes =
     instrumentNumbers (instrument 1 2 1 0 0 0 ∷ instrument 1 1024 1 0 0 0 ∷ instrument 1 1025 1 0 0 0 ∷ instrument 1 3 0 0 0 0
     ∷ instrument 1 3 2 0 0 0 ∷
@@ -170,7 +171,7 @@ shows stability =
     ∷ instrument 4 3 1 1 16384 0 ∷ instrument 6 3 3 32768 0 0 ∷ instrument 6 3 3 32769 0 0 ∷ [])
     ≡ 0 ∷ 0 ∷ 0 ∷ 5 ∷ 5 ∷ 0 ∷ 5 ∷ []
 shows stiffness = instrumentNumbers (instrument 1 3 1 0 1 0 ∷ instrument 2 3 1 0 1 0 ∷ instrument 3 3 1 0 1 0 ∷ instrument 4 3 1 0 1 0
-    ∷ instrument 5 3 3 0 1 0 ∷ instrument 6 3 3 0 1 0 ∷ []) ≡ 5 ∷ 5 ∷ 5 ∷ 0 ∷ 5 ∷ 5 ∷ []
+    ∷ instrument 5 3 3 0 1 0 ∷ instrument 6 3 3 0 1 0 ∷ instrument 7 3 3 0 1 0 ∷ []) ≡ 5 ∷ 5 ∷ 5 ∷ 0 ∷ 5 ∷ 5 ∷ 0 ∷ []
 shows lengths =
     refusedBy rest rest rest 0 Absent ∷ refusedBy five rest rest 0 Absent ∷ refusedBy rest five rest 0 Absent
     ∷ refusedBy rest rest five 0 Absent ∷ refusedBy rest rest (middle3 (pos 0)) 0 Absent ∷ []

@@ -16,13 +16,13 @@ use Rattle.scheme.specs.Lists.{square}
 abbrev pub beyond : ℤ → Bool
 beyond z = ltb ceiling (natAbs z)
 
--- the table's kinds, and what every other number is
+-- the table's kinds, "thin rectangular plates .. as kind 7", and what every other number is
 pub data Kind : Type 0 where
-  unknown fixedString halfFreeString freeString bar membrane roundMembrane : Kind
+  unknown fixedString halfFreeString freeString bar membrane roundMembrane plate : Kind
 
 -- the table's first column
 unfoldable pub kindOf : ℕ → Kind
-kindOf k = getD (unknown ∷ fixedString ∷ halfFreeString ∷ freeString ∷ bar ∷ membrane ∷ roundMembrane ∷ []) k unknown
+kindOf k = getD (unknown ∷ fixedString ∷ halfFreeString ∷ freeString ∷ bar ∷ membrane ∷ roundMembrane ∷ plate ∷ []) k unknown
 
 abbrev pub kind : Grid → Kind
 kind g = kindOf (g .kind)
@@ -46,21 +46,27 @@ within a b n = leb a n && leb n b
 abbrev pub lineSize : ℕ → ℕ → Bool
 lineSize c r = within 3 1024 c && eqb r 1
 
--- the table's last column, "columns × rows": c columns, r rows
+-- "3..64 × 3..64"
+abbrev pub gridSize : ℕ → ℕ → Bool
+gridSize c r = within 3 64 c && within 3 64 r
+
+-- the table's last column, "columns × rows"; plates have "sizes as kind 5": c columns, r rows
 unfoldable pub sizeIn : Kind → ℕ → ℕ → Bool
 sizeIn unknown c r = false
 sizeIn fixedString c r = lineSize c r
 sizeIn halfFreeString c r = lineSize c r
 sizeIn freeString c r = lineSize c r
 sizeIn bar c r = lineSize c r
-sizeIn membrane c r = within 3 64 c && within 3 64 r
+sizeIn membrane c r = gridSize c r
 sizeIn roundMembrane c r = within 3 64 c && eqb r c
+sizeIn plate c r = gridSize c r
 
 -- the table has these columns and rows for this kind
 abbrev pub inTable : Grid → Bool
 inTable g = sizeIn (kind g) (g .columns) (g .rows)
 
 -- "Stable means: kinds 1 to 3, q ≤ 65536; kind 4, q + 4m ≤ 65536; kinds 5 and 6, 2q ≤ 65536. Only kind 4 may have m above 0."
+-- Of a plate, "Stable is 2q + 16m ≤ 65536, and m may now be above 0 here too."
 unfoldable pub stableIn : Kind → ℕ → ℕ → Bool
 stableIn unknown q m = false
 stableIn fixedString q m = leb q D && eqb m 0
@@ -69,10 +75,15 @@ stableIn freeString q m = leb q D && eqb m 0
 stableIn bar q m = leb (q + 4 * m) D
 stableIn membrane q m = leb (2 * q) D && eqb m 0
 stableIn roundMembrane q m = leb (2 * q) D && eqb m 0
+stableIn plate q m = leb (2 * q + 16 * m) D
 
 -- the first or the last of n
 abbrev pub atEdge : ℕ → ℕ → Bool
 atEdge n a = eqb a 0 || eqb (a + 1) n
+
+-- "the outer ring": column a and row b of c columns and r rows
+abbrev pub outerRing : ℕ → ℕ → ℕ → ℕ → Bool
+outerRing c r a b = atEdge c a || atEdge r b
 
 -- 2a − G + 1
 abbrev pub offCentre : ℕ → ℕ → ℤ
@@ -82,15 +93,17 @@ offCentre G a = pos (2 * a) -ℤ pos G +ℤ pos 1
 unfoldable pub roundEdge : ℕ → ℕ → ℕ → Bool
 roundEdge G a b = leZ (square (pos G -ℤ pos 1)) (square (offCentre G a) +ℤ square (offCentre G b))
 
--- "Fixed points are the ends named above, the outer ring of kind 5, and in kind 6 ..": at column a and row b of c columns and r rows
+-- "Fixed points are the ends named above, the outer ring of kind 5, and in kind 6 ..": at column a and row b of c columns and r rows.
+-- A plate has "the edge supported on all four sides, its outer ring fixed".
 unfoldable pub fixedIn : Kind → ℕ → ℕ → ℕ → ℕ → Bool
 fixedIn unknown c r a b = true
 fixedIn fixedString c r a b = atEdge c a
 fixedIn halfFreeString c r a b = eqb a 0
 fixedIn freeString c r a b = false
 fixedIn bar c r a b = atEdge c a
-fixedIn membrane c r a b = atEdge c a || atEdge r b
+fixedIn membrane c r a b = outerRing c r a b
 fixedIn roundMembrane c r a b = roundEdge c a b
+fixedIn plate c r a b = outerRing c r a b
 
 abbrev pub fixed : Grid → ℕ → Bool
 fixed g i = fixedIn (kind g) (g .columns) (g .rows) (column g i) (row g i)
@@ -108,6 +121,7 @@ freeIn freeString c a = atEdge c a
 freeIn bar c a = false
 freeIn membrane c a = false
 freeIn roundMembrane c a = false
+freeIn plate c a = false
 
 abbrev pub freeEnd : Grid → ℕ → Bool
 freeEnd g i = freeIn (kind g) (g .columns) (column g i)

@@ -14,3 +14,4 @@ pub mod Passing
 pub mod Program
 pub mod Examples
 pub mod FurtherExamples
+pub mod PlateExamples

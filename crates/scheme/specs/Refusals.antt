@@ -22,12 +22,12 @@ use Rattle.scheme.specs.Step.{someBeyond}
 
 -- the last kind, and the last that a pluck admits
 abbrev pub lastKind : ℕ
-lastKind = 6
+lastKind = 7
 
 abbrev pub lastPlucked : ℕ
 lastPlucked = 4
 
--- 1 "Kind not 1..6; for a pluck not 1..4"
+-- 1 "Kind not 1..6; for a pluck not 1..4"; "1 now admits kind 7 except for plucks"
 abbrev pub unknownKind : (last : ℕ) → Grid → Bool
 unknownKind last g = not (within 1 last (g .kind))
 
@@ -39,7 +39,7 @@ wrongSize g = not (inTable g)
 abbrev pub wrongCoefficient : Settings → Bool
 wrongCoefficient c = ltb D (c .q) || ltb D (c .m) || ltb D (c .s)
 
--- 5 "Not stable, or m above 0 outside kind 4"
+-- 5 "Not stable, or m above 0 outside kind 4", for a plate by its own limit
 abbrev pub unstable : Instrument → Bool
 unstable i = not (stableIn (kind (i .grid)) (i .settings .q) (i .settings .m))
 

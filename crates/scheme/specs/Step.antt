@@ -31,11 +31,11 @@ neighbours g i = cond (freeEnd g i) (beside g i ++ beside g i) (beside g i)
 unfoldable pub laplacian : Grid → (ℕ → ℤ) → ℕ → ℤ
 laplacian g a i = sumOver (neighbours g i) a -ℤ pos (length (neighbours g i)) *ℤ a i
 
--- "L counts as 0 at the supported ends": L as a level, 0 where nothing moves
+-- "L counts as 0 at the supported ends", "with L counted 0 on the outer ring" of a plate: L as a level, 0 where nothing moves
 unfoldable pub innerLaplacian : Grid → (ℕ → ℤ) → ℕ → ℤ
 innerLaplacian g a i = cond (moving g i) (laplacian g a i) (pos 0)
 
--- "B is L taken of L"
+-- "B is L taken of L", "on the grid" too
 abbrev pub biharmonic : Grid → (ℕ → ℤ) → ℕ → ℤ
 biharmonic g a i = laplacian g (innerLaplacian g a) i
 

@@ -6,11 +6,11 @@ use Rattle.nearest.specs.Nearest.{halvesUp, nearestTimes}
 use Rattle.sheet.specs.Numbers.{nonNegative, positive, numbersAllowed}
 use Rattle.sheet.specs.Coefficients.{coefficients}
 use Rattle.sheet.specs.Call.{answerTo, sheetCall}
-use Rattle.sheet.specs.Examples.{acceptedSheets, orders, kinds, sizes, zeros, refusedNumbers, ends, limits, ExamplesHold}
+use Rattle.sheet.specs.Examples.{acceptedSheets, orders, kinds, sizes, zeros, refusedNumbers, ends, limits, plates, ExamplesHold}
 
 pub examples-hold : ExamplesHold
 unfolding mul div round ofInt kindOf sizeIn stableIn halvesUp nearestTimes nonNegative positive numbersAllowed coefficients
-    answerTo sheetCall acceptedSheets orders kinds sizes zeros refusedNumbers ends limits
+    answerTo sheetCall acceptedSheets orders kinds sizes zeros refusedNumbers ends limits plates
 examples-hold = record {
   accepted-hold = refl;
   orders-hold = refl;
@@ -20,4 +20,5 @@ examples-hold = record {
   numbers-hold = refl;
   ends-hold = refl;
   limits-hold = refl;
+  plates-hold = refl;
 }

@@ -13,6 +13,7 @@ use lib.IntN.{ℤ, pos, negsuc}
 use lib.Ieee.{Float, nan, inf, fin, up, down, binary64, lt, le, eq, fits, mul, div, round, ofBits}
 use lib.Ieee.Fits.{up-pos, down-pos}
 use Rattle.scheme.specs.Instruments.{kindOf, within}
+use Rattle.scheme.specs.Refusals.{lastKind}
 use Rattle.sizes.proofs.KindLaws.{by-number}
 use Rattle.sheet.specs.declared.Speed.the-variants.{Hertz}
 use Rattle.sheet.specs.declared.Loss.the-variants.{Seconds}
@@ -139,7 +140,7 @@ positive-is (fin false (suc m) e) h =
 -- ---- the kinds that take a pitch
 
 pub pitched-is : (k : ℕ) → within 1 4 k ≡ pitched (kindOf k)
-pitched-is = by-number (λ k K. within 1 4 k ≡ pitched K) refl refl refl refl refl refl refl past
+pitched-is = by-number (λ k K. within 1 4 k ≡ pitched K) refl refl refl refl refl refl refl refl past
   where
-    past : (k : ℕ) → 6 < k → within 1 4 k ≡ false
+    past : (k : ℕ) → lastKind < k → within 1 4 k ≡ false
     past k h = ap (λ (b : Bool). leb 1 k && b) (lt-leb k 4 (omega arith)) ∙ and-false (leb 1 k)

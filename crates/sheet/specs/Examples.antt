@@ -87,7 +87,7 @@ orders =
 unfoldable pub kinds : List Example
 kinds =
     (paperSheet (Hertz nan) lossless on size 0 2 9 gives sheetRefused UnknownKind) ∷
-    (paperSheet (Hertz (whole 10)) lossless on size 7 101 1 gives sheetRefused UnknownKind) ∷ []
+    (paperSheet (Hertz (whole 10)) lossless on size 8 101 1 gives sheetRefused UnknownKind) ∷ []
 
 -- 2, before 3
 unfoldable pub sizes : List Example
@@ -135,6 +135,18 @@ limits =
     (unitSheet (inversePower 18) (tension 1) lossless on size 1 3 1 gives accepts 1 0 0) ∷
     (unitSheet (inversePower 17) (tension 1) lossless on size 1 3 1 gives sheetRefused Unstable) ∷ []
 
+-- kind 7: "sizes as kind 5", no pitch in hertz, "2q + 16m ≤ 65536"; "The sheet's bending number serves unchanged."
+unfoldable pub plates : List Example
+plates =
+    (unitSheet (whole 0) (tension 32768) lossless on size 7 3 64 gives accepts 32768 0 0) ∷
+    (unitSheet (whole 0) (tension 32769) lossless on size 7 3 64 gives sheetRefused Unstable) ∷
+    (unitSheet (inversePower 4) (tension 0) (PerSecond (inversePower 16)) on size 7 3 3 gives accepts 0 4096 1) ∷
+    (unitSheet (nearestFloat 4097 65536) (tension 0) lossless on size 7 3 3 gives sheetRefused Unstable) ∷
+    (unitSheet (inversePower 16) (tension 32760) lossless on size 7 3 3 gives accepts 32760 1 0) ∷
+    (unitSheet (inversePower 16) (tension 32761) lossless on size 7 3 3 gives sheetRefused Unstable) ∷
+    (unitSheet (whole 0) (Hertz (whole 0)) lossless on size 7 3 3 gives sheetRefused SheetNumber) ∷
+    (unitSheet (whole 0) (tension 1) lossless on size 7 3 2 gives sheetRefused WrongSize) ∷ []
+
 pub record ExamplesHold : Type 0 where
   pub accepted-hold : Hold acceptedSheets
   pub orders-hold : Hold orders
@@ -144,3 +156,4 @@ pub record ExamplesHold : Type 0 where
   pub numbers-hold : Hold refusedNumbers
   pub ends-hold : Hold ends
   pub limits-hold : Hold limits
+  pub plates-hold : Hold plates

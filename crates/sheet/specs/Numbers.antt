@@ -1,9 +1,10 @@
 -- Refusal 3: "A sheet number that is not finite, is negative (minus zero counts as zero), or is zero where it is the sample rate, length,
--- density or decay time (a loss per second may be zero); or a pitch in hertz for kinds 5 and 6."
+-- density or decay time (a loss per second may be zero); or a pitch in hertz for kinds 5 and 6." Of kind 7, "3 refuses a pitch in hertz
+-- for it as for drumheads".
 use mathlib.Core.Bool.{Bool, true, false, not, _&&_, _||_}
 use lib.Dec.{eqb}
 use lib.Ieee.{Float, nan, inf, fin}
-use Rattle.scheme.specs.Instruments.{Kind, unknown, fixedString, halfFreeString, freeString, bar, membrane, roundMembrane}
+use Rattle.scheme.specs.Instruments.{Kind, unknown, fixedString, halfFreeString, freeString, bar, membrane, roundMembrane, plate}
 use Rattle.sheet.specs.declared.Speed.{Speed}
 use Rattle.sheet.specs.declared.Speed.the-variants.{Hertz, Tension}
 use Rattle.sheet.specs.declared.Loss.{Loss}
@@ -22,7 +23,7 @@ positive nan = false
 positive (inf s) = false
 positive (fin s m e) = not s && not (eqb m 0)
 
--- the kinds that take "a pitch in hertz": not "kinds 5 and 6"
+-- the kinds that take "a pitch in hertz": not "kinds 5 and 6", and not plates
 abbrev pub pitched : Kind → Bool
 pitched unknown = false
 pitched fixedString = true
@@ -31,6 +32,7 @@ pitched freeString = true
 pitched bar = true
 pitched membrane = false
 pitched roundMembrane = false
+pitched plate = false
 
 abbrev pub speedAllowed : Kind → Speed → Bool
 speedAllowed k (Hertz f) = pitched k && nonNegative f

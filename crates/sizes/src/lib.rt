@@ -24,7 +24,7 @@ fn is_sized(columns: usize, most: usize, rows: usize, low: usize, high: usize) -
     }
 }
 
-// Whether the table has these columns and rows for the kind. Ruled out: two columns; 65 columns of kind 5.
+// Whether the table has these columns and rows for the kind. Ruled out: two columns; 65 columns of kind 5; only square plates.
 pub fn has_size(g: Grid) -> bool
     ensures { λ r. ⌜ r ≡ inTable g ⌝ }
 {
@@ -33,7 +33,7 @@ pub fn has_size(g: Grid) -> bool
     let rows = g.rows;
     match kind {
         1..=4 => is_sized(columns, 1024, rows, 1, 1),
-        5 => is_sized(columns, 64, rows, 3, 64),
+        5 | 7 => is_sized(columns, 64, rows, 3, 64),
         6 => is_sized(columns, 64, rows, columns, columns),
         _ => false,
     }
@@ -47,7 +47,7 @@ pub fn points_of(g: Grid) -> usize
     if has_size(g) { g.columns * g.rows } else { 0 }
 }
 
-// 5: whether the kind is stable with q and m. Ruled out: kind 4 stable by q + 3m; 2q = D refused for kind 5.
+// 5: whether the kind is stable with q and m. Ruled out: kind 4 stable by q + 3m; 2q = D refused for kind 5; a plate stable by 2q + 15m.
 pub fn is_stable(kind: u64, q: u64, m: u64) -> bool
     ensures { λ r. ⌜ r ≡ stableIn (kindOf kind) q m ⌝ }
 {
@@ -62,6 +62,7 @@ pub fn is_stable(kind: u64, q: u64, m: u64) -> bool
         1..=3 => m == 0,
         4 => q + 4 * m <= Settings::D,
         5 | 6 => { if 2 * q <= Settings::D { m == 0 } else { false } }
+        7 => 2 * q + 16 * m <= Settings::D,
         _ => false,
     }
 }

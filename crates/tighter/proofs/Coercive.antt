@@ -5,9 +5,8 @@
 use mathlib.Core.Path.{_≡_, refl, sym, ap, _∙_}
 use mathlib.Core.Bool.{Bool, true, false, cond}
 use mathlib.Core.Logic.{_⊎_, inl, inr}
-use Prim.Native.Nat.{ℕ, _+_, _*_, _≤_, _<_}
+use Prim.Native.Nat.{ℕ, _+_, _*_, _<_}
 use native.Mathlib.Nat as N
-use native.Mathlib.Omega.{arith}
 use lib.IntN.{ℤ, pos, negsuc, negℤ, _+ℤ_, _-ℤ_, _*ℤ_, *ℤ-zero, zero-*ℤ}
 use lib.ListN.{length}
 use Rattle.integers.proofs.Ring.{#_, ⊝_, _⊕_, _⊖_, _⊗_, _≈_, ring}
@@ -19,12 +18,11 @@ use Rattle.forms.proofs.Form.{square-sum, square-difference, square-combination
 use Rattle.types.specs.declared.Grid.{Grid}
 use Rattle.types.specs.declared.Instrument.{Instrument}
 use Rattle.types.specs.Numbers.{D}
-use Rattle.scheme.specs.Instruments.{Kind, unknown, fixedString, halfFreeString, freeString, bar, membrane, roundMembrane, kind, points}
-use Rattle.scheme.specs.Instruments.{moving}
+use Rattle.scheme.specs.Instruments.{kind, points, moving}
 use Rattle.scheme.specs.Step.{beside, laplacian, innerLaplacian}
 use Rattle.scheme.specs.Energy.{weight, later, pairSum, laplacianSum, energy}
 use Rattle.scheme.specs.Passing.{InstrumentPasses}
-use Rattle.scheme.proofs.Laws.Kinds.{degree, stable-means}
+use Rattle.scheme.proofs.Laws.Kinds.{degree, degree-within, stable-means}
 use Rattle.scheme.proofs.Theorems.Balance.{beside-balance}
 use Rattle.scheme.proofs.Theorems.Forms.{weighed, weighed-form, weighed-nonneg, pair-form, pair-nonneg, laplacian-form, laplacian-nonneg}
 use Rattle.scheme.proofs.Theorems.Forms.{laplacian-parts, squares-are}
@@ -134,16 +132,7 @@ module _ (i : Instrument) (ok : InstrumentPasses i) where
         go (inr two) = *ℤ-mono-l m (0≤pos (i .settings .m)) (held two)
 
     far-enough : pos 1 ⩽ pos K *ℤ κ
-    far-enough = pos≤ (N.mul-pos (some-degree (kind g)) (reach-positive g (some-columns i ok)))
-      where
-        some-degree : (X : Kind) → 1 ≤ degree X
-        some-degree unknown = omega arith
-        some-degree fixedString = omega arith
-        some-degree halfFreeString = omega arith
-        some-degree freeString = omega arith
-        some-degree bar = omega arith
-        some-degree membrane = omega arith
-        some-degree roundMembrane = omega arith
+    far-enough = pos≤ (N.mul-pos (degree-within (kind g) .0) (reach-positive g (some-columns i ok)))
 
     module _ (a b : Level) (sa : Still (moving (i .grid)) a) (sb : Still (moving (i .grid)) b) where
       abbrev c : Level

@@ -15,8 +15,8 @@ use Rattle.integers.proofs.Lin.{_⊴_, _*≤_, _*⊴_, _⇒_, ⊩_, lin}
 use Rattle.integers.proofs.Sum.{sum-ext, sum-cong, sum-scale, sum-mono, sum-nonneg, sum-split, over-append, over-nonneg}
 use Rattle.forms.proofs.Level.{Level, Still}
 use Rattle.types.specs.declared.Grid.{Grid}
-use Rattle.scheme.specs.Instruments.{Kind, unknown, fixedString, halfFreeString, freeString, bar, membrane, roundMembrane, kind, points}
-use Rattle.scheme.specs.Instruments.{column, row, fixedIn, roundEdge, offCentre, moving, freeEnd}
+use Rattle.scheme.specs.Instruments.{Kind, unknown, fixedString, halfFreeString, freeString, bar, membrane, roundMembrane, plate}
+use Rattle.scheme.specs.Instruments.{kind, points, column, row, fixedIn, roundEdge, offCentre, moving, freeEnd}
 use Rattle.scheme.specs.Energy.{weight, later, pairSum}
 use Rattle.scheme.proofs.Laws.Step.{fixed-still}
 use Rattle.scheme.proofs.Theorems.Balance.{term, only-sum}
@@ -145,6 +145,7 @@ first-fixed freeString c r b e = absurd (true≢false (sym e))
 first-fixed bar c r b e = refl
 first-fixed membrane c r b e = refl
 first-fixed roundMembrane c r b e = round-first c b
+first-fixed plate c r b e = refl
 
 pub edge-zero : (g : Grid) → 0 < g .columns → edged (kind g) ≡ true → {a : Level} → Still (moving g) a → (b : ℕ)
     → a (g .columns * b) ≡ pos 0

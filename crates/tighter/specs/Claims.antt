@@ -14,7 +14,8 @@ use Rattle.types.specs.declared.Grid.{Grid}
 use Rattle.types.specs.declared.Instrument.{Instrument}
 use Rattle.types.specs.Numbers.{D}
 use Rattle.scheme.specs.Lists.{point, square}
-use Rattle.scheme.specs.Instruments.{Kind, unknown, fixedString, halfFreeString, freeString, bar, membrane, roundMembrane, kind, points}
+use Rattle.scheme.specs.Instruments.{Kind, unknown, fixedString, halfFreeString, freeString, bar, membrane, roundMembrane, plate}
+use Rattle.scheme.specs.Instruments.{kind, points}
 use Rattle.scheme.specs.Step.{divisor}
 use Rattle.scheme.specs.Energy.{weight, squares, energy}
 use Rattle.scheme.specs.Book.{LastStep, noStep, stepOf, scale, Call, start, calls}
@@ -32,6 +33,7 @@ edged freeString = false
 edged bar = true
 edged membrane = true
 edged roundMembrane = true
+edged plate = true
 
 -- C², C the columns: how far a fixed edge reaches (the constant of Poincaré's inequality, Σ c² ≤ C² × Σ over pairs of (difference)²)
 abbrev pub reach : Grid → ℕ

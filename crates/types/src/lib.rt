@@ -46,7 +46,7 @@ pub struct Grid {
 
 impl Grid {
     // The last kind, and the last that a pluck admits.
-    pub const LAST: u64 = 6;
+    pub const LAST: u64 = 7;
 
     pub const LAST_PLUCKED: u64 = 4;
 

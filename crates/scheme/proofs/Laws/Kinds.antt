@@ -13,8 +13,8 @@ use lib.ListN.{length, length-append}
 use Rattle.types.specs.declared.Grid.{Grid}
 use Rattle.types.specs.Numbers.{D}
 use Rattle.scheme.specs.Lists.{only}
-use Rattle.scheme.specs.Instruments.{Kind, unknown, fixedString, halfFreeString, freeString, bar, membrane, roundMembrane, kind}
-use Rattle.scheme.specs.Instruments.{within, lineSize, sizeIn, stableIn, points, column, row, atEdge, freeIn, freeEnd}
+use Rattle.scheme.specs.Instruments.{Kind, unknown, fixedString, halfFreeString, freeString, bar, membrane, roundMembrane, plate}
+use Rattle.scheme.specs.Instruments.{kind, within, lineSize, gridSize, sizeIn, stableIn, points, column, row, atEdge, freeIn, freeEnd}
 use Rattle.scheme.specs.Step.{beside}
 use Rattle.scheme.specs.Energy.{weight}
 use Rattle.scheme.proofs.Laws.Bools.{and-both, and-yes, same}
@@ -28,6 +28,17 @@ degree freeString = 2
 degree bar = 2
 degree membrane = 4
 degree roundMembrane = 4
+degree plate = 4
+
+pub degree-within : (K : Kind) → (1 ≤ degree K) × (degree K ≤ 4)
+degree-within unknown = omega arith
+degree-within fixedString = omega arith
+degree-within halfFreeString = omega arith
+degree-within freeString = omega arith
+degree-within bar = omega arith
+degree-within membrane = omega arith
+degree-within roundMembrane = omega arith
+degree-within plate = omega arith
 
 -- ---- sizes
 
@@ -72,13 +83,16 @@ sized-by m l n c r tm tl tn tp e =
 sized-line : (c r : ℕ) → lineSize c r ≡ true → Sized c r
 sized-line c r e = sized-by 1024 1 1 c r tt tt tt tt (ap (λ (b : Bool). within 3 1024 c && b) (within-one 1 r) ∙ e)
 
+sized-grid : (c r : ℕ) → gridSize c r ≡ true → Sized c r
+sized-grid c r e = sized-by 64 3 64 c r tt tt tt tt e
+
 -- a square is no larger
 sized-square : (c r : ℕ) → (within 3 64 c && eqb r c) ≡ true → Sized c r
 sized-square c r e =
     let p = and-both (within 3 64 c) (eqb r c) e in
     let x = within-is 3 64 c (p .0) in
     let q = eqb-true r c (p .1) in
-    sized-by 64 3 64 c r tt tt tt tt (and-yes (p .0) ∙ is-within 3 64 r (omega arith) (omega arith))
+    sized-grid c r (and-yes (p .0) ∙ is-within 3 64 r (omega arith) (omega arith))
 
 pub sized : (K : Kind) (c r : ℕ) → sizeIn K c r ≡ true → Sized c r
 unfolding sizeIn
@@ -87,8 +101,9 @@ sized fixedString c r e = sized-line c r e
 sized halfFreeString c r e = sized-line c r e
 sized freeString c r e = sized-line c r e
 sized bar c r e = sized-line c r e
-sized membrane c r e = sized-by 64 3 64 c r tt tt tt tt e
+sized membrane c r e = sized-grid c r e
 sized roundMembrane c r e = sized-square c r e
+sized plate c r e = sized-grid c r e
 
 -- ---- how many points stand beside one
 
@@ -167,6 +182,7 @@ module _ (g : Grid) (i : ℕ) where
     free-one bar e = absurd (true≢false (sym e))
     free-one membrane e = absurd (true≢false (sym e))
     free-one roundMembrane e = absurd (true≢false (sym e))
+    free-one plate e = absurd (true≢false (sym e))
 
     line-degree : 2 * length (beside g i) ≤ 2 * weight g i
     unfolding weight
@@ -186,6 +202,7 @@ module _ (g : Grid) (i : ℕ) where
   few p bar k e = line-degree (one-row (g .columns) (g .rows) e) p
   few p membrane k e = grid-degree (ap (λ (K : Kind). freeIn K (g .columns) (column g i)) k)
   few p roundMembrane k e = grid-degree (ap (λ (K : Kind). freeIn K (g .columns) (column g i)) k)
+  few p plate k e = grid-degree (ap (λ (K : Kind). freeIn K (g .columns) (column g i)) k)
 
 -- ---- stability
 
@@ -205,6 +222,7 @@ stable-means freeString q m e = let u = string q m e in omega arith
 stable-means bar q m e = omega (arith, leb-true (q + 4 * m) D e)
 stable-means membrane q m e = let u = soft 2 m q e in omega arith
 stable-means roundMembrane q m e = let u = soft 2 m q e in omega arith
+stable-means plate q m e = omega (arith, leb-true (2 * q + 16 * m) D e)
 
 -- where there is stiffness no end is free
 pub stiff-held : (K : Kind) (q m : ℕ) → stableIn K q m ≡ true → (m ≡ 0) ⊎ ((c a : ℕ) → freeIn K c a ≡ false)
@@ -216,3 +234,4 @@ stiff-held freeString q m e = inl (string q m e .1)
 stiff-held bar q m e = inr (λ c a. refl)
 stiff-held membrane q m e = inl (soft 2 m q e .1)
 stiff-held roundMembrane q m e = inl (soft 2 m q e .1)
+stiff-held plate q m e = inr (λ c a. refl)

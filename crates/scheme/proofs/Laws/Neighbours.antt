@@ -9,8 +9,8 @@ use borrow.Author.Tests.{lt-ltb, le-ltb, ne-eqb}
 use lib.Dec.{ltb}
 use Rattle.types.specs.declared.Grid.{Grid}
 use Rattle.scheme.specs.Lists.{only}
-use Rattle.scheme.specs.Instruments.{Kind, unknown, fixedString, halfFreeString, freeString, bar, membrane, roundMembrane, kind}
-use Rattle.scheme.specs.Instruments.{points, column, row, freeIn, freeEnd}
+use Rattle.scheme.specs.Instruments.{Kind, unknown, fixedString, halfFreeString, freeString, bar, membrane, roundMembrane, plate}
+use Rattle.scheme.specs.Instruments.{kind, points, column, row, freeIn, freeEnd}
 use Rattle.scheme.specs.Step.{beside, neighbours}
 use Rattle.scheme.proofs.Laws.Bools.{neither-or}
 
@@ -32,6 +32,7 @@ inner-held freeString c a h k = neither-or (ne-eqb a 0 (λ e. omega arith)) (ne-
 inner-held bar c a h k = refl
 inner-held membrane c a h k = refl
 inner-held roundMembrane c a h k = refl
+inner-held plate c a h k = refl
 
 module _ (g : Grid) (i : ℕ) where
   -- by the four tests

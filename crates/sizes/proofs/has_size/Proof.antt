@@ -1,10 +1,11 @@
 -- `has_size` meets its contract: each kind's size is a range of columns and a range of rows.
-use mathlib.Core.Path.{sym, ap, _∙_}
+use mathlib.Core.Path.{_≡_, sym, ap, _∙_}
 use mathlib.Core.Bool.{Bool, _&&_}
+use mathlib.Core.Logic.{inl, inr}
 use native.Mathlib.Omega.{arith}
-use Rattle.scheme.specs.Instruments.{membrane, roundMembrane, within, sizeIn}
+use Rattle.scheme.specs.Instruments.{roundMembrane, within, sizeIn}
 use Rattle.scheme.proofs.Laws.Kinds.{within-one}
-use Rattle.sizes.proofs.KindLaws.{kind-is, kind-none, line-size}
+use Rattle.sizes.proofs.KindLaws.{kind-is, kind-none, line-size, grid-size}
 use Rattle.sizes.proofs.has_size.Statement.{statement}
 use Rattle.sizes.proofs.has_size.Tie as tie
 
@@ -18,8 +19,7 @@ is-sized-requires-3 : tie.Need-is-sized-requires-3
 is-sized-requires-3 c κs = tt
 
 returns : tie.Need-returns
-unfolding sizeIn
-returns c = simp (kind-is membrane (c .before .match .keys1)) (c .is-sized .ensures)
+returns c = c .is-sized .ensures ∙ sym (grid-size _ _ _ (c .before .match .keys1))
 
 returns-2 : tie.Need-returns-2
 unfolding sizeIn
@@ -37,7 +37,11 @@ returns-4 c = simp (kind-none (c .before .before .args .g .kind) (λ l. omega ar
 
 returns-5 : tie.Need-returns-5
 unfolding sizeIn
-returns-5 c = simp (kind-none (c .before .before .before .args .g .kind) (λ l. omega arith))
+returns-5 c =
+    let k = c .before .before .before .args .g .kind in
+    let five : k ≡ 5 → ⊥ = λ e. c .before .before .match .rest .0 .1 (inl e) in
+    let seven : k ≡ 7 → ⊥ = λ e. c .before .before .match .rest .0 .1 (inr e) in
+    simp (kind-none k (λ l. omega arith))
 
 pub has-size-spec : {M : Type 1} → statement M
 has-size-spec =
