@@ -15,14 +15,15 @@ use Rattle.types.specs.declared.Grid.{Grid}
 use Rattle.types.specs.declared.Instrument.{Instrument}
 use Rattle.types.specs.Numbers.{ceiling}
 use Rattle.scheme.specs.Lists.{point}
-use Rattle.scheme.specs.Instruments.{bar, kind, points, moving}
+use Rattle.scheme.specs.Instruments.{bar, kind, points, inTable, moving}
 use Rattle.scheme.specs.Step.{neighbours, laplacian, biharmonic}
 use Rattle.scheme.specs.Passing.{InstrumentPasses}
 use Rattle.scheme.specs.Ranges.{AtMost}
-use Rattle.scheme.proofs.Laws.Neighbours.{line-inner, line-first, line-last, grid-inner, grid-below}
+use Rattle.scheme.proofs.Laws.Neighbours.{line-inner, line-first, line-last, grid-inner, grid-above, grid-below}
+use Rattle.scheme.proofs.Laws.Step.{moving-inside}
 use Rattle.steps.specs.Plan.{Neighbouring}
 use Rattle.steps.specs.Run.{Moves, OnLine, FreeEnd, clamp, twoBeside, fourBeside}
-use Rattle.steps.proofs.KindLaws.{Edge, line-long, wide, stiff, line-in, line-free, bar-inner, grid-soft, grid-free, grid-in}
+use Rattle.steps.proofs.KindLaws.{Edge, line-long, wide, line-stiff, line-in, line-free, bar-inner, grid-free, grid-in}
 use Rattle.steps.proofs.StretchLaws.{clamp-before, clamp-inside, clamp-after}
 
 -- ---- points as the machine reads them, and the sum of those on either side of one as it adds them
@@ -38,13 +39,20 @@ module _ (xs : List ℤ) (low : AtMost ceiling (point xs)) where
   abbrev pub two# : (k : ℕ) {r : ℤ} → r ≡ twoBeside xs k → E
   two# k {r} e = via {r = r} {z = twoBeside xs k} {B = 2 * ceiling} (record { is = e; size = size (beside# k) tt })
 
+  -- the sum of all four around one, as a function answered it
+  abbrev pub around# : (columns k : ℕ) {r : ℤ} → r ≡ fourBeside xs columns k → E
+  around# columns k {r} e = via {r = r} {z = fourBeside xs columns k} {B = 4 * ceiling} (record {
+    is = e;
+    size = size (beside# k ⊞ at# (k - columns) ⊞ at# (k + columns)) tt;
+  })
+
 -- ---- the sum over two and over four neighbours
 
 pub sum-two : (a : ℕ → ℤ) (j k : ℕ) → a j +ℤ a k ≡ sumOver (j ∷ k ∷ []) a
 unfolding sumOver
 sum-two a j k = ring 2 (λ x y. x ⊕ y ≈ x ⊕ (y ⊕ # 0)) refl (a j) (a k)
 
-sum-four : (a : ℕ → ℤ) (j k l m : ℕ) → a j +ℤ a k +ℤ a l +ℤ a m ≡ sumOver (j ∷ k ∷ l ∷ m ∷ []) a
+pub sum-four : (a : ℕ → ℤ) (j k l m : ℕ) → a j +ℤ a k +ℤ a l +ℤ a m ≡ sumOver (j ∷ k ∷ l ∷ m ∷ []) a
 unfolding sumOver
 sum-four a j k l m = ring 4 (λ x y z w. x ⊕ y ⊕ z ⊕ w ≈ x ⊕ (y ⊕ (z ⊕ (w ⊕ # 0)))) refl (a j) (a k) (a l) (a m)
 
@@ -54,9 +62,32 @@ unfolding laplacian
 two-laplacian g a k j l e =
     ap (λ (js : List ℕ). sumOver js a -ℤ pos (length js) *ℤ a k) e ∙ ap (λ (z : ℤ). z -ℤ pos 2 *ℤ a k) (sym (sum-two a j l))
 
+-- and where there are four
+four-laplacian : (g : Grid) (a : ℕ → ℤ) (k j l m n : ℕ) → neighbours g k ≡ j ∷ l ∷ m ∷ n ∷ []
+    → laplacian g a k ≡ a j +ℤ a l +ℤ a m +ℤ a n -ℤ pos 4 *ℤ a k
+unfolding laplacian
+four-laplacian g a k j l m n e =
+    ap (λ (js : List ℕ). sumOver js a -ℤ pos (length js) *ℤ a k) e ∙ ap (λ (z : ℤ). z -ℤ pos 4 *ℤ a k) (sym (sum-four a j l m n))
+
 -- without stiffness L of L does not count
 soft-stiff : (m : ℕ) (b : ℤ) → m ≡ 0 → pos m *ℤ pos 0 ≡ pos m *ℤ b
 soft-stiff m b e = ap (λ (n : ℕ). pos n *ℤ pos 0) e ∙ sym (ap (λ (n : ℕ). pos n *ℤ b) e ∙ zero-*ℤ b)
+
+-- a moving point of a grid has four
+module _ (g : Grid) (size : inTable g ≡ true) (grid : g .rows ≡ 1 → ⊥) (k : ℕ) (mk : moving g k ≡ true) where
+  pub around-neighbours : neighbours g k ≡ (k - 1) ∷ (k + 1) ∷ (k - g .columns) ∷ (k + g .columns) ∷ []
+  around-neighbours = let n = grid-in g size grid k mk in grid-inner g k (grid-free g size grid k) (n .0) (n .1) (n .2) (n .3)
+
+  -- all of them in the grid
+  pub around-above : g .columns ≤ k
+  around-above = grid-above g k (grid-in g size grid k mk .2)
+
+  pub around-below : k + g .columns < points g
+  around-below = let n = grid-in g size grid k mk in grid-below g k (n .1) (n .3)
+
+  pub around-laplacian : (a : ℕ → ℤ)
+      → laplacian g a k ≡ a (k - 1) +ℤ a (k + 1) +ℤ a (k - g .columns) +ℤ a (k + g .columns) -ℤ pos 4 *ℤ a k
+  around-laplacian a = four-laplacian g a k (k - 1) (k + 1) (k - g .columns) (k + g .columns) around-neighbours
 
 module _ (i : Instrument) (ok : InstrumentPasses i) where
   abbrev g : Grid
@@ -65,9 +96,9 @@ module _ (i : Instrument) (ok : InstrumentPasses i) where
   abbrev m : ℕ
   m = i .settings .m
 
-  -- where L of L counts, the kind is a bar
-  pub is-bar : (m ≡ 0 → ⊥) → kind g ≡ bar
-  is-bar n = go (stiff i ok)
+  -- where L of L counts on a line, the kind is a bar
+  pub is-bar : g .rows ≡ 1 → (m ≡ 0 → ⊥) → kind g ≡ bar
+  is-bar line n = go (line-stiff i ok line)
     where
       go : (m ≡ 0) ⊎ (kind g ≡ bar) → kind g ≡ bar
       go (inl e) = absurd (n e)
@@ -100,16 +131,16 @@ module _ (i : Instrument) (ok : InstrumentPasses i) where
   module _ (line : g .rows ≡ 1) {from to : ℕ} (all : Moves g from to) (some : from < to) where
     -- a moving end is no bar's
     end-soft : (k : ℕ) → moving g k ≡ true → Edge (g .columns) k → m ≡ 0
-    end-soft k mk o = go (stiff i ok) o
+    end-soft k mk o = go (line-stiff i ok line) o
       where
         go : (m ≡ 0) ⊎ (kind g ≡ bar) → Edge (g .columns) k → m ≡ 0
         go (inl e) p = e
-        go (inr b) (inl h) = absurd (omega (arith, bar-inner i ok line k mk b))
-        go (inr b) (inr h) = absurd (omega (arith, bar-inner i ok line k mk b))
+        go (inr b) (inl h) = absurd (omega (arith, bar-inner g (ok .size) line k mk b))
+        go (inr b) (inr h) = absurd (omega (arith, bar-inner g (ok .size) line k mk b))
 
     -- the range ends within the line
     pub within-line : to ≤ g .columns
-    within-line = omega (arith, line-in i ok line (to - 1) (all .each (to - 1) (omega arith) (omega arith)))
+    within-line = omega (arith, line-in g (ok .size) line (to - 1) (all .each (to - 1) (omega arith) (omega arith)))
 
     no-end : (near a : ℕ) → near < g .columns → FreeEnd i near a a
     no-end near a h = record {
@@ -126,16 +157,16 @@ module _ (i : Instrument) (ok : InstrumentPasses i) where
       where
         go : Dec (from ≡ 0) → FreeEnd i 1 from (clamp from to 1)
         go (no n) = subst (FreeEnd i 1 from) (sym (clamp-before from to (omega arith) 1 (omega arith)))
-            (no-end 1 from (omega (arith, wide i ok)))
+            (no-end 1 from (omega (arith, wide g (ok .size))))
         go (yes e) =
             let moves : moving g from ≡ true = all .each from (omega arith) some in
             subst (FreeEnd i 1 from) (sym (clamp-inside from to (omega arith) 1 (omega arith) (omega arith)))
             (record {
               one = omega arith;
-              inside = omega (arith, line-long g line, wide i ok);
-              there = λ l. omega (arith, line-long g line, wide i ok);
-              twice = λ l. line-first g from line (omega (arith, wide i ok)) e (omega (arith, wide i ok))
-                  (line-free i ok line from moves (inl e)) ∙ ap (λ (j : ℕ). j ∷ j ∷ []) (omega arith);
+              inside = omega (arith, line-long g line, wide g (ok .size));
+              there = λ l. omega (arith, line-long g line, wide g (ok .size));
+              twice = λ l. line-first g from line (omega (arith, wide g (ok .size))) e (omega (arith, wide g (ok .size)))
+                  (line-free g (ok .size) line from moves (inl e)) ∙ ap (λ (j : ℕ). j ∷ j ∷ []) (omega arith);
               soft = λ l. end-soft from moves (inl e);
             })
 
@@ -146,17 +177,17 @@ module _ (i : Instrument) (ok : InstrumentPasses i) where
         go : Dec (to ≡ n) → FreeEnd i (n - 2) (clamp from to (n - 1)) to
         go (no d) =
             subst (λ (a : ℕ). FreeEnd i (n - 2) a to) (sym (clamp-after from to (omega arith) (n - 1) (omega (arith, within-line))))
-            (no-end (n - 2) to (omega (arith, wide i ok)))
+            (no-end (n - 2) to (omega (arith, wide g (ok .size))))
         go (yes e) =
-            let end : n - 1 + 1 ≡ g .columns = omega (arith, wide i ok) in
+            let end : n - 1 + 1 ≡ g .columns = omega (arith, wide g (ok .size)) in
             let moves : moving g (n - 1) ≡ true = all .each (n - 1) (omega arith) (omega arith) in
             subst (λ (a : ℕ). FreeEnd i (n - 2) a to) (sym (clamp-inside from to (omega arith) (n - 1) (omega arith) (omega arith)))
             (record {
               one = omega arith;
-              inside = omega (arith, line-long g line, wide i ok);
-              there = λ l. omega (arith, line-long g line, wide i ok);
-              twice = λ l. line-last g (n - 1) line (omega arith) end (omega (arith, wide i ok))
-                  (line-free i ok line (n - 1) moves (inr end)) ∙ ap (λ (j : ℕ). j ∷ j ∷ []) (omega arith);
+              inside = omega (arith, line-long g line, wide g (ok .size));
+              there = λ l. omega (arith, line-long g line, wide g (ok .size));
+              twice = λ l. line-last g (n - 1) line (omega arith) end (omega (arith, wide g (ok .size)))
+                  (line-free g (ok .size) line (n - 1) moves (inr end)) ∙ ap (λ (j : ℕ). j ∷ j ∷ []) (omega arith);
               soft = λ l. end-soft (n - 1) moves (inr end);
             })
 
@@ -168,10 +199,8 @@ module _ (i : Instrument) (ok : InstrumentPasses i) where
 
   -- ---- a grid
 
-  pub grid-beside : (g .rows ≡ 1 → ⊥) → (newer : List ℤ) (k : ℕ) → moving g k ≡ true
+  pub grid-beside : (g .rows ≡ 1 → ⊥) → m ≡ 0 → (newer : List ℤ) (k : ℕ) → moving g k ≡ true
       → Neighbouring i newer k (fourBeside newer (g .columns) k) (pos 4) (pos 0)
-  grid-beside grid newer k mk =
-      let n = grid-in i ok grid k mk in
-      soft-beside newer k _ _ (omega (arith, grid-below g k (n .1) (n .3))) (grid-soft i ok grid)
-      (grid-inner g k (grid-free i ok grid k) (n .0) (n .1) (n .2) (n .3))
+  grid-beside grid soft newer k mk =
+      soft-beside newer k _ _ (moving-inside g k mk) soft (around-neighbours g (ok .size) grid k mk)
       (sum-four (point newer) (k - 1) (k + 1) (k - g .columns) (k + g .columns))

@@ -1,12 +1,13 @@
 -- The next values of moving points, by the force that a hit has on them.
-use mathlib.Core.Path.{_≡_, sym, ap, _∙_}
-use mathlib.Core.Bool.{true, false}
+use mathlib.Core.Path.{_≡_, sym, ap, _∙_, subst}
+use mathlib.Core.Bool.{Bool, true, false}
 use mathlib.Core.List.{List}
 use Prim.Native.Nat.{ℕ, _≤_, zero-le}
 use native.Mathlib.Omega.{arith}
 use borrow.Author.Tests.{ltb-false}
 use lib.Dec.{eqb}
 use lib.IntN.{ℤ, pos, natAbs}
+use lib.ListN.{length}
 use Rattle.integers.proofs.Size.{cond-ind}
 use Rattle.types.specs.declared.Grid.{Grid}
 use Rattle.types.specs.declared.Instrument.{Instrument}
@@ -19,17 +20,19 @@ use Rattle.scheme.specs.Step.{laplacian, biharmonic, numeratorOf, numerator, ro
 use Rattle.scheme.specs.Refusals.{tooStrong}
 use Rattle.scheme.proofs.Laws.Step.{next-moving}
 use Rattle.steps.specs.declared.plan.Plan.{Plan}
+use Rattle.steps.specs.declared.stretch.Stretch.{Stretch}
 use Rattle.steps.specs.Plan.{Ready}
-use Rattle.steps.specs.Run.{valueAt, Moves}
+use Rattle.steps.specs.Run.{valueAt, Ran, Placed, Moves, Ends}
+use Rattle.steps.proofs.FillLaws.{Running, running-on, running-stops, ran-same}
 
 -- a force within the ceiling
-pub force-low : (h : Hit) → tooStrong h ≡ false → (k : ℕ) → natAbs (forceOf h k) ≤ ceiling
+force-low : (h : Hit) → tooStrong h ≡ false → (k : ℕ) → natAbs (forceOf h k) ≤ ceiling
 force-low Absent e k = zero-le
 force-low (At p f) e k =
     cond-ind (eqb k p) f (pos 0) (λ (z : ℤ). natAbs z ≤ ceiling) (λ t. ltb-false ceiling (natAbs f) e) (λ t. zero-le)
 
 -- what is ready for one force is ready for another
-pub ready-force : {p : Plan} {f f′ : ℤ} {older newer : List ℤ} → Ready p f older newer → natAbs f′ ≤ ceiling → Ready p f′ older newer
+ready-force : {p : Plan} {f f′ : ℤ} {older newer : List ℤ} → Ready p f older newer → natAbs f′ ≤ ceiling → Ready p f′ older newer
 ready-force r l = record {
   planned = r .planned;
   older-long = r .older-long;
@@ -40,11 +43,11 @@ ready-force r l = record {
 }
 
 -- some of the moving points
-pub some-move : {g : Grid} {from to a b : ℕ} → Moves g from to → from ≤ a → a ≤ b → b ≤ to → Moves g a b
+some-move : {g : Grid} {from to a b : ℕ} → Moves g from to → from ≤ a → a ≤ b → b ≤ to → Moves g a b
 some-move m l o h = record { order = o; each = λ k p q. m .each k (omega arith) (omega arith) }
 
 -- the value with the hit's force is the scheme's
-pub next-value : (i : Instrument) (h : Hit) (older newer : List ℤ) (f : ℤ) (k : ℕ) → moving (i .grid) k ≡ true → forceOf h k ≡ f
+next-value : (i : Instrument) (h : Hit) (older newer : List ℤ) (f : ℤ) (k : ℕ) → moving (i .grid) k ≡ true → forceOf h k ≡ f
     → valueAt i f older newer k ≡ nextAt i h older newer k
 unfolding valueAt numerator
 next-value i h older newer f k m e =
@@ -52,3 +55,44 @@ next-value i h older newer f k m e =
     (biharmonic (i .grid) (point newer) k)
     (point older k) z) (divisor (i .settings))) (sym e) ∙
     sym (next-moving i h older newer k m)
+
+-- ---- a loop over the stretches of a row
+
+-- the points from `at` to `end` are the next stretch, with the force z on each; those before are done
+pub record Struck (p : Plan) (h : Hit) (older newer : List ℤ) (row : Stretch) (out₀ out : List ℤ) (at end : ℕ) (z : ℤ) : Type 0 where
+  pub moves : Moves (p .instrument .grid) (row .from) (row .to)
+  pub inv : Running (nextAt (p .instrument) h older newer) (row .write) (row .base) out₀ (row .from) (row .to) out at
+  pub ends : Ends h at (row .to) end
+  pub force-is : z ≡ forceOf h at
+
+module _ {p : Plan} {h : Hit} {older newer : List ℤ} {row : Stretch} {out₀ out : List ℤ} {at end : ℕ} {z : ℤ}
+    (t : Struck p h older newer row out₀ out at end z) where
+  pub struck-ready : tooStrong h ≡ false → Ready p (pos 0) older newer → Ready p z older newer
+  struck-ready low r = ready-force r (subst (λ (z : ℤ). natAbs z ≤ ceiling) (sym (t .force-is)) (force-low h low at))
+
+  pub struck-placed : Placed row (length out₀)
+      → Placed (record { from = at; to = end; force = z; base = row .base; write = row .write }) (length out)
+  struck-placed q = record {
+    order = omega (arith, t .ends .some);
+    above = omega (arith, q .above, t .inv .order);
+    room = omega (arith, q .room, t .ends .upto, t .inv .ran .long);
+  }
+
+  pub struck-moves : Moves (p .instrument .grid) at end
+  struck-moves = some-move (t .moves) (t .inv .order) (omega (arith, t .ends .some)) (t .ends .upto)
+
+  module _ {out′ : List ℤ} where
+    -- the values with that force are the scheme's
+    as-next : {fine : Bool} → Ran (valueAt (p .instrument) z older newer) (row .write) (row .base) out out′ at end fine
+        → Ran (nextAt (p .instrument) h older newer) (row .write) (row .base) out out′ at end fine
+    as-next q =
+        ran-same
+        (λ k a b. next-value (p .instrument) h older newer z k (struck-moves .each k a b) (t .ends .one-force k a b ∙ sym (t .force-is))) q
+
+    pub struck-on : Ran (valueAt (p .instrument) z older newer) (row .write) (row .base) out out′ at end true
+        → Running (nextAt (p .instrument) h older newer) (row .write) (row .base) out₀ (row .from) (row .to) out′ end
+    struck-on q = running-on (t .inv) (omega (arith, t .ends .some)) (t .ends .upto) (as-next q)
+
+    pub struck-stops : Ran (valueAt (p .instrument) z older newer) (row .write) (row .base) out out′ at end false
+        → Ran (nextAt (p .instrument) h older newer) (row .write) (row .base) out₀ out′ (row .from) (row .to) false
+    struck-stops q = running-stops (t .inv) (omega (arith, t .ends .some)) (t .ends .upto) (as-next q)

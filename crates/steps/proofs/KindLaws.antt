@@ -15,9 +15,9 @@ use Rattle.types.specs.declared.Grid.{Grid}
 use Rattle.types.specs.declared.Instrument.{Instrument}
 use Rattle.types.specs.Numbers.{D}
 use Rattle.scheme.specs.Lists.{square}
-use Rattle.scheme.specs.Instruments.{Kind, unknown, fixedString, halfFreeString, freeString, bar, membrane, roundMembrane, kind, points}
-use Rattle.scheme.specs.Instruments.{column, row, within, lineSize, sizeIn, stableIn, atEdge, offCentre, roundEdge, fixedIn, fixed, moving}
-use Rattle.scheme.specs.Instruments.{freeIn, freeEnd}
+use Rattle.scheme.specs.Instruments.{Kind, unknown, fixedString, halfFreeString, freeString, bar, membrane, roundMembrane, plate}
+use Rattle.scheme.specs.Instruments.{kind, points, column, row, within, lineSize, gridSize, sizeIn, stableIn, atEdge, outerRing}
+use Rattle.scheme.specs.Instruments.{inTable, offCentre, roundEdge, fixedIn, fixed, moving, freeIn, freeEnd}
 use Rattle.scheme.proofs.Laws.Bools.{and-both, or-neither}
 use Rattle.scheme.proofs.Laws.Kinds.{within-is, sized}
 use Rattle.scheme.proofs.Laws.Step.{moving-inside}
@@ -74,26 +74,25 @@ module _ (n a b : ℕ) (e : roundEdge n a b ≡ false) where
 second-equal : (t : Bool) (a b : ℕ) → (t && eqb a b) ≡ true → a ≡ b
 second-equal t a b e = eqb-true a b (and-both t (eqb a b) e .1)
 
--- stiffness is a bar's alone
-pub stiff-bar : (K : Kind) (q m : ℕ) → stableIn K q m ≡ true → (m ≡ 0) ⊎ (K ≡ bar)
+-- stiffness is a bar's or a plate's alone
+stiff-kind : (K : Kind) (q m : ℕ) → stableIn K q m ≡ true → (m ≡ 0) ⊎ ((K ≡ bar) ⊎ (K ≡ plate))
 unfolding stableIn
-stiff-bar unknown q m e = absurd (true≢false (sym e))
-stiff-bar fixedString q m e = inl (second-equal (leb q D) m 0 e)
-stiff-bar halfFreeString q m e = inl (second-equal (leb q D) m 0 e)
-stiff-bar freeString q m e = inl (second-equal (leb q D) m 0 e)
-stiff-bar bar q m e = inr refl
-stiff-bar membrane q m e = inl (second-equal (leb (2 * q) D) m 0 e)
-stiff-bar roundMembrane q m e = inl (second-equal (leb (2 * q) D) m 0 e)
+stiff-kind unknown q m e = absurd (true≢false (sym e))
+stiff-kind fixedString q m e = inl (second-equal (leb q D) m 0 e)
+stiff-kind halfFreeString q m e = inl (second-equal (leb q D) m 0 e)
+stiff-kind freeString q m e = inl (second-equal (leb q D) m 0 e)
+stiff-kind bar q m e = inr (inl refl)
+stiff-kind membrane q m e = inl (second-equal (leb (2 * q) D) m 0 e)
+stiff-kind roundMembrane q m e = inl (second-equal (leb (2 * q) D) m 0 e)
+stiff-kind plate q m e = inr (inr refl)
 
 module _ (c r : ℕ) where
-  -- membranes have three rows or more
-  membrane-rows : (K : Kind) → (K ≡ membrane) ⊎ (K ≡ roundMembrane) → sizeIn K c r ≡ true → 3 ≤ r
-  unfolding sizeIn
-  membrane-rows K (inl e) s =
-      within-is 3 64 r (and-both (within 3 64 c) (within 3 64 r) (subst (λ (K : Kind). sizeIn K c r ≡ true) e s) .1) .0
-  membrane-rows K (inr e) s =
-      let t = subst (λ (K : Kind). sizeIn K c r ≡ true) e s in
-      omega (arith, second-equal (within 3 64 c) r c t, within-is 3 64 c (and-both (within 3 64 c) (eqb r c) t .0) .0)
+  -- membranes and plates have three rows or more
+  grid-rows : gridSize c r ≡ true → 3 ≤ r
+  grid-rows s = within-is 3 64 r (and-both (within 3 64 c) (within 3 64 r) s .1) .0
+
+  round-rows : (within 3 64 c && eqb r c) ≡ true → 3 ≤ r
+  round-rows s = omega (arith, second-equal (within 3 64 c) r c s, within-is 3 64 c (and-both (within 3 64 c) (eqb r c) s .0) .0)
 
   -- a moving end of a line is free
   end-free : (K : Kind) (a b : ℕ) → sizeIn K c r ≡ true → r ≡ 1 → fixedIn K c r a b ≡ false → Edge c a → freeIn K c a ≡ true
@@ -104,8 +103,9 @@ module _ (c r : ℕ) where
   end-free halfFreeString a b s l e (inr h) = eq-eqb (a + 1) c h
   end-free freeString a b s l e o = at-edge c a o
   end-free bar a b s l e o = absurd (off-edge c a e o)
-  end-free membrane a b s l e o = absurd (omega (arith, membrane-rows membrane (inl refl) s))
-  end-free roundMembrane a b s l e o = absurd (omega (arith, membrane-rows roundMembrane (inr refl) s))
+  end-free membrane a b s l e o = absurd (omega (arith, grid-rows s))
+  end-free roundMembrane a b s l e o = absurd (omega (arith, round-rows s))
+  end-free plate a b s l e o = absurd (omega (arith, grid-rows s))
 
   line-rows : lineSize c r ≡ true → r ≡ 1
   line-rows s = second-equal (within 3 1024 c) r 1 s
@@ -120,6 +120,10 @@ module _ (c r : ℕ) where
   grid-held bar a s n = refl
   grid-held membrane a s n = refl
   grid-held roundMembrane a s n = refl
+  grid-held plate a s n = refl
+
+  off-ring : (a b : ℕ) → outerRing c r a b ≡ false → (Edge c a → ⊥) × (Edge r b → ⊥)
+  off-ring a b e = let u = or-neither (atEdge c a) (atEdge r b) e in (off-edge c a (u .0), off-edge r b (u .1))
 
   grid-edges : (K : Kind) (a b : ℕ) → sizeIn K c r ≡ true → (r ≡ 1 → ⊥) → fixedIn K c r a b ≡ false → (Edge c a → ⊥) × (Edge r b → ⊥)
   unfolding fixedIn sizeIn
@@ -128,13 +132,20 @@ module _ (c r : ℕ) where
   grid-edges halfFreeString a b s n e = absurd (n (line-rows s))
   grid-edges freeString a b s n e = absurd (n (line-rows s))
   grid-edges bar a b s n e = absurd (n (line-rows s))
-  grid-edges membrane a b s n e = let u = or-neither (atEdge c a) (atEdge r b) e in (off-edge c a (u .0), off-edge r b (u .1))
+  grid-edges membrane a b s n e = off-ring a b e
   grid-edges roundMembrane a b s n e =
       (round-column c a b e, subst (λ (n : ℕ). Edge n b → ⊥) (sym (second-equal (within 3 64 c) r c s)) (round-row c a b e))
+  grid-edges plate a b s n e = off-ring a b e
 
   bar-line : (K : Kind) → K ≡ bar → sizeIn K c r ≡ true → r ≡ 1
   unfolding sizeIn
   bar-line K e s = line-rows (subst (λ (K : Kind). sizeIn K c r ≡ true) e s)
+
+  plate-in : (K : Kind) → K ≡ plate → sizeIn K c r ≡ true → (c ≤ 64) × (3 ≤ r)
+  unfolding sizeIn
+  plate-in K e s =
+      let t = subst (λ (K : Kind). sizeIn K c r ≡ true) e s in
+      (within-is 3 64 c (and-both (within 3 64 c) (within 3 64 r) t .0) .1, grid-rows t)
 
 -- ---- moving points
 
@@ -146,15 +157,12 @@ moves-free g k m = not-true (fixed g k) (and-both (ltb k (points g)) (not (fixed
 pub line-long : (g : Grid) → g .rows ≡ 1 → points g ≡ g .columns
 line-long g e = ap (λ (n : ℕ). g .columns * n) e ∙ N.mul-one (g .columns)
 
-module _ (i : Instrument) (ok : InstrumentPasses i) where
-  abbrev g : Grid
-  g = i .grid
-
+module _ (g : Grid) (size : inTable g ≡ true) where
   pub wide : 3 ≤ g .columns
-  wide = sized (kind g) (g .columns) (g .rows) (ok .size) .columns-low
+  wide = sized (kind g) (g .columns) (g .rows) size .columns-low
 
-  pub stiff : (i .settings .m ≡ 0) ⊎ (kind g ≡ bar)
-  stiff = stiff-bar (kind g) (i .settings .q) (i .settings .m) (ok .stable)
+  pub plate-sized : kind g ≡ plate → (g .columns ≤ 64) × (3 ≤ g .rows)
+  plate-sized e = plate-in (g .columns) (g .rows) (kind g) e size
 
   module _ (line : g .rows ≡ 1) (k : ℕ) (m : moving g k ≡ true) where
     pub line-in : k < g .columns
@@ -165,7 +173,7 @@ module _ (i : Instrument) (ok : InstrumentPasses i) where
 
     pub line-free : Edge (g .columns) k → freeEnd g k ≡ true
     line-free o =
-        end-free (g .columns) (g .rows) (kind g) (column g k) (row g k) (ok .size) line (moves-free g k m)
+        end-free (g .columns) (g .rows) (kind g) (column g k) (row g k) size line (moves-free g k m)
         (subst (Edge (g .columns)) (sym line-column) o)
 
     -- a bar's ends do not move
@@ -175,25 +183,40 @@ module _ (i : Instrument) (ok : InstrumentPasses i) where
         let held = subst (λ (K : Kind). fixedIn K (g .columns) (g .rows) (column g k) (row g k) ≡ false) is-bar (moves-free g k m) in
         inner (g .columns) k line-in (subst (λ (j : ℕ). Edge (g .columns) j → ⊥) line-column (off-edge (g .columns) (column g k) held))
 
-  pub bar-one-row : kind g ≡ bar → g .rows ≡ 1
-  bar-one-row e = bar-line (g .columns) (g .rows) (kind g) e (ok .size)
-
   module _ (grid : g .rows ≡ 1 → ⊥) where
-    pub grid-soft : i .settings .m ≡ 0
-    grid-soft = go stiff
-      where
-        go : (i .settings .m ≡ 0) ⊎ (kind g ≡ bar) → i .settings .m ≡ 0
-        go (inl e) = e
-        go (inr e) = absurd (grid (bar-one-row e))
-
     pub grid-free : (k : ℕ) → freeEnd g k ≡ false
-    grid-free k = grid-held (g .columns) (g .rows) (kind g) (column g k) (ok .size) grid
+    grid-free k = grid-held (g .columns) (g .rows) (kind g) (column g k) size grid
 
     pub grid-in : (k : ℕ) → moving g k ≡ true → (0 < column g k) × (column g k + 1 < g .columns) × (0 < row g k) × (row g k + 1 < g .rows)
     grid-in k m =
         let some : 0 < g .columns = omega (arith, wide) in
-        let edges = grid-edges (g .columns) (g .rows) (kind g) (column g k) (row g k) (ok .size) grid (moves-free g k m) in
+        let edges = grid-edges (g .columns) (g .rows) (kind g) (column g k) (row g k) size grid (moves-free g k m) in
         let across = inner (g .columns) (column g k) (N.mod-lt k some) (edges .0) in
         let down = inner (g .rows) (row g k) (N.div-lt-iff-lt-mul some .1
         (subst (λ (n : ℕ). k < n) (N.mul-comm (g .columns) (g .rows)) (moving-inside g k m))) (edges .1) in
         (across .0, across .1, down .0, down .1)
+
+-- ---- stiffness: of lines only a bar's, of grids only a plate's
+
+module _ (i : Instrument) (ok : InstrumentPasses i) where
+  abbrev stiffly : Type 0
+  stiffly = (i .settings .m ≡ 0) ⊎ ((kind (i .grid) ≡ bar) ⊎ (kind (i .grid) ≡ plate))
+
+  stiff : stiffly
+  stiff = stiff-kind (kind (i .grid)) (i .settings .q) (i .settings .m) (ok .stable)
+
+  pub line-stiff : i .grid .rows ≡ 1 → (i .settings .m ≡ 0) ⊎ (kind (i .grid) ≡ bar)
+  line-stiff line = go stiff
+    where
+      go : stiffly → (i .settings .m ≡ 0) ⊎ (kind (i .grid) ≡ bar)
+      go (inl e) = inl e
+      go (inr (inl e)) = inr e
+      go (inr (inr e)) = absurd (omega (arith, plate-sized (i .grid) (ok .size) e))
+
+  pub grid-stiff : (i .grid .rows ≡ 1 → ⊥) → (i .settings .m ≡ 0 → ⊥) → kind (i .grid) ≡ plate
+  grid-stiff grid n = go stiff
+    where
+      go : stiffly → kind (i .grid) ≡ plate
+      go (inl e) = absurd (n e)
+      go (inr (inl e)) = absurd (grid (bar-line (i .grid .columns) (i .grid .rows) (kind (i .grid)) e (ok .size)))
+      go (inr (inr e)) = e

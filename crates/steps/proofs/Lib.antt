@@ -10,5 +10,7 @@ pub mod BendLaws
 pub mod LineLaws
 pub mod HitLaws
 pub mod RowLaws
+pub mod PlateLaws
+pub mod PlateRowLaws
 pub mod PlayLaws
 pub mod TurnLaws

@@ -39,7 +39,7 @@ module _ (s : Stretch) {p : Plan} {older newer : List ℤ} (r : Ready p (s .forc
   n-is = r .newer-long ∙ line-long g line
 
   pub three : 3 ≤ n
-  three = omega (arith, wide i ok, n-is)
+  three = omega (arith, wide g (ok .size), n-is)
 
   within : s .to ≤ n
   within = omega (arith, within-line i ok line all some, n-is)

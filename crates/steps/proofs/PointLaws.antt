@@ -11,23 +11,14 @@ use Rattle.types.specs.declared.Settings.{Settings}
 use Rattle.types.specs.declared.Instrument.{Instrument}
 use Rattle.types.specs.Numbers.{D, ceiling}
 use Rattle.scheme.specs.Lists.{point}
-use Rattle.scheme.specs.Instruments.{Kind, unknown, fixedString, halfFreeString, freeString, bar, membrane, roundMembrane, kind}
+use Rattle.scheme.specs.Instruments.{kind}
 use Rattle.scheme.specs.Step.{neighbours, laplacian, biharmonic, numeratorOf, numerator, roundAway, divisor}
-use Rattle.scheme.proofs.Laws.Kinds.{degree}
+use Rattle.scheme.proofs.Laws.Kinds.{degree-within}
 use Rattle.scheme.specs.Ranges.{Terms}
 use Rattle.scheme.proofs.Laws.Ranges.{neighbour-count, numerator-terms}
 use Rattle.steps.specs.declared.plan.Plan.{Plan}
 use Rattle.steps.specs.Plan.{Updatable, Ready, Neighbouring}
 use Rattle.steps.specs.Run.{valueAt}
-
-at-most-four : (K : Kind) → degree K ≤ 4
-at-most-four unknown = omega arith
-at-most-four fixedString = omega arith
-at-most-four halfFreeString = omega arith
-at-most-four freeString = omega arith
-at-most-four bar = omega arith
-at-most-four membrane = omega arith
-at-most-four roundMembrane = omega arith
 
 module _ {p : Plan} {f : ℤ} {older newer : List ℤ} {k : ℕ} {sum count b : ℤ} (r : Ready p f older newer)
     (n : Neighbouring (p .instrument) newer k sum count b) where
@@ -45,7 +36,7 @@ module _ {p : Plan} {f : ℤ} {older newer : List ℤ} {k : ℕ} {sum count b : 
   laplacian-is = ap₂ (λ (x y : ℤ). x -ℤ y *ℤ point newer k) (sym (n .sum-is)) (sym (n .count-is))
 
   few : length (neighbours (i .grid) k) ≤ 4
-  few = N.le-trans (neighbour-count (i .grid) (r .planned .passes .size) k (n .inside)) (at-most-four (kind (i .grid)))
+  few = N.le-trans (neighbour-count (i .grid) (r .planned .passes .size) k (n .inside)) (degree-within (kind (i .grid)) .1)
 
   terms : Terms c (point newer k) l b (point older k) f
   terms =

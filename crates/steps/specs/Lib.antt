@@ -1,6 +1,7 @@
 -- What the functions of `steps` require and ensure. What a block promises is `block` of crate scheme.
 pub mod Plan
 pub mod Run
+pub mod Plates
 pub mod Edges
 pub mod Roles
 pub mod Turns

@@ -28,6 +28,10 @@ pub record Planned (p : Plan) : Type 0 where
   pub divisor-is : p .divisor ≡ pos (divisor (p .instrument .settings))
   pub limit-is : p .limit ≡ pos (limitOf (divisor (p .instrument .settings)))
 
+-- off a line there is no stiffness: every kind but a plate
+abbrev pub SoftGrid : Instrument → Type 0
+SoftGrid i = (i .grid .rows ≡ 1 → ⊥) → i .settings .m ≡ 0
+
 -- what a point's numerator is made of: no sum of it passes 2⁶²
 pub record Updatable (c : Settings) (u sum count b p f : ℤ) : Type 0 where
   pub u-low : natAbs u ≤ ceiling

@@ -112,6 +112,10 @@ twoBeside xs k = point xs (k - 1) +ℤ point xs (k + 1)
 abbrev pub fourBeside : List ℤ → (columns : ℕ) → ℕ → ℤ
 fourBeside xs columns k = twoBeside xs k +ℤ point xs (k - columns) +ℤ point xs (k + columns)
 
+-- L on a grid
+abbrev pub gridLaplacian : List ℤ → (columns : ℕ) → ℕ → ℤ
+gridLaplacian xs columns k = fourBeside xs columns k -ℤ pos 4 *ℤ point xs k
+
 -- L on a line
 abbrev pub lineLaplacian : List ℤ → ℕ → ℤ
 lineLaplacian xs k = twoBeside xs k -ℤ pos 2 *ℤ point xs k

@@ -4,7 +4,7 @@ ghost use mathlib.Core.Bool.{true, false};
 ghost use lib.IntN.{pos};
 ghost use lib.ListN.{length};
 ghost use Rattle.scheme.specs.Refusals.{tooStrong};
-ghost use Rattle.steps.specs.Plan.{Ready};
+ghost use Rattle.steps.specs.Plan.{Ready, SoftGrid};
 ghost use Rattle.steps.specs.Run.{Stepping, Placed, Moves};
 ghost use Rattle.steps.specs.Edges.{EdgesOf};
 ghost use Rattle.steps.specs.Roles.{Steppable, Stepped};
@@ -25,7 +25,7 @@ fn row_run(
     out: &mut [i64],
 ) -> bool
     requires { ⌜ Ready plan (pos 0) (now older) (now newer) × Placed row (length (now out)) ⌝ }
-    requires { ⌜ Moves (plan .instrument .grid) (row .from) (row .to) × (tooStrong hit ≡ false) ⌝ }
+    requires { ⌜ Moves (plan .instrument .grid) (row .from) (row .to) × (tooStrong hit ≡ false) × SoftGrid (plan .instrument) ⌝ }
     ensures { λ r. ⌜ Stepping (plan .instrument) hit (row .write) (row .base) (now (older .entry)) (now (newer .entry))
         (now (out .entry)) (now (out .exit)) (row .from) (row .to) r ⌝ }
 {
@@ -47,7 +47,7 @@ fn row_run(
     true
 }
 
-// Every moving point: from and to have the moving columns of each row.
+// Every moving point: from and to have the moving columns of each row. Off a line there is no stiffness.
 pub(crate) fn level_run(
     plan: Plan,
     from: &[u16; 64],
@@ -58,7 +58,7 @@ pub(crate) fn level_run(
     hit: Hit,
 ) -> bool
     requires { ⌜ Steppable plan hit (now older) (now newer) (now out) ⌝ }
-    requires { ⌜ EdgesOf (plan .instrument .grid) (now from) (now to) ⌝ }
+    requires { ⌜ EdgesOf (plan .instrument .grid) (now from) (now to) × SoftGrid (plan .instrument) ⌝ }
     ensures { λ r. ⌜ Stepped (plan .instrument) hit (now (older .entry)) (now (newer .entry)) (now (out .exit)) r ⌝ }
 {
     let columns = plan.instrument.grid.columns;

@@ -4,6 +4,7 @@ mod edges;
 mod level;
 mod neighbours;
 mod plan;
+mod plates;
 mod play;
 mod points;
 mod roles;

@@ -3,7 +3,7 @@
 ghost use mathlib.Core.Path.{_≡_};
 ghost use Prim.Native.Nat.{_+_, _-_, _≤_, _<_};
 ghost use lib.ListN.{length};
-ghost use Rattle.steps.specs.Plan.{Ready, Neighbouring};
+ghost use Rattle.steps.specs.Plan.{Ready, SoftGrid, Neighbouring};
 ghost use Rattle.scheme.specs.Instruments.{bar, kind};
 ghost use Rattle.steps.specs.Run.{Advanced, Placed, Moves, OnLine, FreeEnd};
 use crate::arithmetic::numerator;
@@ -17,7 +17,7 @@ use crate::stretch::Stretch;
 use crate::stretch::part;
 
 // One point: sum and count are its neighbours', b is L of L there.
-fn next_point(
+pub(crate) fn next_point(
     plan: Plan,
     older: &[i64],
     newer: &[i64],
@@ -82,7 +82,7 @@ fn bar_run(plan: Plan, older: &[i64], newer: &[i64], s: Stretch, out: &mut [i64]
     true
 }
 
-// Inner points of a line. Only a bar is stiff.
+// Inner points of a line. Of lines only a bar is stiff.
 fn inner_points(plan: Plan, older: &[i64], newer: &[i64], s: Stretch, out: &mut [i64]) -> bool
     requires { ⌜ Ready plan (s .force) (now older) (now newer) × Placed s (length (now out)) ⌝ }
     requires { ⌜ OnLine (plan .instrument .grid) (s .from) (s .to) ⌝ }
@@ -130,10 +130,11 @@ fn line_points(plan: Plan, older: &[i64], newer: &[i64], s: Stretch, out: &mut [
     free_end(plan, older, newer, n - 2, part(s, n - 1, n), out)
 }
 
-// Moving points of a row of a grid.
+// Moving points of a row of a grid, without stiffness.
 fn grid_run(plan: Plan, older: &[i64], newer: &[i64], s: Stretch, out: &mut [i64]) -> bool
     requires { ⌜ Ready plan (s .force) (now older) (now newer) × Placed s (length (now out)) ⌝ }
-    requires { ⌜ (plan .instrument .grid .rows ≡ 1 → ⊥) × Moves (plan .instrument .grid) (s .from) (s .to) ⌝ }
+    requires { ⌜ (plan .instrument .grid .rows ≡ 1 → ⊥) × (plan .instrument .settings .m ≡ 0)
+        × Moves (plan .instrument .grid) (s .from) (s .to) ⌝ }
     ensures { λ r. ⌜ Advanced plan s (now (older .entry)) (now (newer .entry)) (now (out .entry)) (now (out .exit)) (s .from) (s .to) r ⌝ }
 {
     let columns = plan.instrument.grid.columns;
@@ -148,7 +149,7 @@ fn grid_run(plan: Plan, older: &[i64], newer: &[i64], s: Stretch, out: &mut [i64
     true
 }
 
-// Moving points of a row.
+// Moving points of a row. Off a line there is no stiffness.
 pub(crate) fn points_run(
     plan: Plan,
     older: &[i64],
@@ -157,7 +158,7 @@ pub(crate) fn points_run(
     out: &mut [i64],
 ) -> bool
     requires { ⌜ Ready plan (s .force) (now older) (now newer) × Placed s (length (now out)) ⌝ }
-    requires { ⌜ Moves (plan .instrument .grid) (s .from) (s .to) × (s .from < s .to) ⌝ }
+    requires { ⌜ Moves (plan .instrument .grid) (s .from) (s .to) × (s .from < s .to) × SoftGrid (plan .instrument) ⌝ }
     ensures { λ r. ⌜ Advanced plan s (now (older .entry)) (now (newer .entry)) (now (out .entry)) (now (out .exit)) (s .from) (s .to) r ⌝ }
 {
     if plan.instrument.grid.rows == 1 {

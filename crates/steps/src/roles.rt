@@ -7,14 +7,63 @@ ghost use Rattle.types.specs.Numbers.{ceiling};
 ghost use Rattle.scheme.specs.Lists.{point};
 ghost use Rattle.scheme.specs.Step.{sampleOf};
 ghost use Rattle.scheme.specs.Ranges.{AtMost};
+ghost use Rattle.scheme.specs.Instruments.{plate, kind};
+ghost use Rattle.steps.specs.Plan.{SoftGrid};
 ghost use Rattle.steps.specs.Edges.{EdgesOf};
 ghost use Rattle.steps.specs.Roles.{Steppable, SteppedIn, turnedOf, olderOf, newerOf, outOf};
 use crate::arithmetic::sample;
 use crate::level::level_run;
 use crate::plan::Plan;
+use crate::plates::plate_level;
 use types::Hit;
 
-// A step with the three slices in their roles.
+// The next level with the three slices in their roles, off a line without stiffness.
+fn level_in_roles(
+    plan: Plan,
+    from: &[u16; 64],
+    to: &[u16; 64],
+    older: &mut [i64],
+    newer: &mut [i64],
+    work: &mut [i64],
+    hit: Hit,
+    phase: usize,
+) -> bool
+    requires { ⌜ Steppable plan hit (olderOf phase (now older) (now newer) (now work)) (newerOf phase (now older) (now newer) (now work))
+        (outOf phase (now older) (now newer) (now work)) ⌝ }
+    requires { ⌜ EdgesOf (plan .instrument .grid) (now from) (now to) × SoftGrid (plan .instrument) ⌝ }
+    ensures { λ r. ⌜ SteppedIn phase (plan .instrument) hit (now (older .entry)) (now (newer .entry)) (now (work .entry))
+        (now (older .exit)) (now (newer .exit)) (now (work .exit)) r ⌝ }
+{
+    match phase {
+        0 => level_run(plan, from, to, older, newer, work, hit),
+        1 => level_run(plan, from, to, newer, work, older, hit),
+        _ => level_run(plan, from, to, work, older, newer, hit),
+    }
+}
+
+// The next level with the three slices in their roles, of a plate.
+fn plate_in_roles(
+    plan: Plan,
+    older: &mut [i64],
+    newer: &mut [i64],
+    work: &mut [i64],
+    hit: Hit,
+    phase: usize,
+) -> bool
+    requires { ⌜ Steppable plan hit (olderOf phase (now older) (now newer) (now work)) (newerOf phase (now older) (now newer) (now work))
+        (outOf phase (now older) (now newer) (now work)) ⌝ }
+    requires { ⌜ kind (plan .instrument .grid) ≡ plate ⌝ }
+    ensures { λ r. ⌜ SteppedIn phase (plan .instrument) hit (now (older .entry)) (now (newer .entry)) (now (work .entry))
+        (now (older .exit)) (now (newer .exit)) (now (work .exit)) r ⌝ }
+{
+    match phase {
+        0 => plate_level(plan, older, newer, work, hit),
+        1 => plate_level(plan, newer, work, older, hit),
+        _ => plate_level(plan, work, older, newer, hit),
+    }
+}
+
+// A step with the three slices in their roles. Off a line only a plate is stiff.
 pub(crate) fn step_in_roles(
     plan: Plan,
     from: &[u16; 64],
@@ -31,11 +80,12 @@ pub(crate) fn step_in_roles(
     ensures { λ r. ⌜ SteppedIn phase (plan .instrument) hit (now (older .entry)) (now (newer .entry)) (now (work .entry))
         (now (older .exit)) (now (newer .exit)) (now (work .exit)) r ⌝ }
 {
-    match phase {
-        0 => level_run(plan, from, to, older, newer, work, hit),
-        1 => level_run(plan, from, to, newer, work, older, hit),
-        _ => level_run(plan, from, to, work, older, newer, hit),
+    if plan.m != 0 {
+        if plan.instrument.grid.rows != 1 {
+            return plate_in_roles(plan, older, newer, work, hit, phase);
+        }
     }
+    level_in_roles(plan, from, to, older, newer, work, hit, phase)
 }
 
 // The sample of the level that a step has put into its slice.

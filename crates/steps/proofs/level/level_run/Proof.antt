@@ -49,7 +49,7 @@ module _ (c : tie.In-loop Inv-loop μ-loop) where
   here = runAt (start .args .from .now) (start .args .to .now) (c .before .loop .row)
 
   here-is : here ≡ runOf (g start) (c .before .loop .row)
-  here-is = start .pre .1 .each (c .before .loop .row) below
+  here-is = start .pre .1 .0 .each (c .before .loop .row) below
 
   moves : RowRun (g start) (c .before .loop .start) here
   moves = run-here (given start) inv below here here-is
@@ -104,7 +104,7 @@ row-run-requires c κs =
           room = omega (arith, moves t .inside, room t, inv t .ran .long, p .room .long);
         },
       ),
-      (run-moves p (inv t) (below t) (here t) (here-is t), p .hit-low),
+      (run-moves p (inv t) (below t) (here t) (here-is t), p .hit-low, start t .pre .1 .1),
     )
 
 -- once the row is done

@@ -1,5 +1,6 @@
 -- `grid_run` meets its contract: each point has its four neighbours in the grid.
 use mathlib.Core.Path.{_≡_, sym, _∙_, subst}
+use mathlib.Core.Bool.{true}
 use Prim.Native.Nat.{ℕ, _+_, _-_, _≤_, _<_}
 use native.Mathlib.Omega.{arith}
 use borrow.Author.Needs.{needs}
@@ -10,12 +11,11 @@ use mir.Syntax.{w64}
 use mir.Val.{toZ, ofZ}
 use Rattle.bounded.proofs.Num.{back}
 use Rattle.types.specs.declared.Grid.{Grid}
-use Rattle.scheme.specs.Instruments.{column, row}
-use Rattle.scheme.proofs.Laws.Neighbours.{grid-above, grid-below}
+use Rattle.scheme.specs.Instruments.{inTable, moving}
 use Rattle.steps.specs.Plan.{Ready, Neighbouring}
 use Rattle.steps.specs.Run.{valueAt, Moves}
-use Rattle.steps.proofs.KindLaws.{grid-in}
-use Rattle.steps.proofs.BesideLaws.{grid-beside}
+use Rattle.steps.proofs.KindLaws.{wide}
+use Rattle.steps.proofs.BesideLaws.{around-above, around-below, grid-beside}
 use Rattle.steps.proofs.FillLaws.{placed-after, Running, running-start, running-on, running-stops, running-done, ran-fine}
 use Rattle.steps.proofs.points.grid_run.Statement.{statement}
 use Rattle.steps.proofs.points.grid_run.Tie as tie
@@ -39,7 +39,7 @@ module _ (s : tie.Start Inv-loop μ-loop) where
   grid = s .pre .1 .0
 
   moves : Moves g (s .args .s .from) (s .args .s .to)
-  moves = s .pre .1 .1
+  moves = s .pre .1 .2
 
   abbrev value : ℕ → ℤ
   value = valueAt (s .args .plan .instrument) (s .args .s .force) (s .args .older .now) (s .args .newer .now)
@@ -63,19 +63,18 @@ module _ (c : tie.Then1 Inv-loop μ-loop) where
   last : k < start .args .s .to
   last = c .if1 .taken
 
-  -- where it stands
-  inner : (0 < column (g start) k) × (column (g start) k + 1 < g start .columns) × (0 < row (g start) k)
-      × (row (g start) k + 1 < g start .rows)
-  inner = grid-in (start .args .plan .instrument) (ready start .planned .passes) (grid start) k (moves start .each k first last)
+  moves-here : moving (g start) k ≡ true
+  moves-here = moves start .each k first last
 
-  wide : 1 < g start .columns
-  wide = omega (arith, inner .1)
+  -- its neighbours are in the level
+  size : inTable (g start) ≡ true
+  size = ready start .planned .passes .size
 
   above : g start .columns ≤ k
-  above = grid-above (g start) k (inner .2)
+  above = around-above (g start) size (grid start) k moves-here
 
   below : k + g start .columns < length (start .args .newer .now)
-  below = omega (arith, ready start .newer-long, grid-below (g start) k (inner .1) (inner .3))
+  below = omega (arith, ready start .newer-long, around-below (g start) size (grid start) k moves-here)
 
 -- its neighbours, as they were stored
 beside : (c : tie.After-around Inv-loop μ-loop) → let t = c .before in
@@ -85,8 +84,8 @@ beside c =
     let s = start t in
     subst (λ (z : ℤ). Neighbouring (s .args .plan .instrument) (s .args .newer .now) (k t) z (pos 4) (pos 0))
     (sym (back (c .around .result) (c .around .ok) ∙ c .around .ensures))
-    (grid-beside (s .args .plan .instrument) (ready s .planned .passes) (grid s) (s .args .newer .now) (k t)
-    (moves s .each (k t) (first t) (last t)))
+    (grid-beside (s .args .plan .instrument) (ready s .planned .passes) (grid s) (s .pre .1 .1) (s .args .newer .now) (k t)
+    (moves-here t))
 
 -- the same, once the point is done
 abbrev turn : tie.After-out Inv-loop μ-loop → tie.Then1 Inv-loop μ-loop
@@ -96,7 +95,7 @@ loop-holds : tie.Need-loop-holds Inv-loop μ-loop
 loop-holds c = let p = c .pre .0 .1 in running-start _ _ _ (p .above) (p .order)
 
 around-requires : tie.Need-around-requires Inv-loop μ-loop
-around-requires c κs = (omega (arith, wide c), above c, below c, ready (start c) .newer-low)
+around-requires c κs = (omega (arith, wide (g (start c)) (size c)), above c, below c, ready (start c) .newer-low)
 
 next-point-requires : tie.Need-next-point-requires Inv-loop μ-loop
 next-point-requires c κs =

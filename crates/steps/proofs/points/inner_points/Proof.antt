@@ -22,7 +22,7 @@ bar-run-requires c κs =
     let t = c .before in
     let s = t .before .before .before in
     let planned = s .pre .0 .0 .planned in
-    (s .pre .0, (s .pre .1, is-bar (s .args .plan .instrument) (planned .passes) (m-some planned (t .if1 .left))))
+    (s .pre .0, (s .pre .1, is-bar (s .args .plan .instrument) (planned .passes) (s .pre .1 .line) (m-some planned (t .if1 .left))))
 
 same-length-2 : tie.Need-same-length-2
 same-length-2 c = search needs
