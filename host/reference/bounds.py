@@ -8,7 +8,7 @@ from fractions import Fraction
 from instrument import D
 
 # "edged" of crates/tighter/specs/Claims.antt: the kinds with a fixed edge.
-EDGED = (1, 2, 4, 5, 6)
+EDGED = (1, 2, 4, 5, 6, 7)
 
 
 def by_tension(grid, settings):

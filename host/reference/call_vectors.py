@@ -1,15 +1,17 @@
 """The records of calls.txt."""
 
 import calls
-from draws import EDGES, SIGNED_EDGES, U64, Draws, same_size_grids, to_bits
-from instrument import CEILING, D, fixed_points, moving
+from draws import EDGES, SIGNED_EDGES, U64, Draws, largest_m, largest_q, same_size_grids, to_bits
+from instrument import CEILING, D, KINDS, LINE_KINDS, STIFF_KINDS, fixed_points, moving
 
 HIGH, LOW = CEILING + 1, -CEILING - 1
 LOWEST, HIGHEST = -2**63, 2**63 - 1
+PLATES = ((7, 3, 3), (7, 6, 5))
 SMALL = ((1, 3, 1), (1, 4, 1), (1, 7, 1), (2, 3, 1), (2, 6, 1), (2, 9, 1), (3, 3, 1), (3, 5, 1), (3, 8, 1),
          (4, 3, 1), (4, 4, 1), (4, 5, 1), (4, 11, 1), (5, 3, 3), (5, 3, 4), (5, 5, 3), (5, 7, 4), (5, 6, 6),
-         (6, 3, 3), (6, 4, 4), (6, 5, 5), (6, 7, 7), (6, 8, 8), (6, 9, 9))
-LARGE = ((1, 1023, 1), (2, 1023, 1), (3, 1023, 1), (4, 1023, 1), (5, 64, 3), (5, 3, 64), (5, 63, 64), (6, 63, 63))
+         (6, 3, 3), (6, 4, 4), (6, 5, 5), (6, 7, 7), (6, 8, 8), (6, 9, 9), *PLATES)
+LARGE = ((1, 1023, 1), (2, 1023, 1), (3, 1023, 1), (4, 1023, 1), (5, 64, 3), (5, 3, 64), (5, 63, 64), (6, 63, 63),
+         (7, 64, 3), (7, 3, 64), (7, 64, 64))
 LARGEST = ((1, 1024, 1), (2, 1024, 1), (3, 1024, 1), (4, 1024, 1), (5, 64, 64), (6, 64, 64))
 
 
@@ -61,13 +63,8 @@ def filled(grid, value):
     return level
 
 
-def limit(kind, m=0):
-    """The largest stable q."""
-    return D - 4 * m if kind == 4 else D // 2 if kind in (5, 6) else D
-
-
 def examples(records):
-    """The paper's table, the slip at free ends, the listing of ring."""
+    """The paper's table, the slip at free ends, the plates of test_reference.py, the limits of stability, the listing of ring."""
     middle = lambda value: [0, 0, 0, 0, value, 0, 0, 0, 0]
     for grid, settings, older, newer in (
             ((1, 3, 1), (65536, 0, 0), [0, 1000, 0], [0, 1000, 0]),
@@ -80,11 +77,19 @@ def examples(records):
             ((2, 3, 1), (65536, 0, 0), [0, 0, 0], [0, 4, 0]),
             ((4, 5, 1), (0, 16384, 0), [0] * 5, [0, 0, 8, 0, 0]),
             ((4, 5, 1), (0, 16384, 0), [0] * 5, [0, 8, 0, 0, 0]),
-            ((6, 3, 3), (32768, 0, 0), middle(1000), middle(1000))):
+            ((6, 3, 3), (32768, 0, 0), middle(1000), middle(1000)),
+            ((7, 3, 3), (16384, 2048, 0), middle(1000), middle(1000)),
+            ((7, 3, 3), (0, 2048, 0), middle(0), middle(-1)),
+            ((7, 5, 5), (0, 4096, 0), [0] * 25, with_value([0] * 25, 6, 16)),
+            ((7, 5, 5), (0, 4096, 0), [0] * 25, with_value([0] * 25, 12, 16)),
+            ((7, 4, 3), (16384, 2048, 0), [0] * 12, with_value([0] * 12, 5, 16)),
+            ((7, 3, 4), (16384, 2048, 0), [0] * 12, with_value([0] * 12, 7, -16))):
         records.lend(older, newer, [9] * len(newer), [5])
         assert records.block(*grid, *settings, 1) == (1, 0)
-    for kind, q, m in ((4, 65532, 1), (4, 65533, 1), (5, 32768, 0), (5, 32769, 0), (6, 32769, 0)):
-        size = 9 if kind > 4 else 3
+    for kind, q, m in ((4, 65532, 1), (4, 65533, 1), (5, 32768, 0), (5, 32769, 0), (6, 32769, 0), (5, 0, 1), (6, 0, 1),
+                       (7, 32768, 0), (7, 32769, 0), (7, 0, 4096), (7, 0, 4097), (7, 1, 4096), (7, 16384, 2048),
+                       (7, 16385, 2048), (7, 16384, 2049)):
+        size = 3 if kind in LINE_KINDS else 9
         records.lend([0] * size, [0] * size, [1] * size, [])
         records.block(kind, 3, size // 3, q, m, 0, 0)
     records.lend([0] * 3, [0] * 3, [0] * 3, [0] * 4)
@@ -117,13 +122,13 @@ def small_sizes(records, draw):
 def large_sizes(records, draw):
     for grid in LARGE + LARGEST:
         kind, columns, rows = grid
-        reach = 9 if kind == 6 or columns == 63 else 99 if kind == 5 or columns == 1023 else 10**6
+        reach = 9 if kind in (6, 7) or columns == 63 else 99 if kind == 5 or columns == 1023 else 10**6
         size = columns * rows
         older = filled(grid, lambda _: draw.randint(-reach, reach))
         newer = filled(grid, lambda _: draw.randint(-reach, reach))
         records.lend(older, newer, [1] * size, [3, 3, 3])
-        m = 5000 if kind == 4 else 0
-        records.block(*grid, limit(kind, m) - 1, m, 7, size // 2, (moving_points(grid)[-1], -reach))
+        m = largest_m(kind) // 3 if kind in STIFF_KINDS else 0
+        records.block(*grid, largest_q(kind, m) - 1, m, 7, size // 2, (moving_points(grid)[-1], -reach))
         records.reading(*grid, size - 1)
         records.reading(*grid, size)
     for grid in LARGEST:
@@ -131,7 +136,7 @@ def large_sizes(records, draw):
         kind, columns, rows = grid
         size = columns * rows
         records.lend([0] * size, [0] * size, [0] * size, [3] * 12)
-        records.block(*grid, limit(kind), 0, 1, size - 1, (moving_points(grid)[0], 2**20))
+        records.block(*grid, largest_q(kind), 0, 1, size - 1, (moving_points(grid)[0], 2**20))
     # Wrong lengths at the largest size, and the largest lengths.
     records.lend([0] * 4095, [0] * 4096, [0] * 4096, [1])
     assert records.block(5, 64, 64, 0, 0, 0, 0) == (0, 6)
@@ -148,7 +153,7 @@ def extremes(records, draw):
         if columns * rows > 30:
             continue
         sign = lambda point: -1 if (point % columns + point // columns) % 2 else 1
-        for m in (0, D // 4) if kind == 4 else (0,):
+        for m in (0, largest_m(kind)) if kind in STIFF_KINDS else (0,):
             for older_sign, newer_sign in ((-1, 1), (1, 1)):
                 for value in (lambda point: CEILING * sign(point), lambda point: CEILING,
                               lambda point: -CEILING, lambda point: CEILING * draw.choice((-1, 1))):
@@ -158,12 +163,12 @@ def extremes(records, draw):
                     records.reading(*grid, moving_points(grid)[0])
                     s = draw.choice((0, 0, 1, D))
                     hit = draw.choice((None, (moving_points(grid)[-1], draw.choice((-CEILING, CEILING)))))
-                    records.block(*grid, limit(kind, m), m, s, moving_points(grid)[0], hit)
+                    records.block(*grid, largest_q(kind, m), m, s, moving_points(grid)[0], hit)
 
 
 def thirteen(records, draw):
     """13 at the first, a middle and the last of 5 steps, and just not; at the first and last moving point."""
-    for grid in SMALL[1:21:2]:
+    for grid in (*SMALL[1:21:2], PLATES[-1]):
         kind, columns, rows = grid
         for place in (0, -1):
             for sign in (1, -1):
@@ -197,7 +202,7 @@ def block_causes(base):
     """(refusal, changes) for a base of nine points, point 0 fixed and point 4 moving."""
     older, newer = base["older"], base["newer"]
     line = base["kind"] == 1
-    yield from ((1, dict(kind=kind)) for kind in (0, 7, U64 - 1))
+    yield from ((1, dict(kind=kind)) for kind in (0, 8, U64 - 1))
     yield from ((2, dict(columns=columns)) for columns in (2, 0, 1025, 65 if not line else 2**63))
     yield from ((2, dict(rows=rows)) for rows in (0, 2, 65, 2**64 - 1))
     yield 2, dict(columns=2**32, rows=2**32)
@@ -247,7 +252,7 @@ def block_refusals(records):
 
 def fixed_in_each_kind(records):
     """A 1 at each point in turn: 12 exactly at the fixed points; 7 for a hit there."""
-    for grid in ((1, 4, 1), (2, 4, 1), (3, 4, 1), (4, 4, 1), (5, 3, 4), (6, 5, 5), (6, 7, 7), (6, 8, 8)):
+    for grid in ((1, 4, 1), (2, 4, 1), (3, 4, 1), (4, 4, 1), (5, 3, 4), (6, 5, 5), (6, 7, 7), (6, 8, 8), (7, 4, 3)):
         kind, columns, rows = grid
         size = columns * rows
         fixed = fixed_points(*grid)
@@ -268,6 +273,7 @@ PLUCK_BASE = dict(kind=1, columns=5, rows=1, older=[LOWEST, 3, HIGHEST, 5, 6], n
 def pluck_causes():
     yield from ((1, dict(kind=kind)) for kind in (0, 5, 6, 7, U64 - 1))
     yield 1, dict(kind=5, columns=5, rows=5)
+    yield 1, dict(kind=7, columns=5, rows=5, older=[0] * 25, newer=[0] * 25, centre=12)
     yield from ((2, dict(columns=columns)) for columns in (0, 2, 1025, U64 - 1))
     yield from ((2, dict(rows=rows)) for rows in (0, 2, 5, U64 - 1))
     yield 2, dict(columns=2**63, rows=2)
@@ -294,7 +300,7 @@ def pluck_refusals(records):
 
 def plucks(records, draw):
     """Every kind and width on small lines; nearly all of T on 1024 columns, and its mirror."""
-    for kind in range(1, 5):
+    for kind in LINE_KINDS:
         for columns in (3, 4, 7, 10):
             ends = moving_points((kind, columns, 1))
             records.lend([1] * columns, [2] * columns, [], [])
@@ -313,7 +319,7 @@ def plucks(records, draw):
 
 def reading_refusals(records):
     base = dict(kind=2, columns=4, rows=1, newer=[0, 5, -CEILING, CEILING], pick_up=3)
-    causes = ((1, dict(kind=0)), (1, dict(kind=7)), (2, dict(columns=2)), (2, dict(rows=2**64 - 1)),
+    causes = ((1, dict(kind=0)), (1, dict(kind=8)), (2, dict(columns=2)), (2, dict(rows=2**64 - 1)),
               (2, dict(columns=2**62, rows=4)), (6, dict(newer=[])), (6, dict(newer=[0] * 3)),
               (6, dict(newer=[0] * 5)), (9, dict(pick_up=4)), (9, dict(pick_up=U64 - 1)),
               (11, dict(newer=[0, 0, 0, HIGH])), (11, dict(newer=[LOWEST, 0, 0, 0])), (12, dict(newer=[-1, 0, 0, 0])))
@@ -330,6 +336,14 @@ def reading_refusals(records):
     for value in (0, 1, -1, 2**28, -2**28 - 1, CEILING, -CEILING, 123456789012):
         for point in range(4):
             assert given({**base, "newer": [0, value, -value, value // 3], "pick_up": point}) == 0
+
+
+def plate_sizes(records):
+    """Both sides of each limit; a size that passes answers 6, but for 3 x 3."""
+    records.lend(None, [0] * 9)
+    for columns, rows, refusal in ((3, 3, 0), (64, 3, 6), (3, 64, 6), (64, 64, 6), (4, 3, 6), (3, 4, 6), (2, 3, 2), (3, 2, 2),
+                                   (65, 3, 2), (3, 65, 2), (64, 65, 2), (65, 64, 2), (64, 2, 2), (2, 64, 2), (9, 1, 2)):
+        assert records.reading(7, columns, rows, 4) == refusal
 
 
 def argument_extremes(records):
@@ -360,7 +374,7 @@ def lists(records, draw, count):
     """Lists of blocks and plucks with changes of kind, grid and settings, the levels carried over."""
     for _ in range(count):
         draw.odds = 0.0
-        kind = draw.randint(1, 6)
+        kind = draw.choice(KINDS)
         grid, settings = (kind, *draw.size(kind, large=0.0)), draw.settings(kind)
         if grid[1] * grid[2] > 25:
             continue
@@ -392,6 +406,7 @@ def call_records():
     pluck_refusals(records)
     plucks(records, draw)
     reading_refusals(records)
+    plate_sizes(records)
     argument_extremes(records)
     lists(records, draw, 120)
     large_sizes(records, draw)

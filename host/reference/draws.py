@@ -4,8 +4,9 @@ import math
 import random
 import struct
 
-from instrument import CEILING, D, fixed_points, moving, size_in_table
-from sheet import Sheet
+from instrument import (CEILING, D, GRID_KINDS, KINDS, LINE_KINDS, RECTANGULAR_KINDS, STABILITY, STIFF_KINDS, fixed_points,
+                        moving, size_in_table)
+from sheet import Sheet, nearest
 
 U64 = 2**64
 EDGES = (0, 1, 2, 3, 2**15, 2**16, 2**31 - 1, 2**31, 2**32 - 1, 2**32, 2**32 + 1, 2**62, 2**62 + 1,
@@ -13,6 +14,7 @@ EDGES = (0, 1, 2, 3, 2**15, 2**16, 2**31 - 1, 2**31, 2**32 - 1, 2**32, 2**32 + 1
 SIGNED_EDGES = (0, 1, -1, CEILING, -CEILING, CEILING + 1, -CEILING - 1, 2**31, -2**31, 2**43, -2**43,
                 2**62, -2**62, 2**63 - 1, -2**63, -2**63 + 1)
 SIDES = (3, 3, 4, 4, 5, 6, 7, 8, 11)
+LARGE_SIDES = (31, 63, 64)
 
 
 def from_bits(bits):
@@ -26,6 +28,17 @@ def to_bits(x):
 FLOAT_EDGES = (0.0, -0.0, 5e-324, -5e-324, 2.2250738585072014e-308, 2.225073858507201e-308,
                1.7976931348623157e308, -1.7976931348623157e308, math.inf, -math.inf, math.nan,
                1.0, -1.0, 0.5, 2.0, 65536.0, 1.0 / 65536, 0.5 / 65536, 1e-160, 1e160, 1.5e154, 1e-154)
+
+
+def largest_m(kind):
+    """The largest stable m of a stiff kind."""
+    return D // STABILITY[kind][1]
+
+
+def largest_q(kind, m=0):
+    """The largest stable q beside m, 0 if there is none; an unknown kind is taken for kind 1."""
+    times_q, times_m = STABILITY.get(kind, STABILITY[1])
+    return max(D - times_m * m, 0) // times_q
 
 
 class Draws(random.Random):
@@ -48,19 +61,20 @@ class Draws(random.Random):
         return self.getrandbits(self.randint(1, 64)) - 2**63 if self.rarely(0.5) else \
             self.randint(-CEILING - 2, CEILING + 2)
 
-    def kind(self, last=6):
+    def kind(self, kinds=KINDS):
         if self.rarely():
-            return self.choice((0, 7, 5, 6, self.wild()))
-        return self.randint(1, last)
+            return self.choice((0, KINDS[-1] + 1, *GRID_KINDS, self.wild()))
+        return self.choice(kinds)
 
     def size(self, kind, large=0.008):
         """(columns, rows), right for the kind most of the time."""
         if self.rarely():
             return self.wrong_size(kind)
-        if kind in (5, 6):
-            columns = self.choice((31, 63, 64)) if self.rarely(large) else self.choice(SIDES)
-            rows = columns if kind == 6 else self.choice((columns, self.choice(SIDES)))
-            return columns, rows
+        if kind in GRID_KINDS:
+            is_large = self.rarely(large)
+            side = self.choice(LARGE_SIDES if is_large else SIDES)
+            other = 3 if is_large else self.choice(SIDES)
+            return self.choice(((side, side), (side, other), (other, side))) if kind in RECTANGULAR_KINDS else (side, side)
         if self.rarely(large):
             return self.choice((255, 512, 1023, 1024)), 1
         return (self.randint(3, 12) if self.rarely(0.9) else self.randint(3, 70)), 1
@@ -75,16 +89,15 @@ class Draws(random.Random):
         """(q, m, s), accepted most of the time, often at the limit of stability."""
         s = self.choice((0, 0, 1, 8, 65535, 65536, self.randint(0, D), self.randint(0, 300)))
         m = 0
-        if kind == 4:
-            m = self.choice((0, 1, D // 4, self.randint(0, D // 4)))
-            limit = D - 4 * m
-        else:
-            limit = D // 2 if kind in (5, 6) else D
+        if kind in STIFF_KINDS:
+            most = largest_m(kind)
+            m = self.choice((0, 1, most, self.randint(0, most), self.randint(0, most)))
+        limit = largest_q(kind, m)
         q = self.choice((0, limit, limit, self.randint(0, limit), self.randint(0, limit)))
         if self.rarely():
             q = self.choice((limit + 1, D + 1, D, self.wild()))
         if self.rarely():
-            m = self.choice((1, D // 4 + 1, D, D + 1, self.wild()))
+            m = self.choice((1, m + 1, D // 4 + 1, D, D + 1, self.wild()))
         if self.rarely():
             s = self.choice((D + 1, self.wild()))
         return q, m, s
@@ -92,7 +105,7 @@ class Draws(random.Random):
     def level(self, grid, length=None):
         """A level, most of the time of the right length, within the ceiling and 0 at fixed points."""
         kind, columns, rows = grid
-        known = kind in range(1, 7) and size_in_table(*grid)
+        known = kind in KINDS and size_in_table(*grid)
         if length is None:
             length = columns * rows if known else self.randint(0, 12)
             if self.rarely(self.odds / 2):
@@ -122,7 +135,7 @@ class Draws(random.Random):
         kind, columns, rows = grid
         if self.rarely():
             return self.choice((0, columns - 1 & U64 - 1, columns * rows % U64, self.wild()))
-        if kind in range(1, 7) and size_in_table(*grid):
+        if kind in KINDS and size_in_table(*grid):
             if must_move:
                 return self.choice(moving(*grid))[0]
             return self.randrange(columns * rows)
@@ -168,9 +181,16 @@ class Draws(random.Random):
 
     def targets(self, kind):
         """R, mu^2 and the loss to aim at: at or beside halves."""
-        m = self.choice((0.0, self.half(self.choice((1, 10, D // 4))))) if kind == 4 or self.rarely() else 0.0
-        limit = D // 2 if kind in (5, 6) else max(D - int(4 * m * D), 0) if kind == 4 else D
-        return self.half(limit), m, self.half(D)
+        m = 0.0
+        if kind in STIFF_KINDS:
+            m = self.choice((0.0, self.half(self.choice((1, 10, largest_m(kind))))))
+        elif self.rarely():
+            m = self.half(self.choice((1, 10, D // 4)))
+        return self.half(largest_q(kind, nearest(m))), m, self.half(D)
+
+    def is_in_hertz(self, kind):
+        """For every other sheet of a line, and a few of a grid, which refuses it."""
+        return self.rarely(0.05 if kind in GRID_KINDS else 0.5)
 
     def plain_sheet(self, kind, columns):
         """Rate 1 and spacing 1: the coefficients are the sheet's own numbers."""
@@ -183,17 +203,17 @@ class Draws(random.Random):
         rate, length, density = self.uniform(1000, 96000), self.uniform(0.1, 3), self.uniform(0.001, 9)
         h = length / (columns - 1)
         speed = ("tension", self.nudge(r * rate * rate * h * h * density), density)
-        if kind not in (5, 6) and self.rarely(0.5):
+        if self.is_in_hertz(kind):
             speed = ("hertz", self.nudge(math.sqrt(r) * rate / (2 * (columns - 1))))
         per_second = self.nudge(loss * rate)
         losses = self.choice((("per second", per_second), ("seconds", self.nudge(6.907755278982137 / (loss * rate)))))
         return Sheet(rate, length, self.nudge(m * rate * rate * h * h * h * h) if m else 0.0, speed, losses)
 
     def sensible_sheet(self, kind):
-        speed = ("hertz", self.float(0, 3.5))
-        if kind in (5, 6) or self.rarely(0.5):
-            speed = ("tension", self.float(-1, 3), self.float(-4, 0))
-        bending = 0.0 if kind != 4 or self.rarely(0.3) else self.float(-3, 3)
+        speed = ("tension", self.float(-1, 3), self.float(-4, 0))
+        if self.is_in_hertz(kind):
+            speed = ("hertz", self.float(0, 3.5))
+        bending = 0.0 if kind not in STIFF_KINDS or self.rarely(0.3) else self.float(-3, 3)
         loss = self.choice((("per second", self.float(-2, 3)), ("seconds", self.float(-2, 2)),
                             ("per second", 0.0)))
         return Sheet(self.float(3.5, 5.5), self.float(-1, 1), bending, speed, loss)
@@ -231,11 +251,9 @@ def same_size_grids(grid):
     """Grids (kind, columns, rows) with as many points as this one."""
     kind, columns, rows = grid
     size = columns * rows
-    found = [(k, size, 1) for k in range(1, 5) if size_in_table(k, size, 1)]
+    found = [(k, size, 1) for k in LINE_KINDS if size_in_table(k, size, 1)]
     for side in range(3, 65):
-        if size % side == 0 and size_in_table(5, side, size // side):
-            found.append((5, side, size // side))
-            if side * side == size:
-                found.append((6, side, side))
+        if size % side == 0:
+            found += [(k, side, size // side) for k in GRID_KINDS if size_in_table(k, side, size // side)]
     return found
 

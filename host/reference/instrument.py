@@ -10,21 +10,30 @@ D = 65536
 # "The ceiling is 32767 x 2^28".
 CEILING = 32767 * 2**28
 
-KINDS = range(1, 7)
+KINDS = range(1, 8)
 LINE_KINDS = range(1, 5)
+# The drumheads and the plate: the kinds with more than one row.
+GRID_KINDS = range(5, 8)
+# "rectangular membrane"; "thin rectangular plates": "sizes as kind 5", "its outer ring fixed".
+RECTANGULAR_KINDS = (5, 7)
+# "Only kind 4 may have m above 0"; for kind 7 "m may now be above 0 here too".
+STIFF_KINDS = (4, 7)
+# "Stable means: kinds 1 to 3, q <= 65536; kind 4, q + 4m <= 65536; kinds 5 and 6, 2q <= 65536";
+# for kind 7 "Stable is 2q + 16m <= 65536". By kind: how often q and m count.
+STABILITY = {1: (1, 0), 2: (1, 0), 3: (1, 0), 4: (1, 4), 5: (2, 0), 6: (2, 0), 7: (2, 16)}
 
 
 def size_in_table(kind, columns, rows):
     """The table's column "columns x rows", for a known kind."""
     if kind in LINE_KINDS:
         return 3 <= columns <= 1024 and rows == 1
-    if kind == 5:
+    if kind in RECTANGULAR_KINDS:
         return 3 <= columns <= 64 and 3 <= rows <= 64
     return 3 <= columns <= 64 and rows == columns
 
 
 def is_fixed(kind, columns, rows, point):
-    """"Fixed points are the ends named above, the outer ring of kind 5, and in kind 6 ..."."""
+    """"Fixed points are the ends named above, the outer ring of kind 5, and in kind 6 ..."; kind 7: "its outer ring fixed"."""
     column, row = point % columns, point // columns
     if kind in (1, 4):
         return point in (0, columns - 1)
@@ -32,7 +41,7 @@ def is_fixed(kind, columns, rows, point):
         return point == 0
     if kind == 3:
         return False
-    if kind == 5:
+    if kind in RECTANGULAR_KINDS:
         return column in (0, columns - 1) or row in (0, rows - 1)
     return (2 * column - columns + 1) ** 2 + (2 * row - columns + 1) ** 2 >= (columns - 1) ** 2
 
@@ -103,8 +112,5 @@ def laplacians(grid, level):
 
 def stable(kind, q, m):
     """"Stable means: ..."."""
-    if kind in (1, 2, 3):
-        return q <= D
-    if kind == 4:
-        return q + 4 * m <= D
-    return 2 * q <= D
+    times_q, times_m = STABILITY[kind]
+    return times_q * q + times_m * m <= D

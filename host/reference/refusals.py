@@ -5,7 +5,8 @@ A test may take for granted that the lower numbers which the call meets do not a
 
 import math
 
-from instrument import CEILING, D, KINDS, LINE_KINDS, fixed_points, moving_set, size_in_table, stable
+from instrument import (CEILING, D, GRID_KINDS, KINDS, LINE_KINDS, STIFF_KINDS, fixed_points, moving_set, size_in_table,
+                        stable)
 
 
 def lowest(tests):
@@ -16,7 +17,7 @@ def lowest(tests):
     return 0
 
 
-def unknown_kind(kind):  # 1
+def unknown_kind(kind):  # 1, "1 now admits kind 7 except for plucks"
     return kind not in KINDS
 
 
@@ -41,8 +42,8 @@ def bad_sheet(kind, sheet):  # 3
         above_zero.append(sheet.loss[1])
     if any(x == 0.0 for x in above_zero):
         return True
-    # "or a pitch in hertz for kinds 5 and 6".
-    return sheet.speed[0] == "hertz" and kind in (5, 6)
+    # "or a pitch in hertz for kinds 5 and 6"; "3 refuses a pitch in hertz for it as for drumheads".
+    return sheet.speed[0] == "hertz" and kind in GRID_KINDS
 
 
 def bad_coefficient(settings):  # 4
@@ -51,7 +52,7 @@ def bad_coefficient(settings):  # 4
 
 def not_stable(kind, settings):  # 5
     q, m, _ = settings
-    return not stable(kind, q, m) or (m > 0 and kind != 4)
+    return not stable(kind, q, m) or (m > 0 and kind not in STIFF_KINDS)
 
 
 def bad_length(columns, rows, levels):  # 6

@@ -6,7 +6,7 @@ import time
 import bounds
 from book import Book
 from draws import Draws, same_size_grids, to_bits
-from instrument import D
+from instrument import D, KINDS, LINE_KINDS
 from library import Overwritten, Reference
 
 REFERENCE = Reference()
@@ -125,7 +125,7 @@ class Run:
         """A single call outside a list."""
         draw = self.draw
         name = draw.choice(("block", "block", "pluck", "reading", "sheet", "sheet", "sheet"))
-        kind = draw.kind(4 if name == "pluck" else 6)
+        kind = draw.kind(LINE_KINDS if name == "pluck" else KINDS)
         grid = (kind, *draw.size(kind))
         if name == "sheet":
             record = draw.sheet(kind, grid[1])

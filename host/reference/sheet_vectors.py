@@ -4,13 +4,13 @@ import math
 
 import calls
 from draws import EDGES, FLOAT_EDGES, Draws, from_bits, to_bits
-from instrument import D
+from instrument import D, GRID_KINDS, KINDS, LINE_KINDS
 from sheet import Sheet
 
 LARGEST = 1.7976931348623157e308
 NANS = tuple(from_bits(bits) for bits in (0x7FF8000000000000, 0xFFF8000000000000, 0x7FF0000000000001,
                                           0x7FFFFFFFFFFFFFFF, 0xFFF0000000000001))
-ROWS = {1: 1, 2: 1, 3: 1, 4: 1, 5: 3, 6: 3}
+ROWS = {kind: 1 if kind in LINE_KINDS else 3 for kind in KINDS}
 HALVES = (0, 1, 2, 3, 8191, 16383, 16384, 32766, 32767, 32768, 49151, 65531, 65534, 65535, 65536, 65537)
 # Rate 1 and, with 3 columns, spacing 1: the coefficients are the tension, the bending and the loss.
 PLAIN = Sheet(1.0, 2.0, 0.0, ("tension", 0.25, 1.0), ("per second", 0.0))
@@ -38,11 +38,21 @@ class Records(list):
 def examples(records):
     example = Sheet(48000.0, 1.0, 0.0, ("hertz", 100.0), ("per second", 6.0))
     assert records.sheet(1, 101, 1, example) == 0
-    for kind in range(1, 5):
+    for kind in LINE_KINDS:
         for columns in (3, 101, 1023, 1024):
             records.sheet(kind, columns, 1, example)
             records.sheet(kind, columns, 1, example._replace(loss=("seconds", 2.5)))
             records.sheet(kind, columns, 1, example._replace(bending=2.0, speed=("tension", 60.0, 0.006)))
+
+
+def plates(records):
+    """A sheet of steel, 1 mm thick: its sizes on both sides of each limit; in hertz it is refused."""
+    steel = Sheet(48000.0, 0.75, 2.3, ("tension", 0.0, 7.8), ("per second", 3.0))
+    for columns, rows, refusal in ((3, 3, 0), (64, 3, 0), (3, 64, 0), (64, 48, 0), (48, 64, 0), (64, 64, 0), (2, 3, 2), (3, 2, 2),
+                                   (65, 3, 2), (3, 65, 2)):
+        assert records.sheet(7, columns, rows, steel) == refusal
+        assert records.sheet(7, columns, rows, steel._replace(loss=("seconds", 2.5), speed=("tension", 500.0, 7.8))) == refusal
+        assert records.sheet(7, columns, rows, steel._replace(speed=("hertz", 100.0))) == (refusal or 3)
 
 
 def halves(records):
@@ -109,19 +119,28 @@ def edges(records):
                     records.sheet(kind, 3, ROWS[kind], sheet)
 
 
+# (q, m, refusal)
+BAR_LIMITS = ((65532, 1, 0), (65533, 1, 5), (0, 16384, 0), (1, 16384, 5), (0, 16385, 5), (65536, 0, 0), (65537, 0, 4), (0, 65536, 5),
+              (0, 65537, 4), (65536, 65536, 5), (32768, 8192, 0), (32769, 8192, 5), (32768, 8193, 5), (3, 16383, 0),
+              (4, 16383, 0), (5, 16383, 5))
+PLATE_LIMITS = ((32768, 0, 0), (32769, 0, 5), (32760, 1, 0), (32761, 1, 5), (0, 4096, 0), (1, 4096, 5), (0, 4097, 5),
+                (8, 4095, 0), (9, 4095, 5), (16384, 2048, 0), (16385, 2048, 5), (16384, 2049, 5), (65537, 0, 4), (0, 65536, 5),
+                (0, 65537, 4))
+
+
 def limits(records):
-    """65536 exactly and just beyond; the limits of stability; hertz for kinds 5 and 6."""
-    for q, m, refusal in ((65532, 1, 0), (65533, 1, 5), (0, 16384, 0), (1, 16384, 5), (0, 16385, 5), (65536, 0, 0),
-                          (65537, 0, 4), (0, 65536, 5), (0, 65537, 4), (65536, 65536, 5), (32768, 8192, 0),
-                          (32769, 8192, 5), (32768, 8193, 5), (3, 16383, 0), (4, 16383, 0), (5, 16383, 5)):
-        for x, y in ((q / D, m / D), ((q + 0.25) / D, (m + 0.25) / D), (max(q - 0.5, 0.0) / D, max(m - 0.5, 0.0) / D)):
-            assert records.plain(4, speed=("tension", x, 1.0), bending=y) == refusal
-    for kind in (5, 6):
+    """65536 exactly and just beyond; the limits of stability; hertz for drumheads and plates."""
+    for kind, on_both_sides in ((4, BAR_LIMITS), (7, PLATE_LIMITS)):
+        for q, m, refusal in on_both_sides:
+            for x, y in ((q / D, m / D), ((q + 0.25) / D, (m + 0.25) / D), (max(q - 0.5, 0.0) / D, max(m - 0.5, 0.0) / D)):
+                assert records.plain(kind, speed=("tension", x, 1.0), bending=y) == refusal
+    for kind in GRID_KINDS:
         for q, refusal in ((32767.0, 0), (32768.0, 0), (32768.4, 0), (32768.5, 5), (32769.0, 5), (65536.0, 5),
                            (65536.5, 4)):
             assert records.plain(kind, speed=("tension", q / D, 1.0)) == refusal
         for x in (0.0, -0.0, 1.0, 1e-3):
             assert records.plain(kind, speed=("hertz", x)) == 3
+    for kind in (5, 6):
         for x, refusal in ((0.25, 5), (0.4999 / D, 0), (0.5 / D, 5), (1.1, 4)):
             assert records.plain(kind, bending=x) == refusal
     for x, refusal in ((1.0, 0), ((D + 0.5) / D, 4), (math.nextafter((D + 0.5) / D, 0.0), 0)):
@@ -132,7 +151,7 @@ def limits(records):
 
 def causes():
     """(refusal, changes of a plain sheet call); a cause takes its own places."""
-    return ((1, dict(kind=0)), (1, dict(kind=7)), (1, dict(kind=2**64 - 1)), (2, dict(columns=2)),
+    return ((1, dict(kind=0)), (1, dict(kind=8)), (1, dict(kind=2**64 - 1)), (2, dict(columns=2)),
             (2, dict(columns=1025)), (2, dict(rows=0)), (2, dict(rows=2**64 - 1)), (3, dict(rate=-1.0)),
             (3, dict(rate=0.0)), (3, dict(length=math.inf)), (3, dict(loss=("seconds", -0.0))),
             (3, dict(loss=("per second", math.nan))), (4, dict(speed=("tension", 1.5, 1.0))),
@@ -173,7 +192,7 @@ def drawn(records, count):
 
 def sheet_records():
     records = Records()
-    for part in (examples, halves, squares_at_halves, edges, limits, refusals):
+    for part in (examples, plates, halves, squares_at_halves, edges, limits, refusals):
         part(records)
     drawn(records, 800)
     return records

@@ -10,7 +10,8 @@ def numerators(grid, settings, older, newer, hit):
     """
     q, m, s = settings
     first = laplacians(grid, newer)
-    # "B is L taken of L, where L counts as 0 at the supported ends": laplacians gives 0 there.
+    # "B is L taken of L, where L counts as 0 at the supported ends"; for kind 7 "B is L taken of L on the grid, with L
+    # counted 0 on the outer ring": laplacians gives 0 there.
     second = laplacians(grid, first) if m else first
     result = [0] * len(newer)
     for point, _ in moving(*grid):

@@ -9,7 +9,7 @@ from fractions import Fraction
 
 import bounds
 from book import Book, energy
-from instrument import D
+from instrument import D, moving_set
 from step import next_level, round_half_away
 
 
@@ -69,13 +69,26 @@ class Bounds(unittest.TestCase):
         total = self.held(run((1, 3, 1), (D // 2, 0, D), [0] * 3, [0, 1, 0], 1))
         self.assertGreater(total, bounds.loss_linear((1, 3, 1), (D // 2, 0, D), 1) / 16)
 
-    def test_levels_held_by_stiffness(self):
-        grid, settings = (4, 32, 1), (0, 16384, 0)
-        level = [round(10**6 * math.sin(math.pi * k / 31)) for k in range(32)]
+    def held_by_stiffness(self, grid, m, level):
+        settings = 0, m, 0
         squares = 2 * (2 * sum(x * x for x in level))
         hold, far = bounds.by_stiffness(grid, settings)
         self.assertLessEqual(hold * squares, far * energy(grid, settings, level, level))
         self.assertGreater(hold * squares, 32**2 * energy(grid, settings, level, level))
+
+    def test_levels_held_by_stiffness(self):
+        wave = [math.sin(math.pi * k / 31) for k in range(32)]
+        self.held_by_stiffness((4, 32, 1), 16384, [round(10**6 * x) for x in wave])
+        self.held_by_stiffness((7, 32, 32), 4096, [round(10**6 * x * y) for y in wave for x in wave])
+
+    def test_plate(self):
+        """Its edge holds it, by tension and by stiffness."""
+        grid, settings = (7, 6, 8), (8192, 3072, 0)
+        level = [1000 * (point % 7) if point in moving_set(*grid) else 0 for point in range(48)]
+        self.held(run(grid, settings, level, level, 300))
+        found = bounds.all_bounds(grid, settings, 300)
+        self.assertLess(found["LinearBound"], found["DistanceBound"])
+        self.assertLess(found["StiffLinearBound"], found["DistanceBound"])
 
     def test_example_voice(self):
         """VoiceForEver: a 25th of a sample unit."""

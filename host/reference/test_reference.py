@@ -11,7 +11,7 @@ import instrument
 import pluck
 import sheet
 import step
-from instrument import CEILING, D
+from instrument import CEILING, D, KINDS
 from sheet import Sheet
 
 PLAIN = Sheet(1.0, 2.0, 0.0, ("tension", 0.25, 1.0), ("per second", 0.0))
@@ -24,6 +24,11 @@ def one_step(grid, settings, older, newer, hit=None):
         *grid, *settings, older, newer, [7] * size, [5], 0, hit)
     assert (steps, refusal, left, work) == (1, 0, newer, [0] * size)
     return new
+
+
+def on_grid(columns, rows, values):
+    """A level with these values by point, 0 elsewhere."""
+    return [values.get(point, 0) for point in range(columns * rows)]
 
 
 def refusal_at_rest(kind, columns, rows, q, m):
@@ -70,7 +75,7 @@ class Examples(unittest.TestCase):
 
     def test_moving_points_have_two_or_four_neighbours(self):
         for kind, columns, rows, counts in ((1, 9, 1, {2}), (2, 9, 1, {1, 2}), (3, 9, 1, {1, 2}),
-                                            (4, 9, 1, {2}), (5, 5, 4, {4}), (6, 16, 16, {4})):
+                                            (4, 9, 1, {2}), (5, 5, 4, {4}), (6, 16, 16, {4}), (7, 5, 4, {4})):
             found = {len(near) for _, near in instrument.moving(kind, columns, rows)}
             self.assertEqual(found, counts)
 
@@ -147,6 +152,101 @@ class Steps(unittest.TestCase):
             self.assertEqual(samples[steps_before:], [77] * (5 - steps_before))
             self.assertEqual(samples[:steps_before],
                              [(newer + (k + 1) * grow) // 2**28 for k in range(steps_before)])
+
+
+class Plate(unittest.TestCase):
+    """Request 1, kind 7. With m 4096 = D/16 the term m x B over D is B/16."""
+
+    def step(self, columns, rows, settings, newer, older=None):
+        """The values that are not 0 after a step of a plate with these values."""
+        level = one_step((7, columns, rows), settings, on_grid(columns, rows, older or {}), on_grid(columns, rows, newer))
+        return {point: value for point, value in enumerate(level) if value}
+
+    def test_middle(self):
+        # L is -64 at 12 and 16 beside it. B: at 12, 4*16 + 4*64 = 320; beside it, -64 - 4*16 = -128; at the inner
+        # corners, 16 + 16 = 32. 32 - 320/16 = 12.
+        self.assertEqual(self.step(5, 5, (0, 4096, 0), {12: 16}),
+                         {6: -2, 7: 8, 8: -2, 11: 8, 12: 12, 13: 8, 16: -2, 17: 8, 18: -2})
+
+    def test_inner_corner(self):
+        # L is -64 at 6, 16 at 7 and 11, and counts as 0 at 1 and 5. B: at 6, 16 + 16 + 4*64 = 288; at 7 and 11,
+        # -64 - 4*16 = -128; at 8 and 16, 16; at 12, 16 + 16 = 32. 32 - 288/16 = 14.
+        self.assertEqual(self.step(5, 5, (0, 4096, 0), {6: 16}), {6: 14, 7: 8, 8: -1, 11: 8, 12: -2, 16: -1})
+
+    def test_beside_the_ring(self):
+        # L is -64 at 7, 16 at 6, 8 and 12, and counts as 0 at 2. B: at 7, 3*16 + 4*64 = 304; at 6 and 8,
+        # -64 - 4*16 = -128; at 12 the same; at 11 and 13, 16 + 16 = 32; at 17, 16. 32 - 304/16 = 13.
+        self.assertEqual(self.step(5, 5, (0, 4096, 0), {7: 16}), {6: 8, 7: 13, 8: 8, 11: -2, 12: 8, 13: -2, 17: -1})
+
+    def test_one_moving_point(self):
+        # L = -4u, B = 16u. 32 - 16 = 16; 2000 - 4000/4 - 16000/32 - 1000 = -500.
+        self.assertEqual(self.step(3, 3, (0, 4096, 0), {4: 16}), {4: 16})
+        self.assertEqual(self.step(3, 3, (16384, 2048, 0), {4: 1000}, {4: 1000}), {4: -500})
+
+    def test_not_square(self):
+        # At the value, L = -64, B = 16 + 4*64 = 272; beside it, L = 16, B = -64 - 4*16 = -128.
+        # 32 - 64/4 - 272/32 = 7.5, away from zero 8; 16/4 + 128/32 = 8.
+        for sign in (1, -1):
+            self.assertEqual(self.step(4, 3, (16384, 2048, 0), {5: sign * 16}), {5: sign * 8, 6: sign * 8})
+            self.assertEqual(self.step(3, 4, (16384, 2048, 0), {7: sign * 16}), {4: sign * 8, 7: sign * 8})
+
+    def test_rounding(self):
+        # 2 - 16*2048/65536 = 1.5.
+        for value in (1, -1):
+            self.assertEqual(self.step(3, 3, (0, 2048, 0), {4: value}), {4: 2 * value})
+
+    def test_loss(self):
+        # (2*12 - 48/8 - 192/64 - 8/2) / 1.5 = 11/1.5 = 7.33.
+        self.assertEqual(self.step(3, 3, (8192, 1024, D // 2), {4: 12}, {4: 8}), {4: 7})
+
+    def test_without_stiffness(self):
+        # As a drumhead: 2*16 - 64/2 = 0 at 12, 16/2 beside it.
+        self.assertEqual(self.step(5, 5, (32768, 0, 0), {12: 16}), {7: 8, 11: 8, 13: 8, 17: 8})
+
+    def test_outer_ring(self):
+        """5 x 4: points 6 to 8 and 11 to 13 move."""
+        rest = [0] * 20
+        for point in range(20):
+            moves = point in (6, 7, 8, 11, 12, 13)
+            self.assertEqual(calls.reading(7, 5, 4, on_grid(5, 4, {point: 1}), 0)[0], 0 if moves else 12)
+            hit = calls.block(7, 5, 4, 0, 4096, 0, rest, rest, rest, [0], point, (point, 2**28))
+            self.assertEqual((hit[0], hit[4]), ((1, 0), [1]) if moves else ((0, 7), [0]))
+
+    def test_sizes(self):
+        for columns, rows in ((3, 3), (64, 3), (3, 64), (64, 64), (5, 4), (4, 5)):
+            self.assertEqual(refusal_at_rest(7, columns, rows, 0, 4096), 0, (columns, rows))
+        for columns, rows in ((2, 3), (65, 3), (3, 2), (3, 65), (2, 64), (65, 64), (64, 2), (64, 65), (9, 1)):
+            self.assertEqual(refusal_at_rest(7, columns, rows, 0, 0), 2, (columns, rows))
+
+    def test_stable(self):
+        for q, m in ((32768, 0), (0, 4096), (16384, 2048), (32760, 1), (8, 4095)):
+            self.assertEqual(refusal_at_rest(7, 3, 4, q, m), 0, (q, m))
+            self.assertEqual(refusal_at_rest(7, 3, 4, q + 1, m), 5, (q, m))
+            self.assertEqual(refusal_at_rest(7, 3, 4, q, m + 1), 5, (q, m))
+
+    def test_stiffness_of_other_kinds(self):
+        for kind, rows, refusal in ((1, 1, 5), (2, 1, 5), (3, 1, 5), (4, 1, 0), (5, 3, 5), (6, 3, 5), (7, 3, 0)):
+            self.assertEqual(refusal_at_rest(kind, 3, rows, 0, 1), refusal, kind)
+
+    def test_kind_8(self):
+        self.assertEqual(refusal_at_rest(8, 3, 3, 0, 0), 1)
+
+    def test_pluck(self):
+        """"1 now admits kind 7 except for plucks"."""
+        level = [9] * 16
+        self.assertEqual(calls.pluck(7, 4, 4, level, level, 5, 1, 100), (1, level, level))
+
+    def test_sheet(self):
+        """"The sheet's bending number serves unchanged"; rate 1 and spacing 1."""
+        record = Sheet(1.0, 4.0, 0.03125, ("tension", 0.25, 1.0), ("per second", 0.5))
+        self.assertEqual(calls.sheet(7, 5, 4, record), (0, (16384, 2048, 32768)))
+        self.assertEqual(calls.sheet(7, 5, 4, record._replace(bending=0.0)), (0, (16384, 0, 32768)))
+        for refusal, change in ((3, dict(speed=("hertz", 0.0))), (3, dict(speed=("hertz", 0.0), bending=2.0)),
+                                (4, dict(bending=2.0)), (5, dict(bending=2049 / D)), (5, dict(speed=("tension", 16385 / D, 1.0)))):
+            self.assertEqual(calls.sheet(7, 5, 4, record._replace(**change)), (refusal, (0, 0, 0)), change)
+        # Half the spacing: the bending counts 16 times, the tension 4 times; by columns, not by rows.
+        fine = record._replace(bending=2**-9, speed=("tension", 0.0625, 1.0))
+        self.assertEqual(calls.sheet(7, 9, 3, fine), (0, (16384, 2048, 32768)))
 
 
 class Pluck(unittest.TestCase):
@@ -240,13 +340,14 @@ class SheetNumbers(unittest.TestCase):
 
     def test_refused(self):
         for refusal, changes in (
-                (1, {"kind": 0}), (1, {"kind": 7}), (2, {"columns": 2}), (2, {"rows": 2}),
+                (1, {"kind": 0}), (1, {"kind": 8}), (2, {"columns": 2}), (2, {"rows": 2}),
                 (2, {"kind": 6, "rows": 4}), (3, {"rate": 0.0}), (3, {"rate": -0.0}),
                 (3, {"length": 0.0}), (3, {"length": -1.0}), (3, {"bending": -5e-324}),
                 (3, {"bending": math.inf}), (3, {"speed": ("hertz", math.nan)}),
                 (3, {"speed": ("tension", 1.0, 0.0)}), (3, {"speed": ("tension", -1.0, 1.0)}),
                 (3, {"loss": ("seconds", 0.0)}), (3, {"loss": ("seconds", -0.0)}),
                 (3, {"loss": ("per second", -1.0)}), (3, {"kind": 5, "rows": 3, "speed": ("hertz", 0.0)}),
+                (3, {"kind": 6, "rows": 3, "speed": ("hertz", 0.0)}),
                 (4, {"speed": ("tension", 2.0, 1.0)}), (4, {"loss": ("per second", 1.0 + 0.5 / 65536)}),
                 (4, {"length": 5e-324}), (4, {"rate": 5e-324}), (4, {"bending": 1.5}),
                 (5, {"bending": 0.125}), (5, {"kind": 5, "rows": 3, "speed": ("tension", 0.75, 1.0)}),
@@ -262,7 +363,7 @@ class Refusals(unittest.TestCase):
     high, low = CEILING + 1, -CEILING - 1
 
     def block_causes(self):
-        return ((1, dict(kind=0)), (1, dict(kind=7)), (2, dict(columns=2)), (2, dict(rows=2)),
+        return ((1, dict(kind=0)), (1, dict(kind=8)), (2, dict(columns=2)), (2, dict(rows=2)),
                 (2, dict(columns=2**32, rows=2**32)), (4, dict(q=D + 1)), (4, dict(m=2**64 - 1)),
                 (4, dict(s=D + 1)), (5, dict(m=1)), (5, dict(kind=4, m=1)),
                 (6, dict(work=[0] * 3)), (6, dict(older=[0] * 5)), (6, dict(newer=[])),
@@ -299,7 +400,7 @@ class Refusals(unittest.TestCase):
     def test_pluck(self):
         base = dict(kind=4, columns=4, rows=1, older=[9] * 4, newer=[8] * 4, centre=1, half_width=2, height=5)
         for refusal, change in ((1, dict(kind=5)), (1, dict(kind=0)), (1, dict(kind=6, columns=4, rows=4)),
-                                (2, dict(columns=1025)), (2, dict(rows=0)), (6, dict(older=[0] * 3)),
+                                (1, dict(kind=8)), (2, dict(columns=1025)), (2, dict(rows=0)), (6, dict(older=[0] * 3)),
                                 (6, dict(newer=[0] * 5)), (7, dict(centre=0)), (7, dict(centre=4)),
                                 (8, dict(height=self.high)), (8, dict(height=-2**63)),
                                 (10, dict(half_width=0)), (10, dict(half_width=4)),
@@ -312,7 +413,7 @@ class Refusals(unittest.TestCase):
     def test_reading(self):
         base = dict(kind=2, columns=3, rows=1, newer=[0, 2**43 - 2**28, -2**42], pick_up=2)
         self.assertEqual(calls.reading(**base), (0, -0.5))
-        for refusal, change in ((1, dict(kind=9)), (2, dict(columns=2)), (6, dict(newer=[0] * 4)),
+        for refusal, change in ((1, dict(kind=8)), (2, dict(columns=2)), (6, dict(newer=[0] * 4)),
                                 (9, dict(pick_up=3)), (11, dict(newer=[0, 0, self.low])),
                                 (11, dict(newer=[self.high, 0, 0])), (12, dict(newer=[1, 0, 0])),
                                 (9, dict(pick_up=3, newer=[1, 0, self.high]))):
@@ -328,20 +429,19 @@ class Refusals(unittest.TestCase):
                 self.assertEqual(calls.reading(*grid, level, 0)[0], 0 if point in moving else 12)
 
 
-def accepted_start(draw):
+def accepted_start(draw, kinds):
     """A grid, settings and two levels that 1, 2, 4, 5, 11 and 12 let pass."""
     draw.odds = 0.0
-    kind = draw.randint(1, 6)
+    kind = draw.choice(kinds)
     grid = (kind, *draw.size(kind, large=0.0))
     return grid, draw.settings(kind), *draw.levels(grid)
 
 
 class Book(unittest.TestCase):
-    def test_energy(self):
+    def watch_energy(self, draw, kinds, starts):
         """Never negative, never raised without a hit, kept without loss."""
-        draw = draws.Draws("energy")
-        for _ in range(250):
-            grid, settings, older, newer = accepted_start(draw)
+        for _ in range(starts):
+            grid, settings, older, newer = accepted_start(draw, kinds)
             scale, divisor = 1, D + settings[2]
             before = book.energy(grid, settings, older, newer)
             self.assertGreaterEqual(before, 0)
@@ -356,11 +456,20 @@ class Book(unittest.TestCase):
                         self.assertEqual(after, before * divisor**2)
                 before = after
 
+    def test_energy(self):
+        self.watch_energy(draws.Draws("energy"), KINDS, 250)
+
+    def test_energy_of_plates(self):
+        self.watch_energy(draws.Draws("energy of plates"), (7,), 100)
+
     def test_energy_by_hand(self):
         # Kind 3, newer "1 0 0", older zeros: only the first sum, and the free end counts half.
         self.assertEqual(book.energy((3, 3, 1), (D, 0, 0), [0, 0, 0], [1, 0, 0]), D)
         # Kind 4, both "0 1 0": two pairs and L = -2.
         self.assertEqual(book.energy((4, 3, 1), (5, 7, 0), [0, 1, 0], [0, 1, 0]), 2 * 5 * 2 + 2 * 7 * 4)
+        # Kind 7, 4 x 3, a 1 at the first of its two moving points in both: four pairs, L = -4 and 1, 0 on the outer ring.
+        plate = on_grid(4, 3, {5: 1})
+        self.assertEqual(book.energy((7, 4, 3), (5, 7, 0), plate, plate), 2 * 5 * 4 + 2 * 7 * (16 + 1))
 
     def test_distance_by_hand(self):
         kept = book.Book([0] * 3, [0] * 3)
@@ -393,16 +502,15 @@ class Book(unittest.TestCase):
         kept.pluck(3, 3, 1, zeros, zeros, 0, 1, 9)
         self.assertEqual((kept.n, kept.scale, kept.older, kept.newer), (0, 1, [9, 0, 0], [9, 0, 0]))
 
-    def test_bound_on_random_lists(self):
-        draw = draws.Draws("lists")
+    def keep_lists(self, draw, kinds, lists):
+        """Random lists within the bound; the number of calls with the book at a distance."""
         far = 0
-        for _ in range(150):
-            draw.odds = 0.0
-            grid, settings, older, newer = accepted_start(draw)
+        for _ in range(lists):
+            grid, settings, older, newer = accepted_start(draw, kinds)
             kept = book.Book(older, newer)
             for _ in range(6):
                 if draw.rarely(0.25):
-                    grid = draw.choice(draws.same_size_grids(grid))
+                    grid = draw.choice([other for other in draws.same_size_grids(grid) if other[0] in kinds])
                     settings = draw.settings(grid[0])
                 draw.odds = 0.02
                 if draw.rarely(0.15):
@@ -417,7 +525,13 @@ class Book(unittest.TestCase):
                     older, newer = after_older, after_newer
                 self.assertTrue(kept.within_bound(newer))
                 far += kept.n > 0 and kept.distance(newer) > 0
-        self.assertGreater(far, 50)
+        return far
+
+    def test_bound_on_random_lists(self):
+        self.assertGreater(self.keep_lists(draws.Draws("lists"), KINDS, 150), 50)
+
+    def test_bound_on_random_lists_of_plates(self):
+        self.assertGreater(self.keep_lists(draws.Draws("lists of plates"), (7,), 100), 50)
 
 
 if __name__ == "__main__":

@@ -37,21 +37,30 @@ class Listing(unittest.TestCase):
         self.assertEqual(ring(line(q=0, steps=8192, force=CEILING)), "1 32767\ndone 1 13\n")
         self.assertEqual(ring(line(q=0, steps=8192, force=-(CEILING // 2))), "1 -16384\n2 -32767\ndone 2 13\n")
 
+    def test_plate(self):
+        """3 x 3, m 4096: next is 2u - 16u/16 - p, after the hit 1 1 0 -1 -1 0."""
+        text = line(kind=7, rows=3, q=0, m=4096, pick_up=4, steps=6, point=4)
+        self.assertEqual(ring(text), "1 1\n2 1\n3 0\n4 -1\n5 -1\n6 0\ndone 6 0\n")
+
     def test_more_than_1024_points(self):
         self.assertEqual(ring(line(kind=5, columns=32, rows=32, q=0, point=33, steps=1)), "1 0\ndone 1 0\n")
         self.assertEqual(ring(line(kind=5, columns=41, rows=25, q=0, point=42, steps=1)), "done 0 2\n")
         self.assertEqual(ring(line(kind=6, columns=33, rows=33, q=65537)), "done 0 2\n")
+        self.assertEqual(ring(line(kind=7, columns=64, rows=16, q=0, m=4096, point=65, steps=1)), "1 0\ndone 1 0\n")
+        for side in (33, 64):
+            self.assertEqual(ring(line(kind=7, columns=side, rows=side, q=0, m=4096, point=65, steps=1)), "done 0 2\n")
         self.assertEqual(ring(line(columns=1024, steps=0)), "done 0 0\n")
         self.assertEqual(ring(line(columns=1025, steps=0)), "done 0 2\n")
         self.assertEqual(ring(line(columns=2**32, rows=2**32)), "done 0 2\n")
 
     def test_unknown_kind_of_any_size(self):
-        for kind in (0, 7, 2**63 - 1):
+        for kind in (0, 8, 2**63 - 1):
             for columns, rows in ((3, 1), (0, 0), (2**63 - 1, 2**63 - 1)):
                 self.assertEqual(ring(line(kind=kind, columns=columns, rows=rows)), "done 0 1\n")
 
     def test_refusals(self):
-        for number, text in ((2, line(rows=2)), (4, line(q=65537)), (5, line(m=1)), (7, line(point=3)),
+        for number, text in ((2, line(rows=2)), (4, line(q=65537)), (5, line(m=1)), (5, line(kind=7, rows=3, q=1, m=4096)),
+                             (7, line(kind=7, rows=3, q=0, point=1)), (7, line(point=3)),
                              (8, line(force=CEILING + 1)), (8, line(force=-(2**63))), (9, line(pick_up=3))):
             self.assertEqual(ring(text), f"done 0 {number}\n")
 
