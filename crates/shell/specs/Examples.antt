@@ -23,7 +23,10 @@ table =
     ("1 3 1 65536 0 0 1 2 1 0\n" prints "1 0\n2 0\ndone 2 0\n") ∷
     -- "A known kind with more than 1024 points"
     ("5 41 25 0 0 0 0 1 42 0\n" prints "done 0 2\n") ∷
-    ("7 41 25 0 0 0 0 1 42 0\n" prints "done 0 1\n") ∷
+    ("7 41 25 0 0 0 0 1 42 0\n" prints "done 0 2\n") ∷
+    ("8 41 25 0 0 0 0 1 42 0\n" prints "done 0 1\n") ∷
+    -- a plate, hit in its middle
+    ("7 5 5 0 4096 0 12 2 12 4294967296\n" prints "1 16\n2 12\ndone 2 0\n") ∷
     -- the middle grows by the force until it would pass the ceiling
     ("1 3 1 0 0 0 1 8 1 -4397912293376\n" prints "1 -16384\n2 -32767\ndone 2 13\n") ∷ []
 
