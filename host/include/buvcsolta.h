@@ -1,4 +1,4 @@
-/* Buvcsolta: strings, bars and membranes by finite-difference schemes in whole numbers.
+/* Buvcsolta: strings, bars, membranes and plates by finite-difference schemes in whole numbers.
  *
  * Programs in C and C++ use the calls buvcsolta_instrument_..., at the end of this file. They hand their arguments to the four
  * exported functions, which are for bindings of other languages. Every call answers a refusal number, 0 where it was carried out;
@@ -7,7 +7,8 @@
  * Points count from 0, row by row. An instrument's state is two levels, the older and the newer, of columns x rows points.
  * A point is a whole number of units, 2^28 to a sample unit, and lies within the ceiling, 32767 x 2^28, on either side of zero.
  * Settings are q, m and s over 65536: the squared Courant number, the stiffness, the loss per step.
- * Stable is: kinds 1 to 3, q <= 65536; kind 4, q + 4m <= 65536; kinds 5 and 6, 2q <= 65536.
+ * Stable is: kinds 1 to 3, q <= 65536; kind 4, q + 4m <= 65536; kinds 5 and 6, 2q <= 65536; kind 7, 2q + 16m <= 65536.
+ * Only kinds 4 and 7 may have m above 0.
  *
  * Memory. The library allocates nothing and keeps nothing between calls: every buffer belongs to the caller before, during and after
  * a call. Each pointer is not null, is aligned for its type and points to as many elements as its length says, also where that is 0.
@@ -28,9 +29,9 @@
 extern "C" {
 #endif
 
-/* The version of this header: a new major number where a program must be changed. */
+/* The version of this header: a new major number where a program must be changed, a new minor one where a call takes more. */
 #define BUVCSOLTA_VERSION_MAJOR 1
-#define BUVCSOLTA_VERSION_MINOR 0
+#define BUVCSOLTA_VERSION_MINOR 1
 #define BUVCSOLTA_VERSION_PATCH 0
 #define BUVCSOLTA_VERSION (BUVCSOLTA_VERSION_MAJOR * 10000 + BUVCSOLTA_VERSION_MINOR * 100 + BUVCSOLTA_VERSION_PATCH)
 
@@ -44,18 +45,19 @@ enum buvcsolta_kind {
     BUVCSOLTA_STRING_FREE = 3,          /* both ends free                         3..1024 x 1 */
     BUVCSOLTA_BAR = 4,                  /* stiff string or bar, ends supported    3..1024 x 1 */
     BUVCSOLTA_MEMBRANE_RECTANGULAR = 5, /* fixed edge                             3..64 x 3..64 */
-    BUVCSOLTA_MEMBRANE_ROUND = 6        /* fixed edge                             3..64, square */
+    BUVCSOLTA_MEMBRANE_ROUND = 6,       /* fixed edge                             3..64, square */
+    BUVCSOLTA_PLATE = 7                 /* rectangular, edge supported            3..64 x 3..64 */
 };
 
 /* Refusals. 1 to 10 are of what was handed over, 11 to 13 of the state. */
 enum buvcsolta_refusal {
     BUVCSOLTA_NOTHING = 0,         /* carried out */
-    BUVCSOLTA_UNKNOWN_KIND = 1,    /* the kind is not 1..6; for a pluck not 1..4 */
+    BUVCSOLTA_UNKNOWN_KIND = 1,    /* the kind is not 1..7; for a pluck not 1..4 */
     BUVCSOLTA_WRONG_SIZE = 2,      /* columns or rows are not those of the kind */
     BUVCSOLTA_SHEET_NUMBER = 3,    /* a number of the sheet is not finite, is negative, or is zero where it is the rate, length,
-                                      density or decay time; or a pitch in hertz for kinds 5 and 6 */
+                                      density or decay time; or a pitch in hertz for kinds 5 to 7 */
     BUVCSOLTA_COEFFICIENT = 4,     /* q, m or s is not in 0..65536 */
-    BUVCSOLTA_UNSTABLE = 5,        /* not stable, or m above 0 outside kind 4 */
+    BUVCSOLTA_UNSTABLE = 5,        /* not stable, or m above 0 outside kinds 4 and 7 */
     BUVCSOLTA_WRONG_LENGTH = 6,    /* a lent level does not have columns x rows points */
     BUVCSOLTA_NOT_MOVING = 7,      /* the hit's point or the pluck's centre is not a moving point */
     BUVCSOLTA_TOO_STRONG = 8,      /* the force or height is beyond the ceiling */
@@ -180,7 +182,7 @@ static inline const char *buvcsolta_refusal_text(uint64_t refusal)
     case BUVCSOLTA_WRONG_SIZE: return "columns or rows are not those of the kind";
     case BUVCSOLTA_SHEET_NUMBER: return "a number of the sheet is not allowed";
     case BUVCSOLTA_COEFFICIENT: return "q, m or s is not in 0..65536";
-    case BUVCSOLTA_UNSTABLE: return "not stable, or m above 0 outside kind 4";
+    case BUVCSOLTA_UNSTABLE: return "not stable, or m above 0 outside kinds 4 and 7";
     case BUVCSOLTA_WRONG_LENGTH: return "a level does not have columns x rows points";
     case BUVCSOLTA_NOT_MOVING: return "the hit's point or the pluck's centre does not move";
     case BUVCSOLTA_TOO_STRONG: return "the force or height is beyond the ceiling";

@@ -87,8 +87,9 @@ def differences(header, c_api, scheme, names):
         wrong.append(f"refusals: {sorted(set(numbers.items()) ^ set(listed.items()))}")
     if sorted(texts(header)) != sorted(numbers):
         wrong.append("refusals in words are not those of the source")
-    if list(enumerators(header, "buvcsolta_kind").values()) != [1, 2, 3, 4, 5, 6]:
-        wrong.append("kinds are not 1 to 6")
+    last = re.search(r"const LAST: u64 = (\d+);", scheme)
+    if not last or list(enumerators(header, "buvcsolta_kind").values()) != list(range(1, int(last[1]) + 1)):
+        wrong.append("kinds are not 1 to the last of the source")
     ceiling = re.search(r"const CEILING: i64 = (\d+) \* (\d+);", scheme)
     units, most = (constant(header, name) for name in ("UNITS_PER_SAMPLE", "CEILING"))
     if not ceiling or (units, most) != (int(ceiling[2]), int(ceiling[1]) * int(ceiling[2])):

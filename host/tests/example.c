@@ -1,5 +1,5 @@
-/* The header's calls: the paper's sheet, a pluck, a block with a hit, a reading, refused calls, and a block by the exported function
- * itself, for writers of bindings. Prints what differs. Compiled as C99 and as C++11. */
+/* The header's calls: the paper's sheet, a pluck, a block with a hit, a reading, a struck plate, refused calls, and a block by the
+ * exported function itself, for writers of bindings. Prints what differs. Compiled as C99 and as C++11. */
 #include "buvcsolta.h"
 #include <stdio.h>
 #include <string.h>
@@ -75,6 +75,25 @@ static void plucked_string(void)
     expect("steps", (int64_t)steps, PLACES);
 }
 
+/* A plate of 5 x 5 points, one apart and with one step a second, so that m is 65536 times the bending; hit in its middle. */
+static void struck_plate(void)
+{
+    static int64_t points[3][25];
+    static const int16_t wanted[3] = {16, 12, 10};
+    struct buvcsolta_instrument plate = {BUVCSOLTA_PLATE, 5, 5, 9, 9, 9};
+    struct buvcsolta_player_sheet sheet = {1.0, 4.0, 0.0625, 1, 0.0, 1.0, 0, 0.0};
+    struct buvcsolta_levels lent = {points[0], points[1], points[2], 25};
+    struct buvcsolta_hit hit = {12, 16 * BUVCSOLTA_UNITS_PER_SAMPLE};
+    int16_t heard[3];
+    expect_refusal("a plate's sheet", buvcsolta_instrument_sheet(&plate, &sheet), BUVCSOLTA_NOTHING);
+    expect("a plate's m", (int64_t)plate.m, 4096);
+    expect_refusal("a plate", buvcsolta_instrument_block(&plate, &lent, heard, 3, 12, &hit, &steps), BUVCSOLTA_NOTHING);
+    expect("a plate's samples", memcmp(heard, wanted, sizeof wanted), 0);
+    expect_refusal("a plate plucked", buvcsolta_instrument_pluck(&plate, &lent, 12, 1, 1), BUVCSOLTA_UNKNOWN_KIND);
+    plate.m++;
+    expect_refusal("a plate beyond its limit", buvcsolta_instrument_block(&plate, &lent, heard, 3, 12, &hit, &steps), BUVCSOLTA_UNSTABLE);
+}
+
 static void refused_calls(void)
 {
     struct buvcsolta_levels shorter = {older, newer, work, COLUMNS - 1};
@@ -95,6 +114,7 @@ int main(void)
     sheet_of_the_paper();
     listing_of_the_paper();
     plucked_string();
+    struck_plate();
     refused_calls();
     if (failures)
         printf("example: %d differences\n", failures);

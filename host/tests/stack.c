@@ -1,5 +1,6 @@
 /* The stack that each call needs: calls of every kind and size on a painted stack, and the lowest byte that lost its paint. Prints the
- * bytes below the caller's frame, arguments and return address included, and fails where they are more than the README says. */
+ * bytes below the caller's frame, arguments and return address included, and fails where they are more than the README says. A block of
+ * a plate keeps rows of its own, and is counted apart. */
 #include "buvcsolta.h"
 #include <stdio.h>
 #include <stdlib.h>
@@ -72,18 +73,29 @@ static size_t needed(void (*call)(void))
     return (size_t)(frame - (stack + clean));
 }
 
-/* The most of a call, over every kind at its least and largest size. */
-static size_t most(void (*call)(void))
+struct row {
+    const char *name;
+    void (*call)(void);
+    uint64_t first, last; /* kinds */
+};
+
+static uint64_t stiffness(uint64_t kind)
+{
+    return kind == BUVCSOLTA_BAR ? 9000 : kind == BUVCSOLTA_PLATE ? 2500 : 0;
+}
+
+/* The most of a call, over its kinds at their least and largest size. */
+static size_t most(const struct row *r)
 {
     static const size_t sides[2][2] = {{3, 1024}, {5, 64}};
     size_t found = 0;
-    for (uint64_t kind = 1; kind <= 6; kind++)
+    for (uint64_t kind = r->first; kind <= r->last; kind++)
         for (int large = 0; large < 2; large++) {
             size_t side = sides[kind >= 5][large], bytes;
-            struct buvcsolta_instrument i = {kind, side, kind >= 5 ? side : 1, 10000, kind == 4 ? 9000 : 0, 3};
+            struct buvcsolta_instrument i = {kind, side, kind >= 5 ? side : 1, 10000, stiffness(kind), 3};
             instrument = i;
-            bytes = needed(call);
-            if (refusal != BUVCSOLTA_NOTHING && !(call == call_pluck && kind >= 5)) {
+            bytes = needed(r->call);
+            if (refusal != BUVCSOLTA_NOTHING && !(r->call == call_pluck && kind >= 5)) {
                 printf("kind %d, %d columns: %s\n", (int)kind, (int)side, buvcsolta_refusal_text(refusal));
                 exit(1);
             }
@@ -94,18 +106,21 @@ static size_t most(void (*call)(void))
 
 int main(int argc, char **argv)
 {
-    static void (*const calls[4])(void) = {call_block, call_pluck, call_reading, call_sheet};
-    static const char *const names[4] = {"block", "pluck", "reading", "sheet"};
+    static const struct row rows[] = {
+        {"block", call_block, 1, 6}, {"block of a plate", call_block, 7, 7}, {"pluck", call_pluck, 1, 7},
+        {"reading", call_reading, 1, 7}, {"sheet", call_sheet, 1, 7},
+    };
+    enum { ROWS = sizeof rows / sizeof *rows };
     int passed = 0;
-    if (argc != 5) {
-        fputs("usage: stack BLOCK PLUCK READING SHEET, the bytes that each may need\n", stderr);
+    if (argc != ROWS + 1) {
+        fputs("usage: stack BLOCK PLATE PLUCK READING SHEET, the bytes that each may need\n", stderr);
         return 2;
     }
-    for (int k = 0; k < 4; k++)
-        most(calls[k]); /* a dynamic linker looks memset up on the caller's stack in the first call */
-    for (int k = 0; k < 4; k++) {
-        size_t bytes = most(calls[k]);
-        printf("%s%s %zu", k ? ", " : "bytes of stack: ", names[k], bytes);
+    for (int k = 0; k < ROWS; k++)
+        most(&rows[k]); /* a dynamic linker looks memset up on the caller's stack in the first call */
+    for (int k = 0; k < ROWS; k++) {
+        size_t bytes = most(&rows[k]);
+        printf("%s%s %zu", k ? ", " : "bytes of stack: ", rows[k].name, bytes);
         passed |= bytes > strtoul(argv[k + 1], 0, 10);
     }
     puts(passed ? ": more than allowed" : "");

@@ -25,6 +25,8 @@ EDITS = (
     ("a wrong refusal", "BUVCSOLTA_PICK_UP = 9", "BUVCSOLTA_PICK_UP = 10"),
     ("a refusal without words", "case BUVCSOLTA_HALF_WIDTH: return", "case 10: return"),
     ("a wrong kind", "BUVCSOLTA_BAR = 4", "BUVCSOLTA_BAR = 5"),
+    ("a kind left out", "BUVCSOLTA_MEMBRANE_ROUND = 6,       /* fixed edge                             3..64, square */\n    BUVCSOLTA_PLATE = 7",
+     "BUVCSOLTA_MEMBRANE_ROUND = 6"),
     ("a wrong ceiling", "INT64_C(32767)", "INT64_C(32768)"),
     ("wrong units", "(INT64_C(1) << 28)", "(INT64_C(1) << 27)"),
 )
