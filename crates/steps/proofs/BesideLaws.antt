@@ -1,4 +1,4 @@
--- The neighbours that each loop reads are those of the neighbour rule, and L of L is L taken of the values of L.
+-- The neighbours that each loop reads are those of the neighbour rule.
 use mathlib.Core.Path.{_≡_, refl, sym, ap, _∙_, subst}
 use mathlib.Core.Bool.{true}
 use mathlib.Core.List.{List, [], _∷_}
@@ -21,9 +21,9 @@ use Rattle.scheme.specs.Passing.{InstrumentPasses}
 use Rattle.scheme.specs.Ranges.{AtMost}
 use Rattle.scheme.proofs.Laws.Neighbours.{line-inner, line-first, line-last, grid-inner, grid-above, grid-below}
 use Rattle.scheme.proofs.Laws.Step.{moving-inside}
-use Rattle.steps.specs.Plan.{Neighbouring}
+use Rattle.steps.specs.Plan.{countOf, Neighbouring}
 use Rattle.steps.specs.Run.{Moves, OnLine, FreeEnd, clamp, twoBeside, fourBeside}
-use Rattle.steps.proofs.KindLaws.{Edge, line-long, wide, line-stiff, line-in, line-free, bar-inner, grid-free, grid-in}
+use Rattle.steps.proofs.KindLaws.{Edge, two-of, four-of, line-long, wide, line-stiff, line-in, line-free, bar-inner, grid-free, grid-in}
 use Rattle.steps.proofs.StretchLaws.{clamp-before, clamp-inside, clamp-after}
 
 -- ---- points as the machine reads them, and the sum of those on either side of one as it adds them
@@ -56,23 +56,6 @@ pub sum-four : (a : ℕ → ℤ) (j k l m : ℕ) → a j +ℤ a k +ℤ a l +ℤ 
 unfolding sumOver
 sum-four a j k l m = ring 4 (λ x y z w. x ⊕ y ⊕ z ⊕ w ≈ x ⊕ (y ⊕ (z ⊕ (w ⊕ # 0)))) refl (a j) (a k) (a l) (a m)
 
--- L where there are two neighbours
-pub two-laplacian : (g : Grid) (a : ℕ → ℤ) (k j l : ℕ) → neighbours g k ≡ j ∷ l ∷ [] → laplacian g a k ≡ a j +ℤ a l -ℤ pos 2 *ℤ a k
-unfolding laplacian
-two-laplacian g a k j l e =
-    ap (λ (js : List ℕ). sumOver js a -ℤ pos (length js) *ℤ a k) e ∙ ap (λ (z : ℤ). z -ℤ pos 2 *ℤ a k) (sym (sum-two a j l))
-
--- and where there are four
-four-laplacian : (g : Grid) (a : ℕ → ℤ) (k j l m n : ℕ) → neighbours g k ≡ j ∷ l ∷ m ∷ n ∷ []
-    → laplacian g a k ≡ a j +ℤ a l +ℤ a m +ℤ a n -ℤ pos 4 *ℤ a k
-unfolding laplacian
-four-laplacian g a k j l m n e =
-    ap (λ (js : List ℕ). sumOver js a -ℤ pos (length js) *ℤ a k) e ∙ ap (λ (z : ℤ). z -ℤ pos 4 *ℤ a k) (sym (sum-four a j l m n))
-
--- without stiffness L of L does not count
-soft-stiff : (m : ℕ) (b : ℤ) → m ≡ 0 → pos m *ℤ pos 0 ≡ pos m *ℤ b
-soft-stiff m b e = ap (λ (n : ℕ). pos n *ℤ pos 0) e ∙ sym (ap (λ (n : ℕ). pos n *ℤ b) e ∙ zero-*ℤ b)
-
 -- a moving point of a grid has four
 module _ (g : Grid) (size : inTable g ≡ true) (grid : g .rows ≡ 1 → ⊥) (k : ℕ) (mk : moving g k ≡ true) where
   pub around-neighbours : neighbours g k ≡ (k - 1) ∷ (k + 1) ∷ (k - g .columns) ∷ (k + g .columns) ∷ []
@@ -85,9 +68,32 @@ module _ (g : Grid) (size : inTable g ≡ true) (grid : g .rows ≡ 1 → ⊥) (
   pub around-below : k + g .columns < points g
   around-below = let n = grid-in g size grid k mk in grid-below g k (n .1) (n .3)
 
-  pub around-laplacian : (a : ℕ → ℤ)
-      → laplacian g a k ≡ a (k - 1) +ℤ a (k + 1) +ℤ a (k - g .columns) +ℤ a (k + g .columns) -ℤ pos 4 *ℤ a k
-  around-laplacian a = four-laplacian g a k (k - 1) (k + 1) (k - g .columns) (k + g .columns) around-neighbours
+module _ (g : Grid) (size : inTable g ≡ true) where
+  -- a moving end of a line has one, twice
+  pub end-first : g .rows ≡ 1 → (k : ℕ) → moving g k ≡ true → k ≡ 0 → neighbours g k ≡ (k + 1) ∷ (k + 1) ∷ []
+  end-first line k mk e =
+      line-first g k line (omega (arith, wide g size)) e (omega (arith, wide g size)) (line-free g size line k mk (inl e))
+
+  pub end-last : g .rows ≡ 1 → (k : ℕ) → moving g k ≡ true → k + 1 ≡ g .columns → neighbours g k ≡ (k - 1) ∷ (k - 1) ∷ []
+  end-last line k mk e = line-last g k line (omega arith) e (omega (arith, wide g size)) (line-free g size line k mk (inr e))
+
+  -- "two neighbours, or four"
+  pub count-is : (k : ℕ) → moving g k ≡ true → length (neighbours g k) ≡ countOf g
+  count-is k mk = go (ℕ-discrete (g .rows) 1)
+    where
+      counted : (js : List ℕ) (n : ℕ) → neighbours g k ≡ js → length js ≡ n → countOf g ≡ n → length (neighbours g k) ≡ countOf g
+      counted js n e l c = ap length e ∙ l ∙ sym c
+
+      on-line : g .rows ≡ 1 → Dec (k ≡ 0) → Dec (k + 1 ≡ g .columns) → length (neighbours g k) ≡ countOf g
+      on-line line (yes e) t = counted _ 2 (end-first line k mk e) refl (two-of g line)
+      on-line line (no a) (yes e) = counted _ 2 (end-last line k mk e) refl (two-of g line)
+      on-line line (no a) (no b) =
+          let h = line-in g size line k mk in
+          counted _ 2 (line-inner g k line h (omega (arith, a)) (omega (arith, b))) refl (two-of g line)
+
+      go : Dec (g .rows ≡ 1) → length (neighbours g k) ≡ countOf g
+      go (yes line) = on-line line (ℕ-discrete k 0) (ℕ-discrete (k + 1) (g .columns))
+      go (no grid) = counted _ 4 (around-neighbours g size grid k mk) refl (four-of g grid)
 
 module _ (i : Instrument) (ok : InstrumentPasses i) where
   abbrev g : Grid
@@ -104,25 +110,22 @@ module _ (i : Instrument) (ok : InstrumentPasses i) where
       go (inl e) = absurd (n e)
       go (inr e) = e
 
-  -- neighbours, where L of L does not count
-  soft-beside : (newer : List ℤ) (k : ℕ) (sum : ℤ) (js : List ℕ) → k < points g → m ≡ 0 → neighbours g k ≡ js → sum
-      ≡ sumOver js (point newer)
-      → Neighbouring i newer k sum (pos (length js)) (pos 0)
-  soft-beside newer k sum js h soft e s = record {
-    inside = h;
+  -- neighbours, without stiffness
+  soft-beside : (newer : List ℤ) (k : ℕ) (sum : ℤ) (js : List ℕ) → moving g k ≡ true → m ≡ 0 → neighbours g k ≡ js
+      → sum ≡ sumOver js (point newer) → Neighbouring i newer k sum (pos 0)
+  soft-beside newer k sum js mk soft e s = record {
+    moves = mk;
     sum-is = s ∙ ap (λ (js : List ℕ). sumOver js (point newer)) (sym e);
-    count-is = ap (λ (js : List ℕ). pos (length js)) (sym e);
-    b-low = zero-le;
-    stiff = soft-stiff m (biharmonic g (point newer) k) soft;
+    second-is = inl (soft, refl);
   }
 
   -- ---- a line
 
   -- an inner point, without stiffness
   pub line-beside : {from to : ℕ} → OnLine g from to → m ≡ 0 → (newer : List ℤ) (k : ℕ) → from ≤ k → k < to
-      → Neighbouring i newer k (twoBeside newer k) (pos 2) (pos 0)
+      → Neighbouring i newer k (twoBeside newer k) (pos 0)
   line-beside on soft newer k first last =
-      soft-beside newer k _ _ (omega (arith, on .last, line-long g (on .line))) soft
+      soft-beside newer k _ _ (on .each k first last) soft
       (line-inner g k (on .line) (omega (arith, on .last)) (omega (arith, on .first)) (omega (arith, on .last)))
       (sum-two (point newer) (k - 1) (k + 1))
 
@@ -164,9 +167,8 @@ module _ (i : Instrument) (ok : InstrumentPasses i) where
             (record {
               one = omega arith;
               inside = omega (arith, line-long g line, wide g (ok .size));
-              there = λ l. omega (arith, line-long g line, wide g (ok .size));
-              twice = λ l. line-first g from line (omega (arith, wide g (ok .size))) e (omega (arith, wide g (ok .size)))
-                  (line-free g (ok .size) line from moves (inl e)) ∙ ap (λ (j : ℕ). j ∷ j ∷ []) (omega arith);
+              there = λ l. moves;
+              twice = λ l. end-first g (ok .size) line from moves e ∙ ap (λ (j : ℕ). j ∷ j ∷ []) (omega arith);
               soft = λ l. end-soft from moves (inl e);
             })
 
@@ -185,22 +187,21 @@ module _ (i : Instrument) (ok : InstrumentPasses i) where
             (record {
               one = omega arith;
               inside = omega (arith, line-long g line, wide g (ok .size));
-              there = λ l. omega (arith, line-long g line, wide g (ok .size));
-              twice = λ l. line-last g (n - 1) line (omega arith) end (omega (arith, wide g (ok .size)))
-                  (line-free g (ok .size) line (n - 1) moves (inr end)) ∙ ap (λ (j : ℕ). j ∷ j ∷ []) (omega arith);
+              there = λ l. moves;
+              twice = λ l. end-last g (ok .size) line (n - 1) moves end ∙ ap (λ (j : ℕ). j ∷ j ∷ []) (omega arith);
               soft = λ l. end-soft (n - 1) moves (inr end);
             })
 
   -- the one neighbour of a free end, twice
   pub end-beside : (newer : List ℤ) {near from to : ℕ} → FreeEnd i near from to → from < to
-      → Neighbouring i newer from (point newer near +ℤ point newer near) (pos 2) (pos 0)
+      → Neighbouring i newer from (point newer near +ℤ point newer near) (pos 0)
   end-beside newer {near} {from} e h =
       soft-beside newer from _ (near ∷ near ∷ []) (e .there h) (e .soft h) (e .twice h) (sum-two (point newer) near near)
 
   -- ---- a grid
 
   pub grid-beside : (g .rows ≡ 1 → ⊥) → m ≡ 0 → (newer : List ℤ) (k : ℕ) → moving g k ≡ true
-      → Neighbouring i newer k (fourBeside newer (g .columns) k) (pos 4) (pos 0)
+      → Neighbouring i newer k (fourBeside newer (g .columns) k) (pos 0)
   grid-beside grid soft newer k mk =
-      soft-beside newer k _ _ (moving-inside g k mk) soft (around-neighbours g (ok .size) grid k mk)
+      soft-beside newer k _ _ mk soft (around-neighbours g (ok .size) grid k mk)
       (sum-four (point newer) (k - 1) (k + 1) (k - g .columns) (k + g .columns))

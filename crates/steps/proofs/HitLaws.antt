@@ -39,6 +39,7 @@ ready-force r l = record {
   newer-long = r .newer-long;
   older-low = r .older-low;
   newer-low = r .newer-low;
+  newer-still = r .newer-still;
   f-low = l;
 }
 

@@ -1,11 +1,11 @@
 -- Where moving points stand on a line and on a grid, and which instruments are stiff: by cases of the kind.
 use mathlib.Core.Path.{_≡_, refl, sym, ap, _∙_, subst}
-use mathlib.Core.Bool.{Bool, true, false, not, _&&_, _||_, or-true, true≢false}
+use mathlib.Core.Bool.{Bool, true, false, cond, not, _&&_, _||_, or-true, true≢false}
 use mathlib.Core.Logic.{_⊎_, inl, inr}
 use Prim.Native.Nat.{ℕ, _+_, _*_, _≤_, _<_}
 use native.Mathlib.Nat as N
 use native.Mathlib.Omega.{arith}
-use borrow.Author.Tests.{eqb-true, eqb-false, eq-eqb, not-true}
+use borrow.Author.Tests.{eqb-true, eqb-false, eq-eqb, ne-eqb, not-true}
 use lib.Dec.{T, leb, ltb, eqb}
 use lib.IntN.{pos, _+ℤ_, _-ℤ_}
 use Rattle.integers.proofs.Ring.{#_, _⊕_, _⊖_, _⊗_, _≈_, ring}
@@ -19,9 +19,10 @@ use Rattle.scheme.specs.Instruments.{Kind, unknown, fixedString, halfFreeString
 use Rattle.scheme.specs.Instruments.{kind, points, column, row, within, lineSize, gridSize, sizeIn, stableIn, atEdge, outerRing}
 use Rattle.scheme.specs.Instruments.{inTable, offCentre, roundEdge, fixedIn, fixed, moving, freeIn, freeEnd}
 use Rattle.scheme.proofs.Laws.Bools.{and-both, or-neither}
-use Rattle.scheme.proofs.Laws.Kinds.{within-is, sized}
+use Rattle.scheme.proofs.Laws.Kinds.{degree, within-is, sized}
 use Rattle.scheme.proofs.Laws.Step.{moving-inside}
 use Rattle.scheme.specs.Passing.{InstrumentPasses}
+use Rattle.steps.specs.Plan.{countOf}
 
 -- ---- edges
 
@@ -110,6 +111,12 @@ module _ (c r : ℕ) where
   line-rows : lineSize c r ≡ true → r ≡ 1
   line-rows s = second-equal (within 3 1024 c) r 1 s
 
+  two : r ≡ 1 → cond {A = ℕ} (eqb r 1) 2 4 ≡ 2
+  two e = ap (λ (t : Bool). cond {A = ℕ} t 2 4) (eq-eqb r 1 e)
+
+  four : 3 ≤ r → cond {A = ℕ} (eqb r 1) 2 4 ≡ 4
+  four h = ap (λ (t : Bool). cond {A = ℕ} t 2 4) (ne-eqb r 1 (λ e. omega arith))
+
   -- where a kind has more rows than one, no end is free, and each point at the edge is fixed
   grid-held : (K : Kind) (a : ℕ) → sizeIn K c r ≡ true → (r ≡ 1 → ⊥) → freeIn K c a ≡ false
   unfolding freeIn sizeIn
@@ -121,6 +128,18 @@ module _ (c r : ℕ) where
   grid-held membrane a s n = refl
   grid-held roundMembrane a s n = refl
   grid-held plate a s n = refl
+
+  -- "two neighbours, or four": by the rows, and by the kind
+  count-in : (K : Kind) → sizeIn K c r ≡ true → cond (eqb r 1) 2 4 ≡ degree K
+  unfolding sizeIn
+  count-in unknown s = absurd (true≢false (sym s))
+  count-in fixedString s = two (line-rows s)
+  count-in halfFreeString s = two (line-rows s)
+  count-in freeString s = two (line-rows s)
+  count-in bar s = two (line-rows s)
+  count-in membrane s = four (grid-rows s)
+  count-in roundMembrane s = four (round-rows s)
+  count-in plate s = four (grid-rows s)
 
   off-ring : (a b : ℕ) → outerRing c r a b ≡ false → (Edge c a → ⊥) × (Edge r b → ⊥)
   off-ring a b e = let u = or-neither (atEdge c a) (atEdge r b) e in (off-edge c a (u .0), off-edge r b (u .1))
@@ -157,9 +176,26 @@ moves-free g k m = not-true (fixed g k) (and-both (ltb k (points g)) (not (fixed
 pub line-long : (g : Grid) → g .rows ≡ 1 → points g ≡ g .columns
 line-long g e = ap (λ (n : ℕ). g .columns * n) e ∙ N.mul-one (g .columns)
 
+-- "two neighbours, or four"
+pub two-of : (g : Grid) → g .rows ≡ 1 → countOf g ≡ 2
+two-of g e = two (g .columns) (g .rows) e
+
+pub count-few : (g : Grid) → countOf g ≤ 4
+count-few g = go (eqb (g .rows) 1)
+  where
+    go : (t : Bool) → cond {A = ℕ} t 2 4 ≤ 4
+    go true = omega arith
+    go false = omega arith
+
+pub four-of : (g : Grid) → (g .rows ≡ 1 → ⊥) → countOf g ≡ 4
+four-of g n = ap (λ (t : Bool). cond {A = ℕ} t 2 4) (ne-eqb (g .rows) 1 n)
+
 module _ (g : Grid) (size : inTable g ≡ true) where
   pub wide : 3 ≤ g .columns
   wide = sized (kind g) (g .columns) (g .rows) size .columns-low
+
+  pub count-degree : countOf g ≡ degree (kind g)
+  count-degree = count-in (g .columns) (g .rows) (kind g) size
 
   pub plate-sized : kind g ≡ plate → (g .columns ≤ 64) × (3 ≤ g .rows)
   plate-sized e = plate-in (g .columns) (g .rows) (kind g) e size

@@ -1,7 +1,9 @@
 pub mod Held
 pub mod FillLaws
-pub mod PlanLaws
+pub mod RoundLaws
 pub mod KindLaws
+pub mod PlanLaws
+pub mod NumeratorLaws
 pub mod StretchLaws
 pub mod BesideLaws
 pub mod PointLaws

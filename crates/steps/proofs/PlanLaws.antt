@@ -1,49 +1,72 @@
 -- The factors of a plan are small; its grid has three columns or more, and 64 rows or less.
-use mathlib.Core.Path.{_≡_, sym, ap, _∙_, subst}
-use mathlib.Core.Bool.{true, false, not, true≢false, Bool·not-not}
-use Prim.Native.Nat.{ℕ, zero, suc, _^_, _≤_, zero-le}
+use mathlib.Core.Path.{_≡_, refl, sym, ap, _∙_, subst}
+use Prim.Native.Nat.{ℕ, _+_, _*_, _/_, _^_, _≤_, _<_}
+use native.Mathlib.Nat as N
 use native.Mathlib.Omega.{arith}
-use borrow.Author.Tests.{ltb-true, le-ltb}
-use lib.Dec.{ltb, leb·suc-suc}
-use lib.IntN.{ℤ, pos, negsuc, negℤ, natAbs, _-ℤ_, +ℤ-idl}
-use lib.Signed.{ltZ}
+use lib.IntN.{ℤ, pos, natAbs, _*ℤ_}
 use mir.Syntax.{w64}
 use mir.Val.{toZ, ofZ}
-use Rattle.integers.proofs.Size.{size-less}
-use Rattle.bounded.specs.Between.{Between}
-use Rattle.bounded.proofs.Num.{given, between}
+use Rattle.integers.proofs.Ring.{#_, _⊕_, _⊖_, _⊗_, _≈_, ring}
+use Rattle.integers.proofs.Order.{pos-inj}
+use Rattle.integers.proofs.Size.{size-mul, size-less}
+use Rattle.bounded.proofs.Num.{given}
 use Rattle.types.specs.Numbers.{D, ceiling}
-use Rattle.scheme.specs.Instruments.{beyond, kind, points}
-use Rattle.scheme.specs.Step.{roundAway, divisor}
-use Rattle.scheme.proofs.Laws.Kinds.{Sized, sized}
-use Rattle.scheme.proofs.Laws.Rounding.{round-limit}
+use Rattle.scheme.specs.Instruments.{kind, points}
+use Rattle.scheme.specs.Step.{divisor}
+use Rattle.scheme.proofs.Laws.Kinds.{degree-within, Sized, sized, stable-means}
 use Rattle.scheme.proofs.Laws.Ranges.{coefficients-small}
 use Rattle.steps.specs.declared.plan.Plan.{Plan}
-use Rattle.steps.specs.Plan.{Planned, limitOf}
-
--- ---- a number tested on either side of zero
-
-not-below : (n : ℤ) (L : ℕ) → ltZ n (pos L) ≡ false → ltb (natAbs n) L ≡ false
-not-below (pos m) L e = e
-not-below (negsuc m) L e = absurd (true≢false e)
-
-above-neg : (n : ℤ) (L : ℕ) → ltZ n (pos L) ≡ true → ltZ (negℤ (pos L)) n ≡ ltb (natAbs n) L
-above-neg (pos m) zero e = absurd (omega (arith, ltb-true m 0 e))
-above-neg (pos m) (suc L) e = sym e
-above-neg (negsuc m) zero e = sym (le-ltb (suc m) 0 zero-le)
-above-neg (negsuc m) (suc L) e = sym (leb·suc-suc (suc m) L)
-
-above-minus : (n : ℤ) (L : ℕ) → ltZ n (pos L) ≡ true → ltZ (pos 0 -ℤ pos L) n ≡ ltb (natAbs n) L
-above-minus n L e = ap (λ (z : ℤ). ltZ z n) (+ℤ-idl (negℤ (pos L))) ∙ above-neg n L e
-
--- ---- a plan
+use Rattle.steps.specs.Plan.{countOf, Planned}
+use Rattle.steps.proofs.KindLaws.{count-degree}
 
 module _ {p : Plan} (h : Planned p) where
-  low : (p .instrument .settings .q ≤ D) × (p .instrument .settings .m ≤ D) × (p .instrument .settings .s ≤ D)
+  abbrev q : ℕ
+  q = p .instrument .settings .q
+
+  abbrev m : ℕ
+  m = p .instrument .settings .m
+
+  abbrev c : ℕ
+  c = countOf (p .instrument .grid)
+
+  low : (q ≤ D) × (m ≤ D) × (p .instrument .settings .s ≤ D)
   low = coefficients-small (p .instrument .settings) (h .passes .coefficients)
 
-  pub q-low : natAbs (p .q) ≤ D
-  q-low = subst (λ (z : ℤ). natAbs z ≤ D) (sym (h .q-is)) (low .0)
+  -- "Stable means", by the neighbours: all that the factors of newer have to hold
+  stable : c * q + 2 * (c * c) * m ≤ 2 * D
+  stable = subst (λ (n : ℕ). n * q + 2 * (n * n) * m ≤ 2 * D) (sym (count-degree (p .instrument .grid) (h .passes .size)))
+      (stable-means (kind (p .instrument .grid)) q m (h .passes .stable))
+
+  pub own-low : natAbs (p .own) ≤ 2 * D
+  own-low = subst (λ (z : ℤ). natAbs z ≤ 2 * D)
+      (sym (h .own-is ∙ ring 3 (λ x y z. x ⊖ y ⊖ z ≈ x ⊖ (y ⊕ z)) refl (pos (2 * D)) (pos (c * q)) (pos (c * c * m))))
+      (size-less (2 * D) (c * q + c * c * m) (omega (arith, stable, N.mul-assoc 2 (c * c) m)))
+
+  pub few : (1 ≤ c) × (c ≤ 4)
+  few = subst (λ (n : ℕ). (1 ≤ n) × (n ≤ 4)) (sym (count-degree (p .instrument .grid) (h .passes .size)))
+      (degree-within (kind (p .instrument .grid)))
+
+  near-stable : (q + 2 * c * m) * c ≤ 2 * D
+  near-stable = omega (arith, stable, e)
+    where
+      e : (q + 2 * c * m) * c ≡ c * q + 2 * (c * c) * m
+      e = pos-inj (ring 3 (λ q c m. (q ⊕ # 2 ⊗ c ⊗ m) ⊗ c ≈ c ⊗ q ⊕ # 2 ⊗ (c ⊗ c) ⊗ m) refl (pos q) (pos c) (pos m))
+
+  pub near-low : natAbs (p .near) ≤ 2 * D
+  near-low = subst (λ (z : ℤ). natAbs z ≤ 2 * D) (sym (h .near-is))
+      (omega (arith, near-stable, N.mul-le-mul-left (q + 2 * c * m) (few .0), N.mul-one (q + 2 * c * m)))
+
+  -- a factor n times a number of at most k·C, where n·k is at most B
+  part : {z : ℤ} (n k B : ℕ) → z ≡ pos n → n * k ≤ B → (x : ℤ) → natAbs x ≤ k * ceiling → natAbs (z *ℤ x) ≤ B * ceiling
+  part {z} n k B e b x l =
+      subst (λ (z : ℤ). natAbs (z *ℤ x) ≤ B * ceiling) (sym e)
+      (omega (arith, size-mul (pos n) x, N.mul-le-mul-left n l, N.mul-assoc n k ceiling, N.mul-le-mul-right ceiling b))
+
+  pub near-part : (sum : ℤ) → natAbs sum ≤ c * ceiling → natAbs (p .near *ℤ sum) ≤ 2 * D * ceiling
+  near-part = part (q + 2 * c * m) c (2 * D) (h .near-is) near-stable
+
+  pub stiff-part : (second : ℤ) → natAbs second ≤ c * c * ceiling → natAbs (p .m *ℤ second) ≤ D * ceiling
+  stiff-part = part m (c * c) D (h .m-is) (omega (arith, stable, N.mul-assoc 2 (c * c) m, N.mul-comm m (c * c)))
 
   pub m-low : natAbs (p .m) ≤ D
   m-low = subst (λ (z : ℤ). natAbs z ≤ D) (sym (h .m-is)) (low .1)
@@ -58,9 +81,21 @@ module _ {p : Plan} (h : Planned p) where
   pub kept-low : natAbs (p .kept) ≤ D
   kept-low = subst (λ (z : ℤ). natAbs z ≤ D) (sym (h .kept-is)) (size-less D (p .instrument .settings .s) (low .2))
 
-  pub divisor-between : Between 1 (2 ^ 31) (p .divisor)
-  divisor-between = subst (Between 1 (2 ^ 31)) (sym (h .divisor-is))
-      (between (divisor (p .instrument .settings)) (omega arith) (omega (arith, low .2)))
+  -- ---- the divisor, and half of it
+
+  abbrev d : ℕ
+  d = divisor (p .instrument .settings)
+
+  pub divisor-some : 0 < d
+  divisor-some = omega arith
+
+  pub half-small : d / 2 ≤ 2 ^ 16
+  half-small = omega (arith, low .2)
+
+  pub half-low : natAbs (p .half) ≤ 2 ^ 16
+  half-low = subst (λ (z : ℤ). natAbs z ≤ 2 ^ 16) (sym (h .half-is)) half-small
+
+  -- ---- the grid
 
   size : Sized (p .instrument .grid .columns) (p .instrument .grid .rows)
   size = sized (kind (p .instrument .grid)) (p .instrument .grid .columns) (p .instrument .grid .rows) (h .passes .size)
@@ -73,23 +108,3 @@ module _ {p : Plan} (h : Planned p) where
 
   pub few-rows : p .instrument .grid .rows ≤ 64
   few-rows = size .rows-high
-
-  -- ---- the limit of a numerator
-
-  abbrev d : ℕ
-  d = divisor (p .instrument .settings)
-
-  pub limit-low : natAbs (p .limit) ≤ 2 ^ 61
-  limit-low = subst (λ (z : ℤ). natAbs z ≤ 2 ^ 61) (sym (h .limit-is)) (omega (arith, low .2))
-
-  -- beyond the ceiling, by the size of the numerator
-  beyond-limit : (n : ℤ) → not (beyond (roundAway n d)) ≡ ltb (natAbs n) (limitOf d)
-  beyond-limit n = ap not (round-limit n d ceiling (omega arith)) ∙ Bool·not-not (ltb (natAbs n) (limitOf d))
-
-  pub within-limit : (n : ℤ) → ltZ n (p .limit) ≡ true → ltZ (pos 0 -ℤ p .limit) n ≡ not (beyond (roundAway n d))
-  within-limit n e =
-      ap (λ (z : ℤ). ltZ (pos 0 -ℤ z) n) (h .limit-is) ∙
-      above-minus n (limitOf d) (ap (ltZ n) (sym (h .limit-is)) ∙ e) ∙ sym (beyond-limit n)
-
-  pub not-within : (n : ℤ) → ltZ n (p .limit) ≡ false → false ≡ not (beyond (roundAway n d))
-  not-within n e = sym (beyond-limit n ∙ not-below n (limitOf d) (ap (ltZ n) (sym (h .limit-is)) ∙ e))

@@ -1,230 +1,204 @@
--- Rows of L of a plate: how they are put, kept and turned, and L of L by five values of L.
+-- The sums of neighbours of a plate's rows: how they are put, read and kept.
 use mathlib.Core.Path.{_≡_, refl, sym, ap, _∙_, subst}
-use mathlib.Core.Bool.{true, false}
+use mathlib.Core.Bool.{Bool, true, false, cond, not}
 use mathlib.Core.List.{List}
 use mathlib.Core.Logic.{_⊎_, inl, inr}
 use Prim.Native.Nat.{ℕ, _+_, _-_, _*_, _≤_, _<_, zero-le}
 use native.Mathlib.Nat as N
-use native.Mathlib.Decide.{decLt}
+use native.Mathlib.Decide.{decLt, ℕ-discrete}
 use native.Mathlib.Omega.{arith}
-use lib.IntN.{ℤ, pos, natAbs, _+ℤ_, _-ℤ_, _*ℤ_}
-use lib.ListN.{length, set}
+use lib.IntN.{ℤ, pos, natAbs, _+ℤ_}
+use lib.ListN.{length, set, length-set}
+use lib.Seq.{getD-set-same, getD-set-other}
 use Rattle.integers.specs.Sum.{sumOver}
-use Rattle.integers.proofs.Ring.{#_, _⊕_, _⊖_, _⊗_, _≈_, ring}
-use Rattle.bounded.proofs.Expr.{E, at, num, _⊞_, _⊟_, _⊠_, size}
 use Rattle.types.specs.declared.Grid.{Grid}
 use Rattle.types.specs.declared.Instrument.{Instrument}
 use Rattle.types.specs.Numbers.{ceiling}
 use Rattle.scheme.specs.Lists.{point}
-use Rattle.scheme.specs.Instruments.{kind, moving}
-use Rattle.scheme.specs.Step.{innerLaplacian, biharmonic}
-use Rattle.scheme.specs.Passing.{InstrumentPasses}
+use Rattle.scheme.specs.Instruments.{inTable, moving}
+use Rattle.scheme.specs.Step.{neighbours}
 use Rattle.scheme.specs.Ranges.{AtMost}
-use Rattle.scheme.proofs.Laws.Kinds.{degree, degree-within}
-use Rattle.scheme.proofs.Laws.Ranges.{inner-size}
-use Rattle.scheme.proofs.Laws.Step.{moving-inside, inner-moving, inner-still}
-use Rattle.steps.specs.declared.plates.LaplacianRows.{LaplacianRows}
-use Rattle.steps.specs.Plan.{Neighbouring}
-use Rattle.steps.specs.Run.{Filled, Moves, fourBeside, gridLaplacian}
-use Rattle.steps.specs.Plates.{rowOf, OfPlate, LaplacianRow, ThreeRows, InRow, Readable, bendingAt}
-use Rattle.steps.proofs.KindLaws.{plate-sized}
-use Rattle.steps.proofs.BesideLaws.{sum-four, around-neighbours, around-laplacian}
+use Rattle.steps.specs.declared.plan.Plan.{Plan}
+use Rattle.steps.specs.declared.plates.SumRows.{SumRows}
+use Rattle.steps.specs.Plan.{innerSum, Ready, Neighbouring}
+use Rattle.steps.specs.Run.{Filled, Moves, fourBeside}
+use Rattle.steps.specs.Plates.{SumRow, TwoRows, InRow, Readable, secondAt}
+use Rattle.steps.proofs.KindLaws.{count-few}
+use Rattle.steps.proofs.BesideLaws.{sum-four, around-neighbours}
+use Rattle.steps.proofs.PointLaws.{inner-low}
 use Rattle.steps.proofs.FillLaws.{filled-none, filled-one, filled-append}
 
 -- ---- a loop that puts values: those of the places from..at are put
 
-pub record Putting (v : ℕ → ℤ) (laps₀ : List ℤ) (from to : ℕ) (laps : List ℤ) (at : ℕ) : Type 0 where
-  pub filled : Filled v true 0 laps₀ laps from at
+pub record Putting (v : ℕ → ℤ) (sums₀ : List ℤ) (from to : ℕ) (sums : List ℤ) (at : ℕ) : Type 0 where
+  pub filled : Filled v true 0 sums₀ sums from at
   pub order : from ≤ at
   pub upto : at ≤ to
 
 module _ {v : ℕ → ℤ} where
-  pub putting-start : (laps : List ℤ) (from to : ℕ) → from ≤ to → Putting v laps from to laps from
-  putting-start laps from to h = record { filled = filled-none v true 0 laps from; order = omega arith; upto = h }
+  pub putting-start : (sums : List ℤ) (from to : ℕ) → from ≤ to → Putting v sums from to sums from
+  putting-start sums from to h = record { filled = filled-none v true 0 sums from; order = omega arith; upto = h }
 
-  pub putting-on : {laps₀ laps : List ℤ} {from to at next : ℕ} → Putting v laps₀ from to laps at → next ≡ at + 1 → at < to
-      → to ≤ length laps₀ → (x : ℤ) → x ≡ v at → Putting v laps₀ from to (set laps at x) next
-  putting-on {laps₀} {laps} {from} {to} {at} {next} p more h room x e = record {
+  pub putting-on : {sums₀ sums : List ℤ} {from to at next : ℕ} → Putting v sums₀ from to sums at → next ≡ at + 1 → at < to
+      → to ≤ length sums₀ → (x : ℤ) → x ≡ v at → Putting v sums₀ from to (set sums at x) next
+  putting-on {sums₀} {sums} {from} {to} {at} {next} p more h room x e = record {
     filled = filled-append v true 0 zero-le (p .order) (omega arith) (p .filled)
-        (coe 0 1 (j. Filled v true 0 laps (set laps (N.sub-zero at j) x) at (sym more j))
-        (filled-one v true 0 laps at x refl zero-le (omega (arith, p .filled .long)) e));
+        (coe 0 1 (j. Filled v true 0 sums (set sums (N.sub-zero at j) x) at (sym more j))
+        (filled-one v true 0 sums at x refl zero-le (omega (arith, p .filled .long)) e));
     order = omega (arith, p .order);
     upto = omega arith;
   }
 
-  pub putting-done : {laps₀ laps : List ℤ} {from to at : ℕ} → Putting v laps₀ from to laps at → to ≤ at → Filled v true 0 laps₀ laps from to
-  putting-done {laps₀} {laps} {from} {to} p h = subst (Filled v true 0 laps₀ laps from) (omega (arith, p .upto)) (p .filled)
-
--- the same values by other words
-pub filled-as : {v w : ℕ → ℤ} {laps₀ laps : List ℤ} {from to : ℕ} → ((j : ℕ) → from ≤ j → j < to → v j ≡ w j)
-    → Filled v true 0 laps₀ laps from to → Filled w true 0 laps₀ laps from to
-filled-as same f = record { long = f .long; written = λ t k a b. f .written t k a b ∙ same k a b; kept = f .kept }
-
--- ---- a row of L
-
--- a plate has more rows than one
-pub plate-grid : {g : Grid} {xs : List ℤ} → OfPlate g xs → g .rows ≡ 1 → ⊥
-plate-grid {g} p e = omega (arith, plate-sized g (p .size) (p .is-plate))
-
-module _ (g : Grid) (xs : List ℤ) where
-  -- no value of it is large
-  pub row-low : OfPlate g xs → (start place j : ℕ) → natAbs (rowOf g xs start place j) ≤ 8 * ceiling
-  row-low p start place j =
-      let K = degree (kind g) in
-      let few : 2 * K ≤ 8 = omega (arith, degree-within (kind g) .1) in
-      N.le-trans (inner-size g (p .size) ceiling (point xs) (p .low) (start + (j - place))) (N.mul-le-mul-right ceiling few)
-
-  -- a row of the ring
-  pub ring-row : (start place : ℕ) → ((k : ℕ) → start ≤ k → k < start + g .columns → moving g k ≡ false) → (j : ℕ) → place ≤ j
-      → j < place + g .columns → pos 0 ≡ rowOf g xs start place j
-  ring-row start place still j a b = sym (inner-still g (point xs) (start + (j - place)) (still (start + (j - place)) (omega arith) (omega arith)))
-
-  -- another row: 0 at its ends, L between them
-  module _ (p : OfPlate g xs) (start place last : ℕ) (last-is : last ≡ g .columns - 1) (some : 3 ≤ g .columns)
-      (moves : Moves g (start + 1) (start + (g .columns - 1))) (left : moving g start ≡ false)
-      (right : moving g (start + (g .columns - 1)) ≡ false) where
-    v : ℕ → ℤ
-    v = rowOf g xs start place
-
-    end-zero : (j k : ℕ) → start + (j - place) ≡ k → moving g k ≡ false → pos 0 ≡ v j
-    unfolding v
-    end-zero j k e m = sym (ap (innerLaplacian g (point xs)) e ∙ inner-still g (point xs) k m)
-
-    between : (j : ℕ) → place + 1 ≤ j → j < place + last → gridLaplacian xs (g .columns) (start + (j - place)) ≡ v j
-    unfolding v
-    between j a b =
-        let k = start + (j - place) in
-        let m : moving g k ≡ true = moves .each k (omega arith) (omega arith) in
-        sym (inner-moving g (point xs) k m ∙ around-laplacian g (p .size) (plate-grid p) k m (point xs))
-
-    pub inner-row : {laps laps′ : List ℤ} → place + g .columns ≤ length laps
-        → Filled (λ j. gridLaplacian xs (g .columns) (start + (j - place))) true 0 (set laps place (pos 0)) laps′ (place + 1) (place + last)
-        → Filled (rowOf g xs start place) true 0 laps (set laps′ (place + last) (pos 0)) place (place + g .columns)
-    unfolding v
-    inner-row {laps} {laps′} room f =
-        let first : Putting v laps place (place + g .columns) (set laps place (pos 0)) (place + 1) =
-        putting-on (putting-start laps place (place + g .columns) (omega arith)) refl (omega arith) room (pos 0)
-        (end-zero place start (omega arith) left) in
-        let rest : Putting v laps place (place + g .columns) laps′ (place + last) = record {
-          filled = filled-append v true 0 zero-le (omega arith) (omega arith) (first .filled) (filled-as between f);
-          order = omega arith;
-          upto = omega arith;
-        } in
-        putting-done
-        (putting-on rest refl (omega arith) room (pos 0) (end-zero (place + last) (start + (g .columns - 1)) (omega arith) right))
-        (omega arith)
-
--- ---- rows that stand
-
-module _ {g : Grid} {newer laps₀ laps : List ℤ} {start place : ℕ} where
-  -- the one that was put
-  pub row-put : Filled (rowOf g newer start place) true 0 laps₀ laps place (place + g .columns) → place + g .columns ≤ length laps₀
-      → LaplacianRow g newer laps start place
-  row-put f room = record {
-    room = omega (arith, f .long);
-    each = λ c h. ap (point laps) (sym (N.sub-zero (place + c))) ∙ f .written refl (place + c) (omega arith) (omega arith)
-        ∙ ap (λ (n : ℕ). innerLaplacian g (point newer) (start + n)) (omega arith);
-  }
-
-  -- another one
-  pub row-kept : {v : ℕ → ℤ} {other : ℕ} → Filled v true 0 laps₀ laps other (other + g .columns)
-      → ((c : ℕ) → c < g .columns → (place + c < other) ⊎ (other + g .columns ≤ place + c)) → LaplacianRow g newer laps₀ start place
-      → LaplacianRow g newer laps start place
-  row-kept {other = other} f apart r = record {
-    room = omega (arith, f .long, r .room);
-    each = λ c h. f .kept (place + c) (inr (go c (apart c h))) ∙ r .each c h;
-  }
-    where
-      go : (c : ℕ) → (place + c < other) ⊎ (other + g .columns ≤ place + c) → (place + c + 0 < other) ⊎ (other + g .columns ≤ place + c + 0)
-      go c (inl h) = inl (omega arith)
-      go c (inr h) = inr (omega arith)
+  pub putting-done : {sums₀ sums : List ℤ} {from to at : ℕ} → Putting v sums₀ from to sums at → to ≤ at → Filled v true 0 sums₀ sums from to
+  putting-done {sums₀} {sums} {from} {to} p h = subst (Filled v true 0 sums₀ sums from) (omega (arith, p .upto)) (p .filled)
 
 -- what is put among small values leaves them small
-pub put-low : {B : ℕ} {v : ℕ → ℤ} {laps₀ laps : List ℤ} {from to : ℕ} → Filled v true 0 laps₀ laps from to → ((j : ℕ) → natAbs (v j) ≤ B)
-    → AtMost B (point laps₀) → AtMost B (point laps)
-put-low {B} {v} {laps₀} {laps} {from} {to} f small low j = go (decLt j from) (decLt j to)
+pub put-low : {B : ℕ} {v : ℕ → ℤ} {sums₀ sums : List ℤ} {from to : ℕ} → Filled v true 0 sums₀ sums from to
+    → ((j : ℕ) → from ≤ j → j < to → natAbs (v j) ≤ B) → AtMost B (point sums₀) → AtMost B (point sums)
+put-low {B} {v} {sums₀} {sums} {from} {to} f small low j = go (decLt j from) (decLt j to)
   where
-    as-was : (j + 0 < from) ⊎ (to ≤ j + 0) → natAbs (point laps j) ≤ B
+    as-was : (j + 0 < from) ⊎ (to ≤ j + 0) → natAbs (point sums j) ≤ B
     as-was o = subst (λ (z : ℤ). natAbs z ≤ B) (sym (f .kept j (inr o))) (low j)
 
-    go : Dec (j < from) → Dec (j < to) → natAbs (point laps j) ≤ B
+    go : Dec (j < from) → Dec (j < to) → natAbs (point sums j) ≤ B
     go (yes a) b = as-was (inl (omega arith))
     go (no a) (no b) = as-was (inr (omega (arith, b)))
     go (no a) (yes b) = subst (λ (z : ℤ). natAbs z ≤ B)
-        (sym (ap (point laps) (sym (N.sub-zero j)) ∙ f .written refl j (omega (arith, a)) b)) (small j)
+        (sym (ap (point sums) (sym (N.sub-zero j)) ∙ f .written refl j (omega (arith, a)) b)) (small j (omega (arith, a)) b)
 
--- ---- L of L
+-- ---- sums of the neighbour rule
 
--- some points of a row
-pub some-row : {g : Grid} {start from to a b : ℕ} → InRow g start from to → from ≤ a → Moves g a b → b ≤ to → InRow g start a b
-some-row w l m h = record { grid = w .grid; moves = m; first = omega (arith, w .first); last = omega (arith, w .last) }
+module _ (g : Grid) (a : ℕ → ℤ) where
+  pub sum-still : (k : ℕ) → moving g k ≡ false → innerSum g a k ≡ pos 0
+  unfolding innerSum
+  sum-still k e = ap (λ (t : Bool). cond t (sumOver (neighbours g k) a) (pos 0)) e
 
--- a value of L, as the machine reads it
-abbrev pub lap# : (laps : List ℤ) → AtMost (8 * ceiling) (point laps) → ℕ → E
-lap# laps low j = at (point laps j) (8 * ceiling) (low j)
+  -- of a moving point of a grid
+  pub sum-around : inTable g ≡ true → (g .rows ≡ 1 → ⊥) → (k : ℕ) → moving g k ≡ true
+      → a (k - 1) +ℤ a (k + 1) +ℤ a (k - g .columns) +ℤ a (k + g .columns) ≡ innerSum g a k
+  unfolding innerSum
+  sum-around size grid k mk =
+      sum-four a (k - 1) (k + 1) (k - g .columns) (k + g .columns) ∙
+      ap (λ (js : List ℕ). sumOver js a) (sym (around-neighbours g size grid k mk)) ∙
+      ap (λ (t : Bool). cond t (sumOver (neighbours g k) a) (pos 0)) (sym mk)
 
-module _ (i : Instrument) (ok : InstrumentPasses i) {newer laps : List ℤ} {r : LaplacianRows} {from to : ℕ}
-    (t : ThreeRows (i .grid) newer laps r) (w : InRow (i .grid) (r .start) from to) (k : ℕ) (first : from ≤ k) (last : k < to) where
+-- ---- points of a row
+
+-- some of them
+pub some-row : {g : Grid} {r : SumRows} {from to a b : ℕ} → InRow g r from to → from ≤ a → Moves g a b → b ≤ to → InRow g r a b
+some-row w l m h = record {
+  grid = w .grid;
+  moves = m;
+  first = omega (arith, w .first);
+  last = omega (arith, w .last);
+  below = λ k a b. w .below k (omega arith) (omega arith);
+}
+
+module _ {p : Plan} {f : ℤ} {older newer : List ℤ} (r : Ready p f older newer) where
+  abbrev i : Instrument
+  i = p .instrument
+
   abbrev g : Grid
   g = i .grid
 
-  abbrev c : ℕ
-  c = k - r .start
+  size : inTable g ≡ true
+  size = r .planned .passes .size
 
-  abbrev L : ℕ → ℤ
-  L = innerLaplacian g (point newer)
+  abbrev S : ℕ → ℤ
+  S = innerSum g (point newer)
 
-  mk : moving g k ≡ true
-  mk = w .moves .each k first last
+  -- no sum is large
+  pub sum-low : (k : ℕ) → natAbs (S k) ≤ 4 * ceiling
+  sum-low k = N.le-trans (inner-low g size (point newer) (r .newer-still) ceiling (r .newer-low) k) (N.mul-le-mul-right ceiling (count-few g))
 
-  -- where it is read
-  pub readable : Readable laps r c
-  readable = record {
-    some = omega (arith, w .first);
-    above = omega (arith, t .above .room, w .first, w .last);
-    here = omega (arith, t .here .room, w .first, w .last);
-    below = omega (arith, t .below .room, w .first, w .last);
-    low = t .low;
-  }
+  module _ {sums : List ℤ} {rows : SumRows} {from to at : ℕ} (t : TwoRows g newer sums rows at) (w : InRow g rows from to)
+      (first : from ≤ at) (last : at < to) where
+    abbrev c : ℕ
+    c = at - rows .start
 
-  -- a value of L that stands in a row
-  stands : {start place : ℕ} → LaplacianRow g newer laps start place → (j x y : ℕ) → place + x ≡ y → start + x ≡ j → x < g .columns
-      → point laps y ≡ L j
-  stands row j x y p e h = ap (point laps) (sym p) ∙ row .each x h ∙ ap L e
+    mk : moving g at ≡ true
+    mk = w .moves .each at first last
 
-  here-is : point laps (r .here + c) ≡ L k
-  here-is = stands (t .here) k c (r .here + c) refl (omega (arith, w .first)) (omega (arith, w .first, w .last))
+    -- the sum below it
+    abbrev pub below : ℤ
+    below = cond (rows .last) (pos 0) (fourBeside newer (g .columns) (at + g .columns))
 
-  bending-is : bendingAt laps r c ≡ biharmonic g (point newer) k
-  bending-is =
-      let left = stands (t .here) (k - 1) (c - 1) (r .here + c - 1) (omega (arith, w .first)) (omega (arith, w .first))
-      (omega (arith, w .first, w .last)) in
-      let right = stands (t .here) (k + 1) (c + 1) (r .here + c + 1) (omega arith) (omega (arith, w .first))
-      (omega (arith, w .first, w .last)) in
-      let above = stands (t .above) (k - g .columns) c (r .above + c) refl (omega (arith, w .first, t .high))
-      (omega (arith, w .first, w .last)) in
-      let below = stands (t .below) (k + g .columns) c (r .below + c) refl (omega (arith, w .first)) (omega (arith, w .first, w .last)) in
-      (λ j. left j +ℤ right j +ℤ above j +ℤ below j -ℤ pos 4 *ℤ here-is j) ∙
-      sym (around-laplacian g (ok .size) (w .grid) k mk L)
+    pub below-is : below ≡ S (at + g .columns)
+    below-is = go (rows .last) (w .below at first last)
+      where
+        go : (l : Bool) → moving g (at + g .columns) ≡ not l → cond l (pos 0) (fourBeside newer (g .columns) (at + g .columns)) ≡ S (at + g .columns)
+        go true e = sym (sum-still g (point newer) (at + g .columns) e)
+        go false e = sum-around g (point newer) size (w .grid) (at + g .columns) e
 
-  abbrev at# : ℕ → E
-  at# = lap# laps (t .low)
+    pub below-low : natAbs below ≤ 4 * ceiling
+    below-low = subst (λ (z : ℤ). natAbs z ≤ 4 * ceiling) (sym below-is) (sum-low (at + g .columns))
 
-  -- the sum of the neighbours is L and four times the point
-  sum-is : point laps (r .here + c) +ℤ pos 4 *ℤ point newer k ≡ fourBeside newer (g .columns) k
-  sum-is =
-      ap (λ (z : ℤ). z +ℤ pos 4 *ℤ point newer k)
-      (here-is ∙ inner-moving g (point newer) k mk ∙ around-laplacian g (ok .size) (w .grid) k mk (point newer)) ∙
-      ring 2 (λ x y. x ⊖ # 4 ⊗ y ⊕ # 4 ⊗ y ≈ x) refl (fourBeside newer (g .columns) k) (point newer k)
+    -- where the others are read
+    pub readable : Readable sums rows c below
+    readable = record {
+      some = omega (arith, w .first);
+      here = omega (arith, t .here .room, w .first, w .last);
+      other = omega (arith, t .room, w .first, w .last);
+      low = t .low;
+      below-low = below-low;
+    }
 
-  pub plate-beside : Neighbouring i newer k (point laps (r .here + c) +ℤ pos 4 *ℤ point newer k) (pos 4) (bendingAt laps r c)
-  plate-beside =
-      let e = around-neighbours g (ok .size) (w .grid) k mk in
-      record {
-        inside = moving-inside g k mk;
-        sum-is = sum-is ∙ sum-four (point newer) (k - 1) (k + 1) (k - g .columns) (k + g .columns)
-            ∙ ap (λ (js : List ℕ). sumOver js (point newer)) (sym e);
-        count-is = ap (λ (js : List ℕ). pos (length js)) (sym e);
-        b-low = size (at# (r .here + c - 1) ⊞ at# (r .here + c + 1) ⊞ at# (r .above + c) ⊞ at# (r .below + c) ⊟ num 4 ⊠ at# (r .here + c)) tt;
-        stiff = ap (λ (z : ℤ). pos (i .settings .m) *ℤ z) bending-is;
-      }
+    -- one that stands in the row
+    stands : (j x y : ℕ) → rows .here + x ≡ y → rows .start + x ≡ j → x < g .columns → point sums y ≡ S j
+    stands j x y e f h = ap (point sums) (sym e) ∙ t .here .each x h ∙ ap S f
+
+    here-is : point sums (rows .here + c) ≡ S at
+    here-is = stands at c (rows .here + c) refl (omega (arith, w .first)) (omega (arith, w .first, w .last))
+
+    second-is : secondAt sums rows c below ≡ sumOver (neighbours g at) S
+    second-is =
+        let left = stands (at - 1) (c - 1) (rows .here + c - 1) (omega (arith, w .first)) (omega (arith, w .first))
+        (omega (arith, w .first, w .last)) in
+        let right = stands (at + 1) (c + 1) (rows .here + c + 1) (omega arith) (omega (arith, w .first)) (omega (arith, w .first, w .last)) in
+        let above : point sums (rows .other + c) ≡ S (at - g .columns) =
+        t .above c (omega (arith, w .first)) (omega (arith, w .first, w .last)) ∙ ap S (omega (arith, w .first, t .high)) in
+        (λ j. left j +ℤ right j +ℤ above j +ℤ below-is j) ∙ sum-four S (at - 1) (at + 1) (at - g .columns) (at + g .columns) ∙
+        ap (λ (js : List ℕ). sumOver js S) (sym (around-neighbours g size (w .grid) at mk))
+
+    pub plate-beside : Neighbouring i newer at (point sums (rows .here + c)) (secondAt sums rows c below)
+    plate-beside = record {
+      moves = mk;
+      sum-is = here-is ∙ sym (sum-around g (point newer) size (w .grid) at mk) ∙
+          sum-four (point newer) (at - 1) (at + 1) (at - g .columns) (at + g .columns) ∙
+          ap (λ (js : List ℕ). sumOver js (point newer)) (sym (around-neighbours g size (w .grid) at mk));
+      second-is = inr second-is;
+    }
+
+    -- once the sum below stands for the one above
+    pub two-next : TwoRows g newer (set sums (rows .other + c) below) rows (at + 1)
+    two-next = record {
+      high = t .high;
+      here = record { room = simp length-set (t .here .room); each = λ x h. other-place (rows .here + x) (here-apart x h (t .apart)) ∙ t .here .each x h };
+      room = simp length-set (t .room);
+      apart = t .apart;
+      above = λ x a h. other-place (rows .other + x) (λ e. omega arith) ∙ t .above x (omega arith) h;
+      below = λ x a. by-column x a (ℕ-discrete x c);
+      low = λ j. by-place j (ℕ-discrete j (rows .other + c));
+    }
+      where
+        other-place : (j : ℕ) → (j ≡ rows .other + c → ⊥) → point (set sums (rows .other + c) below) j ≡ point sums j
+        other-place j n = getD-set-other sums (rows .other + c) j below (pos 0) n
+
+        this-place : point (set sums (rows .other + c) below) (rows .other + c) ≡ below
+        this-place = getD-set-same sums (rows .other + c) below (pos 0) (readable .other)
+
+        here-apart : (x : ℕ) → x < g .columns → (rows .here + g .columns ≤ rows .other) ⊎ (rows .other + g .columns ≤ rows .here)
+            → rows .here + x ≡ rows .other + c → ⊥
+        here-apart x h (inl o) e = omega arith
+        here-apart x h (inr o) e = omega (arith, w .first, w .last)
+
+        by-column : (x : ℕ) → rows .start + x < at + 1 → Dec (x ≡ c)
+            → point (set sums (rows .other + c) below) (rows .other + x) ≡ S (rows .start + g .columns + x)
+        by-column x a (yes e) =
+            ap (λ (y : ℕ). point (set sums (rows .other + c) below) (rows .other + y)) e ∙ this-place ∙ below-is ∙ ap S (omega (arith, w .first))
+        by-column x a (no n) = other-place (rows .other + x) (λ e. n (omega arith)) ∙ t .below x (omega (arith, n))
+
+        by-place : (j : ℕ) → Dec (j ≡ rows .other + c) → natAbs (point (set sums (rows .other + c) below) j) ≤ 4 * ceiling
+        by-place j (yes e) = subst (λ (z : ℤ). natAbs z ≤ 4 * ceiling)
+            (sym (ap (point (set sums (rows .other + c) below)) e ∙ this-place)) below-low
+        by-place j (no n) = subst (λ (z : ℤ). natAbs z ≤ 4 * ceiling) (sym (other-place j n)) (t .low j)

@@ -1,73 +1,164 @@
--- What a point's numerator is made of, and that its value is the scheme's.
-use mathlib.Core.Path.{_≡_, sym, ap₂, subst}
+-- What a point's numerator is made of, and that its value is the scheme's: L and L of L by sums of neighbours.
+use mathlib.Core.Path.{_≡_, refl, sym, ap, _∙_, subst}
+use mathlib.Core.Bool.{Bool, true, false, cond}
 use mathlib.Core.List.{List}
-use Prim.Native.Nat.{ℕ, _+_, _*_, _≤_}
+use mathlib.Core.Logic.{_⊎_, inl, inr}
+use Prim.Native.Nat.{ℕ, _+_, _*_, _≤_, zero-le}
 use native.Mathlib.Nat as N
 use native.Mathlib.Omega.{arith}
-use lib.IntN.{ℤ, pos, natAbs, _+ℤ_, _-ℤ_, _*ℤ_}
+use lib.IntN.{ℤ, pos, natAbs, _+ℤ_, _-ℤ_, _*ℤ_, zero-*ℤ}
 use lib.ListN.{length}
+use Rattle.integers.specs.Sum.{sumOver}
+use Rattle.integers.proofs.Ring.{#_, _⊕_, _⊖_, _⊗_, _≈_, ring}
 use Rattle.integers.proofs.Size.{size-over}
+use Rattle.integers.proofs.Sum.{over-ext, over-add, over-scale}
 use Rattle.types.specs.declared.Settings.{Settings}
+use Rattle.types.specs.declared.Grid.{Grid}
 use Rattle.types.specs.declared.Instrument.{Instrument}
 use Rattle.types.specs.Numbers.{D, ceiling}
 use Rattle.scheme.specs.Lists.{point}
-use Rattle.scheme.specs.Instruments.{kind}
-use Rattle.scheme.specs.Step.{neighbours, laplacian, biharmonic, numeratorOf, numerator, roundAway, divisor}
-use Rattle.scheme.proofs.Laws.Kinds.{degree-within}
-use Rattle.scheme.specs.Ranges.{Terms}
-use Rattle.scheme.proofs.Laws.Ranges.{neighbour-count, numerator-terms}
+use Rattle.scheme.specs.Instruments.{inTable, moving}
+use Rattle.scheme.specs.Step.{neighbours, laplacian, innerLaplacian, biharmonic, numeratorOf, numerator, roundAway, divisor}
 use Rattle.steps.specs.declared.plan.Plan.{Plan}
-use Rattle.steps.specs.Plan.{Updatable, Ready, Neighbouring}
+use Rattle.steps.specs.Plan.{countOf, innerSum, bendingOf, Updatable, Ready, Neighbouring}
 use Rattle.steps.specs.Run.{valueAt}
+use Rattle.steps.proofs.PlanLaws.{few, near-part, stiff-part}
+use Rattle.steps.proofs.BesideLaws.{count-is}
 
-module _ {p : Plan} {f : ℤ} {older newer : List ℤ} {k : ℕ} {sum count b : ℤ} (r : Ready p f older newer)
-    (n : Neighbouring (p .instrument) newer k sum count b) where
+-- ---- L and L of L by sums, of a level that is 0 where nothing moves
+
+module _ (g : Grid) (size : inTable g ≡ true) (a : ℕ → ℤ) (still : (k : ℕ) → moving g k ≡ false → a k ≡ pos 0) where
+  abbrev c : ℤ
+  c = pos (countOf g)
+
+  abbrev S : ℕ → ℤ
+  S = innerSum g a
+
+  abbrev L : ℕ → ℤ
+  L = innerLaplacian g a
+
+  by-sum : (k : ℕ) → moving g k ≡ true → laplacian g a k ≡ sumOver (neighbours g k) a -ℤ c *ℤ a k
+  unfolding laplacian
+  by-sum k mk = ap (λ (n : ℕ). sumOver (neighbours g k) a -ℤ pos n *ℤ a k) (count-is g size k mk)
+
+  inner-sum : (k : ℕ) → moving g k ≡ true → S k ≡ sumOver (neighbours g k) a
+  unfolding innerSum
+  inner-sum k mk = ap (λ (t : Bool). cond t (sumOver (neighbours g k) a) (pos 0)) mk
+
+  -- "L counts as 0" where nothing moves, and so do the sum and the point
+  inner-by-sum : (k : ℕ) → L k ≡ S k +ℤ (pos 0 -ℤ c) *ℤ a k
+  unfolding innerLaplacian innerSum
+  inner-by-sum k = go (moving g k) refl
+    where
+      go : (t : Bool) → moving g k ≡ t
+          → cond (moving g k) (laplacian g a k) (pos 0) ≡ cond (moving g k) (sumOver (neighbours g k) a) (pos 0) +ℤ (pos 0 -ℤ c) *ℤ a k
+      go true e =
+          ap (λ (t : Bool). cond t (laplacian g a k) (pos 0)) e ∙ by-sum k e ∙
+          ring 3 (λ x c y. x ⊖ c ⊗ y ≈ x ⊕ (# 0 ⊖ c) ⊗ y) refl (sumOver (neighbours g k) a) c (a k) ∙
+          ap (λ (t : Bool). cond t (sumOver (neighbours g k) a) (pos 0) +ℤ (pos 0 -ℤ c) *ℤ a k) (sym e)
+      go false e =
+          ap (λ (t : Bool). cond t (laplacian g a k) (pos 0)) e ∙ ring 1 (λ c. # 0 ≈ # 0 ⊕ (# 0 ⊖ c) ⊗ # 0) refl c ∙
+          (λ j. cond (sym e j) (sumOver (neighbours g k) a) (pos 0) +ℤ (pos 0 -ℤ c) *ℤ sym (still k e) j)
+
+  bending-by-sums : (k : ℕ) → moving g k ≡ true
+      → biharmonic g a k ≡ bendingOf c (sumOver (neighbours g k) a) (sumOver (neighbours g k) S) (a k)
+  unfolding laplacian
+  bending-by-sums k mk =
+      let js = neighbours g k in
+      (λ j. over-ext js inner-by-sum j -ℤ pos (count-is g size k mk j) *ℤ (inner-by-sum k ∙ ap (λ (z : ℤ). z +ℤ (pos 0 -ℤ c) *ℤ a k) (inner-sum k mk)) j) ∙
+      ap (λ (z : ℤ). z -ℤ c *ℤ (sumOver js a +ℤ (pos 0 -ℤ c) *ℤ a k))
+      (over-add js S (λ j. (pos 0 -ℤ c) *ℤ a j) ∙ ap (λ (z : ℤ). sumOver js S +ℤ z) (over-scale js (pos 0 -ℤ c) a)) ∙
+      ring 4 (λ c x y z. y ⊕ (# 0 ⊖ c) ⊗ x ⊖ c ⊗ (x ⊕ (# 0 ⊖ c) ⊗ z) ≈ y ⊖ # 2 ⊗ c ⊗ x ⊕ c ⊗ c ⊗ z) refl
+      c (sumOver js a) (sumOver js S) (a k)
+
+  -- ---- how large the sums are
+
+  over-low : (B : ℕ) (b : ℕ → ℤ) → ((j : ℕ) → natAbs (b j) ≤ B) → (k : ℕ) → moving g k ≡ true
+      → natAbs (sumOver (neighbours g k) b) ≤ countOf g * B
+  over-low B b low k mk =
+      subst (λ (n : ℕ). natAbs (sumOver (neighbours g k) b) ≤ n * B) (count-is g size k mk) (size-over (neighbours g k) b B low)
+
+  pub inner-low : (B : ℕ) → ((j : ℕ) → natAbs (a j) ≤ B) → (k : ℕ) → natAbs (S k) ≤ countOf g * B
+  unfolding innerSum
+  inner-low B low k = go (moving g k) refl
+    where
+      go : (t : Bool) → moving g k ≡ t → natAbs (cond t (sumOver (neighbours g k) a) (pos 0)) ≤ countOf g * B
+      go true e = over-low B a low k e
+      go false e = zero-le
+
+-- ---- a point
+
+module _ {p : Plan} {f : ℤ} {older newer : List ℤ} {k : ℕ} {sum second : ℤ} (r : Ready p f older newer)
+    (n : Neighbouring (p .instrument) newer k sum second) where
   abbrev i : Instrument
   i = p .instrument
 
-  abbrev c : Settings
-  c = i .settings
+  abbrev s : Settings
+  s = i .settings
 
-  abbrev l : ℤ
-  l = sum -ℤ count *ℤ point newer k
+  abbrev count : ℕ
+  count = countOf (i .grid)
 
-  laplacian-is : laplacian (i .grid) (point newer) k ≡ l
-  unfolding laplacian
-  laplacian-is = ap₂ (λ (x y : ℤ). x -ℤ y *ℤ point newer k) (sym (n .sum-is)) (sym (n .count-is))
+  abbrev u : ℤ
+  u = point newer k
 
-  few : length (neighbours (i .grid) k) ≤ 4
-  few = N.le-trans (neighbour-count (i .grid) (r .planned .passes .size) k (n .inside)) (degree-within (kind (i .grid)) .1)
+  size : inTable (i .grid) ≡ true
+  size = r .planned .passes .size
 
-  terms : Terms c (point newer k) l b (point older k) f
-  terms =
-      let t = numerator-terms i (r .planned .passes) (point newer) (point older) (λ j. f) (r .newer-low) (r .older-low) (λ j. r .f-low) k
-      (n .inside) in
-      record {
-        own = t .own;
-        neighbouring = as-summed (t .neighbouring);
-        older = t .older;
-        force = t .force;
-      }
+  sum-low : natAbs sum ≤ count * ceiling
+  sum-low = subst (λ (z : ℤ). natAbs z ≤ count * ceiling) (sym (n .sum-is))
+      (over-low (i .grid) size (point newer) (r .newer-still) ceiling (point newer) (r .newer-low) k (n .moves))
+
+  second-low : natAbs second ≤ count * count * ceiling
+  second-low = go (n .second-is)
     where
-      as-summed : natAbs (pos (c .q) *ℤ laplacian (i .grid) (point newer) k) + natAbs (pos (c .m) *ℤ biharmonic (i .grid) (point newer) k)
-          ≤ 4 * (D * ceiling)
-          → natAbs (pos (c .q) *ℤ l) + natAbs (pos (c .m) *ℤ b) ≤ 4 * (D * ceiling)
-      as-summed h = subst (λ (x : ℤ). natAbs (pos (c .q) *ℤ x) + natAbs (pos (c .m) *ℤ b) ≤ 4 * (D * ceiling)) laplacian-is
-          (subst (λ (x : ℤ). natAbs (pos (c .q) *ℤ laplacian (i .grid) (point newer) k) + natAbs x ≤ 4 * (D * ceiling)) (sym (n .stiff)) h)
+      go : ((s .m ≡ 0) × (second ≡ pos 0)) ⊎ (second ≡ sumOver (neighbours (i .grid) k) (innerSum (i .grid) (point newer)))
+          → natAbs second ≤ count * count * ceiling
+      go (inl e) = subst (λ (z : ℤ). natAbs z ≤ count * count * ceiling) (sym (e .1)) zero-le
+      go (inr e) = subst (λ (z : ℤ). natAbs z ≤ count * count * ceiling) (sym e)
+          (omega (
+            arith,
+            over-low (i .grid) size (point newer) (r .newer-still) (count * ceiling) (innerSum (i .grid) (point newer))
+                (inner-low (i .grid) size (point newer) (r .newer-still) ceiling (r .newer-low)) k (n .moves),
+            N.mul-assoc count count ceiling,
+          ))
 
-  pub updatable : Updatable c (point newer k) sum count b (point older k) f
+  pub updatable : Updatable p u sum second (point older k) f
   updatable = record {
     u-low = r .newer-low k;
-    sum-low = subst (λ (z : ℤ). natAbs z ≤ 4 * ceiling) (sym (n .sum-is))
-        (N.le-trans (size-over (neighbours (i .grid) k) (point newer) ceiling (r .newer-low)) (N.mul-le-mul-right ceiling few));
-    count-low = subst (λ (z : ℤ). natAbs z ≤ 4) (sym (n .count-is)) few;
-    b-low = n .b-low;
-    p-low = r .older-low k;
+    sum-low = N.le-trans sum-low (N.mul-le-mul-right ceiling (few (r .planned) .1));
+    second-low = N.le-trans second-low (N.mul-le-mul-right ceiling (N.mul-le-mul (few (r .planned) .1) (few (r .planned) .1)));
+    older-low = r .older-low k;
     f-low = r .f-low;
-    terms = terms;
+    near-part = near-part (r .planned) sum sum-low;
+    stiff-part = stiff-part (r .planned) second second-low;
   }
 
-  pub value-is : roundAway (numeratorOf c (point newer k) l b (point older k) f) (divisor c) ≡ valueAt i f older newer k
+  -- ---- its value
+
+  abbrev l : ℤ
+  l = sum -ℤ pos count *ℤ u
+
+  abbrev b : ℤ
+  b = bendingOf (pos count) sum second u
+
+  laplacian-is : laplacian (i .grid) (point newer) k ≡ l
+  laplacian-is = by-sum (i .grid) size (point newer) (r .newer-still) k (n .moves) ∙ ap (λ (z : ℤ). z -ℤ pos count *ℤ u) (sym (n .sum-is))
+
+  -- L of L, as far as the stiffness counts
+  stiff : pos (s .m) *ℤ biharmonic (i .grid) (point newer) k ≡ pos (s .m) *ℤ b
+  stiff = go (n .second-is)
+    where
+      go : ((s .m ≡ 0) × (second ≡ pos 0)) ⊎ (second ≡ sumOver (neighbours (i .grid) k) (innerSum (i .grid) (point newer)))
+          → pos (s .m) *ℤ biharmonic (i .grid) (point newer) k ≡ pos (s .m) *ℤ b
+      go (inl e) =
+          ap (λ (m : ℕ). pos m *ℤ biharmonic (i .grid) (point newer) k) (e .0) ∙ zero-*ℤ (biharmonic (i .grid) (point newer) k) ∙
+          sym (ap (λ (m : ℕ). pos m *ℤ b) (e .0) ∙ zero-*ℤ b)
+      go (inr e) = ap (λ (z : ℤ). pos (s .m) *ℤ z)
+          (bending-by-sums (i .grid) size (point newer) (r .newer-still) k (n .moves) ∙
+          (λ j. bendingOf (pos count) (sym (n .sum-is) j) (sym e j) u))
+
+  pub value-is : roundAway (numeratorOf s u l b (point older k) f) (divisor s) ≡ valueAt i f older newer k
   unfolding valueAt numerator
-  value-is = ap₂ (λ (x y : ℤ). roundAway (pos (2 * D) *ℤ point newer k +ℤ pos (c .q) *ℤ x -ℤ y -ℤ (pos D -ℤ pos (c .s)) *ℤ point older k
-      +ℤ pos D *ℤ f) (divisor c)) (sym laplacian-is) (n .stiff)
+  value-is = λ j. roundAway (pos (2 * D) *ℤ u +ℤ pos (s .q) *ℤ sym laplacian-is j -ℤ sym stiff j
+      -ℤ (pos D -ℤ pos (s .s)) *ℤ point older k +ℤ pos D *ℤ f) (divisor s)

@@ -20,7 +20,7 @@ use Rattle.scheme.specs.Step.{nextAt, nextLevel, someBeyond}
 use Rattle.scheme.proofs.Laws.Bools.{and-yes, and-no}
 use Rattle.scheme.proofs.Laws.Lists.{is-tabulate, some-at}
 use Rattle.scheme.proofs.Laws.Step.{length-next, next-still, next-point, all-low}
-use Rattle.scheme.proofs.Laws.Refusals.{passes-low}
+use Rattle.scheme.proofs.Laws.Refusals.{passes-low, passes-still}
 use Rattle.kinds.specs.declared.runs.Run.{Run}
 use Rattle.kinds.specs.Runs.{inRun, runOf}
 use Rattle.kinds.proofs.RunLaws.{run-bounds, moving-run}
@@ -95,6 +95,7 @@ module _ {p : Plan} {h : Hit} {older newer out₀ : List ℤ} (s : Steppable p h
     newer-long = s .newer-passes .long;
     older-low = passes-low g older (s .older-passes);
     newer-low = passes-low g newer (s .newer-passes);
+    newer-still = passes-still g newer (s .newer-passes) .still;
     f-low = zero-le;
   }
 

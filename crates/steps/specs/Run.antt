@@ -5,7 +5,7 @@ use mathlib.Core.List.{List, [], _∷_}
 use mathlib.Core.Logic.{_⊎_}
 use Prim.Native.Nat.{ℕ, _+_, _-_, _*_, _≤_, _<_}
 use lib.Dec.{ltb}
-use lib.IntN.{ℤ, pos, _+ℤ_, _-ℤ_, _*ℤ_}
+use lib.IntN.{ℤ, pos, _+ℤ_}
 use lib.ListN.{length}
 use Rattle.types.specs.declared.Grid.{Grid}
 use Rattle.types.specs.declared.Instrument.{Instrument}
@@ -68,17 +68,18 @@ pub record Moves (g : Grid) (from to : ℕ) : Type 0 where
   pub order : from ≤ to
   pub each : (k : ℕ) → from ≤ k → k < to → moving g k ≡ true
 
--- inner points of a line
+-- moving points of a line between its ends
 pub record OnLine (g : Grid) (from to : ℕ) : Type 0 where
   pub line : g .rows ≡ 1
   pub first : 1 ≤ from
   pub last : to + 1 ≤ g .columns
+  pub each : (k : ℕ) → from ≤ k → k < to → moving g k ≡ true
 
 -- one end of a line where it is free, or none of its points: the one neighbour is `near`
 pub record FreeEnd (i : Instrument) (near from to : ℕ) : Type 0 where
   pub one : to ≤ from + 1
   pub inside : near < points (i .grid)
-  pub there : from < to → from < points (i .grid)
+  pub there : from < to → moving (i .grid) from ≡ true
   pub twice : from < to → neighbours (i .grid) from ≡ near ∷ near ∷ []
   pub soft : from < to → i .settings .m ≡ 0
 
@@ -112,14 +113,6 @@ twoBeside xs k = point xs (k - 1) +ℤ point xs (k + 1)
 abbrev pub fourBeside : List ℤ → (columns : ℕ) → ℕ → ℤ
 fourBeside xs columns k = twoBeside xs k +ℤ point xs (k - columns) +ℤ point xs (k + columns)
 
--- L on a grid
-abbrev pub gridLaplacian : List ℤ → (columns : ℕ) → ℕ → ℤ
-gridLaplacian xs columns k = fourBeside xs columns k -ℤ pos 4 *ℤ point xs k
-
--- L on a line
-abbrev pub lineLaplacian : List ℤ → ℕ → ℤ
-lineLaplacian xs k = twoBeside xs k -ℤ pos 2 *ℤ point xs k
-
--- L of a bar, 0 at its supported ends
-abbrev pub barLaplacian : List ℤ → ℕ → ℤ
-barLaplacian xs k = cond (atEdge (length xs) k) (pos 0) (lineLaplacian xs k)
+-- the sum at a point of a bar, 0 at its supported ends
+abbrev pub barSum : List ℤ → ℕ → ℤ
+barSum xs k = cond (atEdge (length xs) k) (pos 0) (twoBeside xs k)

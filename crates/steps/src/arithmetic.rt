@@ -1,22 +1,52 @@
 // The arithmetic of one point, in i64.
 ghost use mathlib.Core.Path.{_≡_};
-ghost use Prim.Native.Nat.{_≤_, _^_};
-ghost use lib.IntN.{natAbs, _-ℤ_, _*ℤ_};
-ghost use Rattle.bounded.specs.Between.{Between};
+ghost use mathlib.Core.Bool.{not};
+ghost use Prim.Native.Nat.{_+_, _/_, _≤_, _^_};
+ghost use lib.IntN.{pos, natAbs, _-ℤ_, _*ℤ_};
 ghost use Rattle.types.specs.Numbers.{ceiling};
-ghost use Rattle.scheme.specs.Step.{roundAway, sampleOf, numeratorOf};
-ghost use Rattle.steps.specs.Plan.{Planned, Updatable};
+ghost use Rattle.scheme.specs.Instruments.{beyond};
+ghost use Rattle.scheme.specs.Step.{roundAway, sampleOf, numeratorOf, divisor};
+ghost use Rattle.steps.specs.Plan.{countOf, signOf, mirrorOf, bendingOf, Planned, Updatable};
 use crate::plan::D;
 use crate::plan::Plan;
 
-// n / d to the nearest whole number, halves away from zero.
-pub(crate) fn round_away(n: i64, d: i64) -> i64
-    requires { ⌜ (natAbs n ≤ 2 ^ 62) × Between 1 (2 ^ 31) d ⌝ }
-    ensures { λ r. ⌜ r ≡ roundAway n (natAbs d) ⌝ }
+// −1 for a number below 0, else 0.
+fn sign(n: i64) -> i64
+    ensures { λ r. ⌜ r ≡ signOf n ⌝ }
 {
-    let h = d / 2;
-    let half = if n < 0 { -h } else { h };
-    (n + half) / d
+    if n < 0 { -1 } else { 0 }
+}
+
+// x, or −1 − x where n is below 0: by bits, without a branch.
+fn mirrored(x: i64, n: i64) -> i64
+    ensures { λ r. ⌜ r ≡ mirrorOf n x ⌝ }
+{
+    x ^ sign(n)
+}
+
+// The size of n, and half of the divisor.
+fn raised(plan: Plan, n: i64) -> u64
+    requires { ⌜ Planned plan × (natAbs n ≤ 2 ^ 62) ⌝ }
+    ensures { λ r. ⌜ r ≡ natAbs n + divisor (plan .instrument .settings) / 2 ⌝ }
+{
+    mirrored(n + mirrored(plan.half, n), n) as u64
+}
+
+// Whether a numerator is rounded to a value within the ceiling: no division is needed for it.
+pub(crate) fn is_within(plan: Plan, n: i64) -> bool
+    requires { ⌜ Planned plan × (natAbs n ≤ 2 ^ 62) ⌝ }
+    ensures { λ r. ⌜ r ≡ not (beyond (roundAway n (divisor (plan .instrument .settings)))) ⌝ }
+{
+    raised(plan, n) < plan.limit
+}
+
+// A numerator over the divisor to the nearest whole number, halves away from zero: the quotient of its size, with its sign.
+pub(crate) fn round_away(plan: Plan, n: i64) -> i64
+    requires { ⌜ Planned plan × (natAbs n ≤ 2 ^ 62) ⌝ }
+    ensures { λ r. ⌜ r ≡ roundAway n (divisor (plan .instrument .settings)) ⌝ }
+{
+    let size = (raised(plan, n) / plan.divisor) as i64;
+    mirrored(size, n) - sign(n)
 }
 
 // The sample of a point: divided by 2²⁸ and rounded down.
@@ -27,13 +57,11 @@ pub(crate) fn sample(v: i64) -> i16
     (v >> 28) as i16
 }
 
-// The numerator at a point, from its newer value u,
-// the sum of its neighbours and their count, L of L there, its older value p and the force f.
-pub(crate) fn numerator(plan: Plan, u: i64, sum: i64, count: i64, b: i64, p: i64, f: i64) -> i64
-    requires { ⌜ Planned plan ⌝ }
-    requires { ⌜ Updatable (plan .instrument .settings) u sum count b p f ⌝ }
-    ensures { λ r. ⌜ r ≡ numeratorOf (plan .instrument .settings) u (sum -ℤ count *ℤ u) b p f ⌝ }
+// The numerator at a point, from its newer value u, the sum of its neighbours, the sum of their sums, its older value p and the force f.
+pub(crate) fn numerator(plan: Plan, u: i64, sum: i64, second: i64, p: i64, f: i64) -> i64
+    requires { ⌜ Planned plan × Updatable plan u sum second p f ⌝ }
+    ensures { λ r. ⌜ r ≡ numeratorOf (plan .instrument .settings) u (sum -ℤ pos (countOf (plan .instrument .grid)) *ℤ u)
+        (bendingOf (pos (countOf (plan .instrument .grid))) sum second u) p f ⌝ }
 {
-    let l = sum - count * u;
-    2 * D * u + plan.q * l - plan.m * b - plan.kept * p + D * f
+    plan.own * u + plan.near * sum - plan.m * second - plan.kept * p + D * f
 }

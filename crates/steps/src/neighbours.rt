@@ -1,11 +1,11 @@
-// The sum of a point's neighbours, L on a grid, and L along a bar.
+// The sum of a point's neighbours.
 ghost use mathlib.Core.Path.{_≡_};
 ghost use Prim.Native.Nat.{_+_, _≤_, _<_};
 ghost use lib.ListN.{length};
 ghost use Rattle.types.specs.Numbers.{ceiling};
 ghost use Rattle.scheme.specs.Lists.{point};
 ghost use Rattle.scheme.specs.Ranges.{AtMost};
-ghost use Rattle.steps.specs.Run.{twoBeside, fourBeside, gridLaplacian, barLaplacian};
+ghost use Rattle.steps.specs.Run.{twoBeside, fourBeside, barSum};
 
 // The points to the left and to the right.
 pub(crate) fn beside(xs: &[i64], k: usize) -> i64
@@ -23,18 +23,10 @@ pub(crate) fn around(xs: &[i64], k: usize, columns: usize) -> i64
     beside(xs, k) + xs[k - columns] + xs[k + columns]
 }
 
-// L at an inner point of a grid.
-pub(crate) fn grid_laplacian(xs: &[i64], k: usize, columns: usize) -> i64
-    requires { ⌜ (1 ≤ columns) × (columns ≤ k) × (k + columns < length (now xs)) × AtMost ceiling (point (now xs)) ⌝ }
-    ensures { λ r. ⌜ r ≡ gridLaplacian (now (xs .entry)) columns k ⌝ }
-{
-    around(xs, k, columns) - 4 * xs[k]
-}
-
-// L at a point of a bar: 0 at its supported ends.
-pub(crate) fn laplacian_at(xs: &[i64], k: usize) -> i64
+// The sum of a point's neighbours on a bar: 0 at its supported ends.
+pub(crate) fn sum_at(xs: &[i64], k: usize) -> i64
     requires { ⌜ (k < length (now xs)) × AtMost ceiling (point (now xs)) ⌝ }
-    ensures { λ r. ⌜ r ≡ barLaplacian (now (xs .entry)) k ⌝ }
+    ensures { λ r. ⌜ r ≡ barSum (now (xs .entry)) k ⌝ }
 {
     if k == 0 {
         return 0;
@@ -42,5 +34,5 @@ pub(crate) fn laplacian_at(xs: &[i64], k: usize) -> i64
     if k + 1 == xs.len() {
         return 0;
     }
-    beside(xs, k) - 2 * xs[k]
+    beside(xs, k)
 }

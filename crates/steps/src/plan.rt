@@ -1,53 +1,54 @@
 // An instrument as the steps of a block need it.
 ghost use mathlib.Core.Path.{_≡_};
-ghost use mathlib.Core.Bool.{not};
-ghost use Rattle.scheme.specs.Instruments.{beyond};
-ghost use Rattle.scheme.specs.Step.{roundAway, divisor};
+ghost use lib.IntN.{pos};
 ghost use Rattle.scheme.specs.Passing.{InstrumentPasses};
-ghost use Rattle.steps.specs.Plan.{Planned};
+ghost use Rattle.steps.specs.Plan.{countOf, Planned};
+use types::Grid;
 use types::Instrument;
 use types::Settings;
 
 // D of the papers, signed.
 pub(crate) const D: i64 = Settings::D as i64;
 
-// An instrument, and its settings as the factors of a step: q, m, D − s kept of the older value, D + s.
-// A numerator within limit is rounded to a value within the ceiling.
+// An instrument, and the factors of a step. With c neighbours, two on a line and four on a grid, a numerator has
+// own = 2D − cq − c²m times the newer value, near = q + 2cm times the neighbours' sum, m times the sum of their sums
+// and kept = D − s times the older value. It is divided by divisor = D + s, of which half is the half:
+// a size that has reached limit with that added is rounded to a value beyond the ceiling.
 pub(crate) struct Plan {
     pub(crate) instrument: Instrument,
-    pub(crate) q: i64,
+    pub(crate) own: i64,
+    pub(crate) near: i64,
     pub(crate) m: i64,
     pub(crate) kept: i64,
-    pub(crate) divisor: i64,
-    pub(crate) limit: i64,
+    pub(crate) divisor: u64,
+    pub(crate) half: i64,
+    pub(crate) limit: u64,
+}
+
+// How many neighbours a moving point has.
+fn count_in(g: Grid) -> i64
+    ensures { λ r. ⌜ r ≡ pos (countOf g) ⌝ }
+{
+    if g.rows == 1 { 2 } else { 4 }
 }
 
 pub(crate) fn make_plan(i: Instrument) -> Plan
     requires { ⌜ InstrumentPasses i ⌝ }
     ensures { λ r. ⌜ (r .instrument ≡ i) × Planned r ⌝ }
 {
-    let c = i.settings;
-    let q = c.q as i64;
-    let m = c.m as i64;
-    let s = c.s as i64;
+    let count = count_in(i.grid);
+    let q = i.settings.q as i64;
+    let m = i.settings.m as i64;
+    let s = i.settings.s as i64;
     let divisor = D + s;
     Plan {
         instrument: i,
-        q,
+        own: 2 * D - count * q - count * count * m,
+        near: q + 2 * count * m,
         m,
         kept: D - s,
-        divisor,
-        limit: (Settings::CEILING + 1) * divisor - divisor / 2,
+        divisor: divisor as u64,
+        half: divisor / 2,
+        limit: ((Settings::CEILING + 1) * divisor) as u64,
     }
-}
-
-// Whether a numerator is rounded to a value within the ceiling: no division is needed for it.
-pub(crate) fn is_within(plan: Plan, n: i64) -> bool
-    requires { ⌜ Planned plan ⌝ }
-    ensures { λ r. ⌜ r ≡ not (beyond (roundAway n (divisor (plan .instrument .settings)))) ⌝ }
-{
-    if n < plan.limit {
-        return -plan.limit < n;
-    }
-    false
 }

@@ -1,110 +1,96 @@
-// Plates with stiffness. L of L is taken of rows of L, each worked out once and kept from row to row.
+// Plates with stiffness. The sum of each point's neighbours is worked out once, a row ahead, and kept from row to row.
 ghost use mathlib.Core.Path.{_≡_};
-ghost use mathlib.Core.Bool.{true, false};
+ghost use mathlib.Core.Bool.{true, false, cond};
 ghost use Prim.Native.Nat.{_+_, _-_, _≤_, _<_};
 ghost use lib.IntN.{pos};
 ghost use lib.ListN.{length};
-ghost use Rattle.scheme.specs.Instruments.{plate, kind, moving};
+ghost use Rattle.types.specs.Numbers.{ceiling};
+ghost use Rattle.scheme.specs.Lists.{point};
+ghost use Rattle.scheme.specs.Instruments.{plate, kind};
 ghost use Rattle.scheme.specs.Refusals.{tooStrong};
+ghost use Rattle.scheme.specs.Ranges.{AtMost};
 ghost use Rattle.steps.specs.Plan.{Ready};
-ghost use Rattle.steps.specs.Run.{Filled, Advanced, Stepping, Placed, Moves};
+ghost use Rattle.steps.specs.Run.{Filled, Advanced, Stepping, Placed, fourBeside};
 ghost use Rattle.steps.specs.Roles.{Steppable, Stepped};
-ghost use Rattle.steps.specs.Plates.{rowOf, OfPlate, RowAt, ThreeRows, InRow, Readable, bendingAt};
-use crate::neighbours::grid_laplacian;
+ghost use Rattle.steps.specs.Plates.{TwoRows, InRow, Readable, secondAt};
+use crate::neighbours::around;
 use crate::plan::Plan;
 use crate::points::next_point;
 use crate::stretch::Stretch;
 use crate::stretch::force_at;
 use crate::stretch::stretch_end;
-use types::Grid;
 use types::Hit;
 
-// Where L of three rows stands: of column c of the row that begins at point `start` at place here + c, of the row above it at above + c,
-// of the row below it at below + c.
-pub(crate) struct LaplacianRows {
+// Where the sums of two rows stand: of column c of the row that begins at point `start` at place here + c; at other + c that of the row
+// above it until column c is done, then that of the row below it. `last` tells that the row below is the ring's.
+pub(crate) struct SumRows {
     pub(crate) start: usize,
-    pub(crate) above: usize,
     pub(crate) here: usize,
-    pub(crate) below: usize,
+    pub(crate) other: usize,
+    pub(crate) last: bool,
 }
 
-// L of a row that is not the ring's, from `place` on: 0 at its ends.
-fn put_inner(g: Grid, xs: &[i64], start: usize, place: usize, laps: &mut [i64])
-    requires { ⌜ OfPlate g (now xs) × Moves g (start + 1) (start + (g .columns - 1)) × (moving g start ≡ false)
-        × (moving g (start + (g .columns - 1)) ≡ false) × (place + g .columns ≤ length (now laps)) ⌝ }
-    ensures { λ _. ⌜ Filled (rowOf g (now (xs .entry)) start place) true 0 (now (laps .entry)) (now (laps .exit)) place
-        (place + g .columns) ⌝ }
+// The sums of the first row that is not the ring's, between its ends.
+fn put_first(xs: &[i64], columns: usize, place: usize, sums: &mut [i64])
+    requires { ⌜ (3 ≤ columns) × (columns + columns + columns ≤ length (now xs)) × (place + columns ≤ length (now sums)) ⌝ }
+    requires { ⌜ AtMost ceiling (point (now xs)) ⌝ }
+    ensures { λ _. ⌜ Filled (λ j. fourBeside (now (xs .entry)) columns (columns + (j - place))) true 0 (now (sums .entry))
+        (now (sums .exit)) (place + 1) (place + (columns - 1)) ⌝ }
 {
-    let columns = g.columns;
     let last = columns - 1;
-    laps[place] = 0;
     let mut c = 1;
     while c < last {
-        laps[place + c] = grid_laplacian(xs, start + c, columns);
+        sums[place + c] = around(xs, columns + c, columns);
         c += 1;
     }
-    laps[place + last] = 0;
 }
 
-// L of a row of the ring.
-fn put_ring(columns: usize, place: usize, laps: &mut [i64])
-    requires { ⌜ place + columns ≤ length (now laps) ⌝ }
-    ensures { λ _. ⌜ Filled (λ j. pos 0) true 0 (now (laps .entry)) (now (laps .exit)) place (place + columns) ⌝ }
+// The sum of the neighbours of the point below point `at`, 0 on the ring.
+fn sum_below(xs: &[i64], at: usize, columns: usize, last: bool) -> i64
+    requires { ⌜ (1 ≤ columns) × AtMost ceiling (point (now xs)) × (last ≡ false → at + columns + columns < length (now xs)) ⌝ }
+    ensures { λ r. ⌜ r ≡ cond last (pos 0) (fourBeside (now (xs .entry)) columns (at + columns)) ⌝ }
 {
-    let end = place + columns;
-    let mut j = place;
-    while j < end {
-        laps[j] = 0;
-        j += 1;
+    if last {
+        return 0;
     }
+    around(xs, at + columns, columns)
 }
 
-// L of row `row`, which begins at point `start`, from `place` on.
-fn put_row(g: Grid, xs: &[i64], row: usize, start: usize, place: usize, laps: &mut [i64])
-    requires { ⌜ OfPlate g (now xs) × RowAt g row start × (place + g .columns ≤ length (now laps)) ⌝ }
-    ensures { λ _. ⌜ Filled (rowOf g (now (xs .entry)) start place) true 0 (now (laps .entry)) (now (laps .exit)) place
-        (place + g .columns) ⌝ }
-{
-    if row + 1 < g.rows {
-        put_inner(g, xs, start, place, laps);
-    } else {
-        put_ring(g.columns, place, laps);
-    }
-}
-
-// L of L at column c.
-fn bending_at(laps: &[i64], rows: LaplacianRows, c: usize) -> i64
-    requires { ⌜ Readable (now laps) rows c ⌝ }
-    ensures { λ r. ⌜ r ≡ bendingAt (now (laps .entry)) rows c ⌝ }
+// The sum of the sums around column c: that of the point below it is given.
+fn second_at(sums: &[i64], rows: SumRows, c: usize, below: i64) -> i64
+    requires { ⌜ Readable (now sums) rows c below ⌝ }
+    ensures { λ r. ⌜ r ≡ secondAt (now (sums .entry)) rows c below ⌝ }
 {
     let here = rows.here + c;
-    let above = rows.above + c;
-    let below = rows.below + c;
-    laps[here - 1] + laps[here + 1] + laps[above] + laps[below] - 4 * laps[here]
+    let above = rows.other + c;
+    sums[here - 1] + sums[here + 1] + sums[above] + below
 }
 
-// Points of a row. The sum of a point's neighbours is L and four times the point.
+// Points of a row. Where a point is done, the sum below it stands for the one above it.
 fn plate_run(
     plan: Plan,
     older: &[i64],
     newer: &[i64],
-    laps: &[i64],
-    rows: LaplacianRows,
+    rows: SumRows,
     s: Stretch,
+    sums: &mut [i64],
     out: &mut [i64],
 ) -> bool
     requires { ⌜ Ready plan (s .force) (now older) (now newer) × Placed s (length (now out)) ⌝ }
-    requires { ⌜ ThreeRows (plan .instrument .grid) (now newer) (now laps) rows
-        × InRow (plan .instrument .grid) (rows .start) (s .from) (s .to) ⌝ }
-    ensures { λ r. ⌜ Advanced plan s (now (older .entry)) (now (newer .entry)) (now (out .entry)) (now (out .exit)) (s .from) (s .to) r ⌝ }
+    requires { ⌜ TwoRows (plan .instrument .grid) (now newer) (now sums) rows (s .from)
+        × InRow (plan .instrument .grid) rows (s .from) (s .to) ⌝ }
+    ensures { λ r. ⌜ Advanced plan s (now (older .entry)) (now (newer .entry)) (now (out .entry)) (now (out .exit)) (s .from) (s .to) r
+        × (r ≡ true → TwoRows (plan .instrument .grid) (now (newer .entry)) (now (sums .exit)) rows (s .to)) ⌝ }
 {
+    let columns = plan.instrument.grid.columns;
     let mut at = s.from;
     while at < s.to {
         let c = at - rows.start;
-        let here = rows.here + c;
-        let sum = laps[here] + 4 * newer[at];
-        let b = bending_at(laps, rows, c);
-        if !next_point(plan, older, newer, at, sum, 4, b, s, out) {
+        let below = sum_below(newer, at, columns, rows.last);
+        let second = second_at(sums, rows, c, below);
+        let sum = sums[rows.here + c];
+        sums[rows.other + c] = below;
+        if !next_point(plan, older, newer, at, sum, second, s, out) {
             return false;
         }
         at += 1;
@@ -117,17 +103,18 @@ fn plate_row(
     plan: Plan,
     older: &[i64],
     newer: &[i64],
-    laps: &[i64],
-    rows: LaplacianRows,
+    rows: SumRows,
     row: Stretch,
     hit: Hit,
+    sums: &mut [i64],
     out: &mut [i64],
 ) -> bool
     requires { ⌜ Ready plan (pos 0) (now older) (now newer) × Placed row (length (now out)) × (tooStrong hit ≡ false) ⌝ }
-    requires { ⌜ ThreeRows (plan .instrument .grid) (now newer) (now laps) rows
-        × InRow (plan .instrument .grid) (rows .start) (row .from) (row .to) ⌝ }
+    requires { ⌜ TwoRows (plan .instrument .grid) (now newer) (now sums) rows (row .from)
+        × InRow (plan .instrument .grid) rows (row .from) (row .to) ⌝ }
     ensures { λ r. ⌜ Stepping (plan .instrument) hit (row .write) (row .base) (now (older .entry)) (now (newer .entry))
-        (now (out .entry)) (now (out .exit)) (row .from) (row .to) r ⌝ }
+        (now (out .entry)) (now (out .exit)) (row .from) (row .to) r
+        × (r ≡ true → TwoRows (plan .instrument .grid) (now (newer .entry)) (now (sums .exit)) rows (row .to)) ⌝ }
 {
     let mut at = row.from;
     while at < row.to {
@@ -139,7 +126,7 @@ fn plate_row(
             base: row.base,
             write: row.write,
         };
-        if !plate_run(plan, older, newer, laps, rows, s, out) {
+        if !plate_run(plan, older, newer, rows, s, sums, out) {
             return false;
         }
         at = end;
@@ -147,7 +134,7 @@ fn plate_row(
     true
 }
 
-// Every moving point of a plate: L of the row below is put where L of two rows above stood.
+// Every moving point of a plate. After a row the two places of the sums change roles.
 pub(crate) fn plate_level(
     plan: Plan,
     older: &[i64],
@@ -162,20 +149,18 @@ pub(crate) fn plate_level(
     let columns = g.columns;
     let right = columns - 1;
     let last = g.rows - 1;
-    let mut laps = [0i64; 192];
-    put_row(g, newer, 1, columns, 64, &mut laps);
-    let mut above = 0;
+    let mut sums = [0i64; 128];
+    put_first(newer, columns, 64, &mut sums);
+    let mut other = 0;
     let mut here = 64;
-    let mut below = 128;
     let mut row = 1;
     let mut start = columns;
     while row < last {
-        put_row(g, newer, row + 1, start + columns, below, &mut laps);
-        let rows = LaplacianRows {
+        let rows = SumRows {
             start,
-            above,
             here,
-            below,
+            other,
+            last: row + 1 == last,
         };
         let moving = Stretch {
             from: start + 1,
@@ -184,13 +169,12 @@ pub(crate) fn plate_level(
             base: 0,
             write: true,
         };
-        if !plate_row(plan, older, newer, &laps, rows, moving, hit, out) {
+        if !plate_row(plan, older, newer, rows, moving, hit, &mut sums, out) {
             return false;
         }
-        let free = above;
-        above = here;
-        here = below;
-        below = free;
+        let free = other;
+        other = here;
+        here = free;
         row += 1;
         start += columns;
     }

@@ -6,38 +6,37 @@ ghost use lib.ListN.{length};
 ghost use Rattle.steps.specs.Plan.{Ready, SoftGrid, Neighbouring};
 ghost use Rattle.scheme.specs.Instruments.{bar, kind};
 ghost use Rattle.steps.specs.Run.{Advanced, Placed, Moves, OnLine, FreeEnd};
+use crate::arithmetic::is_within;
 use crate::arithmetic::numerator;
 use crate::arithmetic::round_away;
 use crate::neighbours::around;
 use crate::neighbours::beside;
-use crate::neighbours::laplacian_at;
+use crate::neighbours::sum_at;
 use crate::plan::Plan;
-use crate::plan::is_within;
 use crate::stretch::Stretch;
 use crate::stretch::part;
 
-// One point: sum and count are its neighbours', b is L of L there.
+// One point: sum is that of its neighbours, second that of their sums.
 pub(crate) fn next_point(
     plan: Plan,
     older: &[i64],
     newer: &[i64],
     at: usize,
     sum: i64,
-    count: i64,
-    b: i64,
+    second: i64,
     s: Stretch,
     out: &mut [i64],
 ) -> bool
-    requires { ⌜ Ready plan (s .force) (now older) (now newer) × Neighbouring (plan .instrument) (now newer) at sum count b ⌝ }
+    requires { ⌜ Ready plan (s .force) (now older) (now newer) × Neighbouring (plan .instrument) (now newer) at sum second ⌝ }
     requires { ⌜ Placed s (length (now out)) × (s .from ≤ at) × (at < s .to) ⌝ }
     ensures { λ r. ⌜ Advanced plan s (now (older .entry)) (now (newer .entry)) (now (out .entry)) (now (out .exit)) at (at + 1) r ⌝ }
 {
-    let n = numerator(plan, newer[at], sum, count, b, older[at], s.force);
+    let n = numerator(plan, newer[at], sum, second, older[at], s.force);
     if !is_within(plan, n) {
         return false;
     }
     if s.write {
-        out[at - s.base] = round_away(n, plan.divisor);
+        out[at - s.base] = round_away(plan, n);
     }
     true
 }
@@ -51,7 +50,7 @@ fn line_run(plan: Plan, older: &[i64], newer: &[i64], s: Stretch, out: &mut [i64
     let mut at = s.from;
     while at < s.to {
         let sum = beside(newer, at);
-        if !next_point(plan, older, newer, at, sum, 2, 0, s, out) {
+        if !next_point(plan, older, newer, at, sum, 0, s, out) {
             return false;
         }
         at += 1;
@@ -59,20 +58,18 @@ fn line_run(plan: Plan, older: &[i64], newer: &[i64], s: Stretch, out: &mut [i64
     true
 }
 
-// Points of a bar: L of L by the values of L before, here and after. The neighbours' sum is L and twice the point.
+// Points of a bar: the sums of the neighbours before, here and after, each worked out once.
 fn bar_run(plan: Plan, older: &[i64], newer: &[i64], s: Stretch, out: &mut [i64]) -> bool
     requires { ⌜ Ready plan (s .force) (now older) (now newer) × Placed s (length (now out)) ⌝ }
     requires { ⌜ OnLine (plan .instrument .grid) (s .from) (s .to) × (kind (plan .instrument .grid) ≡ bar) ⌝ }
     ensures { λ r. ⌜ Advanced plan s (now (older .entry)) (now (newer .entry)) (now (out .entry)) (now (out .exit)) (s .from) (s .to) r ⌝ }
 {
     let mut at = s.from;
-    let mut left = laplacian_at(newer, at - 1);
-    let mut here = laplacian_at(newer, at);
+    let mut left = sum_at(newer, at - 1);
+    let mut here = sum_at(newer, at);
     while at < s.to {
-        let right = laplacian_at(newer, at + 1);
-        let sum = here + 2 * newer[at];
-        let b = left + right - 2 * here;
-        if !next_point(plan, older, newer, at, sum, 2, b, s, out) {
+        let right = sum_at(newer, at + 1);
+        if !next_point(plan, older, newer, at, here, left + right, s, out) {
             return false;
         }
         left = here;
@@ -111,7 +108,7 @@ fn free_end(
         return true;
     }
     let x = newer[near];
-    next_point(plan, older, newer, s.from, x + x, 2, 0, s, out)
+    next_point(plan, older, newer, s.from, x + x, 0, s, out)
 }
 
 // Moving points of a line: its first, if it is one of them, the inner ones, its last.
@@ -141,7 +138,7 @@ fn grid_run(plan: Plan, older: &[i64], newer: &[i64], s: Stretch, out: &mut [i64
     let mut at = s.from;
     while at < s.to {
         let sum = around(newer, at, columns);
-        if !next_point(plan, older, newer, at, sum, 4, 0, s, out) {
+        if !next_point(plan, older, newer, at, sum, 0, s, out) {
             return false;
         }
         at += 1;

@@ -1,13 +1,13 @@
 -- Laws of `roundAway` and `sampleOf`.
 use mathlib.Core.Path.{_≡_, refl, sym, ap, _∙_, subst}
-use mathlib.Core.Bool.{Bool, true, false, not, true≢false}
+use mathlib.Core.Bool.{Bool, true, false, cond, not}
 use Prim.Native.Nat.{ℕ, zero, suc, _+_, _-_, _*_, _/_, _^_, _≤_, _<_, zero-le}
 use native.Mathlib.Nat.{div-eq-of-lt, div-eq-of-lt-le, div-mul-le-self, lt-div-mul-add, div-lt-iff-lt-mul, le-div-iff-mul-le}
 use native.Mathlib.Omega.{arith}
 use borrow.Author.Tests.{ltb-true, ltb-false, lt-ltb, le-ltb}
 use lib.Dec.{ltb, ltb→lt, nltb→le}
-use lib.IntN.{ℤ, pos, negsuc, negℤ, natAbs, subℕ, _+ℤ_, _-ℤ_, _*ℤ_, +ℤ-idr, negℤ-negℤ}
-use lib.Signed.{ltZ, quotZ}
+use lib.IntN.{ℤ, pos, negsuc, negℤ, natAbs, subℕ, _+ℤ_, _-ℤ_, _*ℤ_, negℤ-negℤ}
+use lib.Signed.{ltZ}
 use Rattle.integers.proofs.Size.{cond-ind, size-neg}
 use Rattle.types.specs.Numbers.{ceiling}
 use Rattle.scheme.specs.Step.{nearest, roundAway, sampleOf}
@@ -40,7 +40,7 @@ round-near (pos (suc m)) k h =
     gap (k * nearest (suc m) k) (suc m) k (w .1) (w .0)
 round-near (negsuc m) k h = neg-near m k (nearest (suc m) k) (near (suc m) k (nearest (suc m) k) h refl)
 
--- ---- as code computes it: half of d is added away from zero, and the quotient is cut toward zero
+-- ---- as code computes it: half of d is added to the size of n, and the quotient is cut
 
 half-way : (m k q : ℕ) → q * k ≤ m + k / 2 → m + k / 2 < q * k + k → (2 * m + k) / (2 * k) ≡ q
 half-way m k q low high = div-eq-of-lt-le (2 * k) (omega arith) (omega arith)
@@ -48,20 +48,13 @@ half-way m k q low high = div-eq-of-lt-le (2 * k) (omega arith) (omega arith)
 nearest-half : (m k : ℕ) → 0 < k → (m + k / 2) / k ≡ nearest m k
 nearest-half m k h = sym (half-way m k ((m + k / 2) / k) (div-mul-le-self (m + k / 2) k) (lt-div-mul-add h))
 
-pub round-up : (n : ℤ) (k : ℕ) → 0 < k → ltZ n (pos 0) ≡ false → quotZ (n +ℤ pos (k / 2)) (pos k) ≡ roundAway n k
+-- it has the sign of n
+pub round-signed : (n : ℤ) (d : ℕ) → 0 < d
+    → cond (ltZ n (pos 0)) (negℤ (pos ((natAbs n + d / 2) / d))) (pos ((natAbs n + d / 2) / d)) ≡ roundAway n d
 unfolding roundAway
-round-up (pos m) k h e = ap pos (nearest-half m k h)
-round-up (negsuc m) k h e = absurd (true≢false e)
-
-down : (m h k : ℕ) → k / 2 ≡ h → 0 < k → quotZ (negsuc m -ℤ pos h) (pos k) ≡ roundAway (negsuc m) k
-unfolding roundAway
-down m zero k e p = let z : suc m ≡ suc m + k / 2 = omega arith in
-    ap (λ (n : ℤ). quotZ n (pos k)) (+ℤ-idr (negsuc m)) ∙ ap (λ (n : ℕ). negℤ (pos n)) (ap (λ (n : ℕ). n / k) z ∙ nearest-half (suc m) k p)
-down m (suc h) k e p = ap (λ (n : ℕ). negℤ (pos n)) (ap (λ (n : ℕ). n / k) (omega arith) ∙ nearest-half (suc m) k p)
-
-pub round-down : (n : ℤ) (k : ℕ) → 0 < k → ltZ n (pos 0) ≡ true → quotZ (n -ℤ pos (k / 2)) (pos k) ≡ roundAway n k
-round-down (pos m) k h e = absurd (true≢false (sym e ∙ le-ltb m 0 zero-le))
-round-down (negsuc m) k h e = down m (k / 2) k refl h
+round-signed (pos m) d h =
+    ap (λ (t : Bool). cond t (negℤ (pos ((m + d / 2) / d))) (pos ((m + d / 2) / d))) (le-ltb m 0 zero-le) ∙ ap pos (nearest-half m d h)
+round-signed (negsuc m) d h = ap (λ (q : ℕ). negℤ (pos q)) (nearest-half (suc m) d h)
 
 -- ---- how large the rounded quotient is
 
@@ -70,16 +63,17 @@ unfolding roundAway
 round-size (pos n) d = refl
 round-size (negsuc n) d = size-neg (pos (nearest (suc n) d))
 
--- it is beyond C exactly where the numerator is not below (C + 1)·d − d/2: no division is needed to tell
-pub round-limit : (n : ℤ) (d C : ℕ) → 0 < d → ltb C (natAbs (roundAway n d)) ≡ not (ltb (natAbs n) ((C + 1) * d - d / 2))
-round-limit n d C h = ap (ltb C) (round-size n d ∙ sym (nearest-half (natAbs n) d h)) ∙ go (ltb (natAbs n) ((C + 1) * d - d / 2)) refl
+-- it is beyond C exactly where the size of n with half of d added is not below (C + 1)·d: no division is needed to tell
+pub round-limit : (n : ℤ) (d C : ℕ) → 0 < d → ltb (natAbs n + d / 2) ((C + 1) * d) ≡ not (ltb C (natAbs (roundAway n d)))
+round-limit n d C h =
+    go (ltb m ((C + 1) * d)) refl ∙ sym (ap (λ (q : ℕ). not (ltb C q)) (round-size n d ∙ sym (nearest-half (natAbs n) d h)))
   where
     m : ℕ
-    m = natAbs n
+    m = natAbs n + d / 2
 
-    go : (t : Bool) → ltb m ((C + 1) * d - d / 2) ≡ t → ltb C ((m + d / 2) / d) ≡ not t
-    go true e = le-ltb C _ (omega (arith, div-lt-iff-lt-mul {k = d} {x = m + d / 2} {y = C + 1} h .1 (omega (arith, ltb-true m _ e))))
-    go false e = lt-ltb C _ (omega (arith, le-div-iff-mul-le {k = d} {x = C + 1} {y = m + d / 2} h .1 (omega (arith, ltb-false m _ e))))
+    go : (t : Bool) → ltb m ((C + 1) * d) ≡ t → t ≡ not (ltb C (m / d))
+    go true e = sym (ap not (le-ltb C (m / d) (omega (arith, div-lt-iff-lt-mul {k = d} {x = m} {y = C + 1} h .1 (ltb-true m _ e)))))
+    go false e = sym (ap not (lt-ltb C (m / d) (omega (arith, le-div-iff-mul-le {k = d} {x = C + 1} {y = m} h .1 (ltb-false m _ e)))))
 
 -- odd: the quotient of −n is minus that of n
 pub round-odd : (n : ℤ) (d : ℕ) → 0 < d → roundAway (negℤ n) d ≡ negℤ (roundAway n d)

@@ -1,85 +1,106 @@
--- `round_away` meets its contract: half of d is added away from zero, and the quotient is cut toward zero.
-use mathlib.Core.Path.{_≡_, refl, sym, ap, _∙_, subst}
-use mathlib.Core.Logic.{⊎-elim}
+-- `round_away` meets its contract: the quotient of the raised size, with the sign of the numerator.
+use mathlib.Core.Path.{_≡_, ap, _∙_}
+use mathlib.Core.Bool.{cond}
+use Prim.Native.Nat.{ℕ, _+_, _/_, _^_, _≤_}
+use native.Mathlib.Nat.{le-trans, div-le-self}
 use native.Mathlib.Omega.{arith}
-use Prim.Native.Nat.{ℕ, _<_, _^_}
-use lib.IntN.{ℤ, pos, natAbs, _+ℤ_, _-ℤ_}
-use lib.Signed.{quotZ}
+use borrow.Author.Needs.{needs}
+use lib.IntN.{ℤ, pos, negℤ, natAbs}
+use lib.Signed.{ltZ}
 use mir.Syntax.{w64}
-use mir.Val.{toZ}
-use Rattle.integers.proofs.Ring.{#_, _⊕_, _⊖_, _≈_, ring}
-use Rattle.bounded.proofs.Num.{Num, above}
-use Rattle.bounded.proofs.Expr.{E, at, num, via, _⊞_, _⊟_, _÷_, fits, is, from-bits, lt-said}
-use Rattle.scheme.specs.Step.{roundAway}
-use Rattle.scheme.proofs.Laws.Rounding.{round-up, round-down}
+use mir.Val.{toZ, ofZ}
+use Rattle.bounded.proofs.Num.{back}
+use Rattle.bounded.proofs.Expr.{E, at, via, _⊟_, fits, is, said}
+use Rattle.scheme.specs.Step.{divisor}
+use Rattle.scheme.proofs.Laws.Rounding.{round-signed}
+use Rattle.steps.specs.Plan.{signOf, mirrorOf}
+use Rattle.steps.proofs.RoundLaws.{sign-size, mirror-size, mirror-signed}
+use Rattle.steps.proofs.PlanLaws.{divisor-some, half-small}
 use Rattle.steps.proofs.arithmetic.round_away.Statement.{statement}
 use Rattle.steps.proofs.arithmetic.round_away.Tie as tie
 
--- the arithmetic of the code
-module _ (s : tie.Start) where
+-- the number as it was passed
+abbrev n# : tie.Start → E
+n# s = at (s .args .n) (2 ^ 62) (s .pre .1)
+
+-- the quotient
+module _ (c : tie.After-struct-known) where
+  abbrev start : tie.Start
+  start = c .before .before
+
+  abbrev d : ℕ
+  d = divisor (start .args .plan .instrument .settings)
+
+  abbrev quotient : ℕ
+  quotient = c .before .raised .result / start .args .plan .divisor
+
+  raised-is : c .before .raised .result ≡ natAbs (start .args .n) + d / 2
+  raised-is = c .before .raised .ensures ∙ (λ j. natAbs (is (n# start) tt j) + d / 2)
+
+  quotient-is : quotient ≡ (natAbs (start .args .n) + d / 2) / d
+  quotient-is = λ j. raised-is j / start .pre .0 .divisor-is j
+
+  quotient-low : quotient ≤ 2 ^ 62 + 2 ^ 16
+  quotient-low = le-trans (div-le-self (c .before .raised .result) (start .args .plan .divisor))
+      (omega (arith, raised-is, start .pre .1, half-small (start .pre .0)))
+
+  abbrev quotient# : E
+  quotient# = at (pos quotient) (2 ^ 62 + 2 ^ 16) quotient-low
+
+-- with its sign
+module _ (c : tie.After-sign) where
+  abbrev divided : tie.After-struct-known
+  divided = c .before .before
+
   abbrev n : ℤ
-  n = s .args .n
+  n = start divided .args .n
 
-  abbrev d : ℤ
-  d = s .args .d
+  mirrored-is : toZ w64 (ofZ w64 (c .before .mirrored .result)) ≡ mirrorOf n (pos (quotient divided))
+  mirrored-is =
+      back (c .before .mirrored .result) (c .before .mirrored .ok) ∙ c .before .mirrored .ensures ∙
+      (λ j. mirrorOf (is (n# (start divided)) tt j) (is (quotient# divided) tt j))
 
-  abbrev n# : E
-  n# = at n (2 ^ 62) (s .pre .0)
+  sign-is : toZ w64 (ofZ w64 (c .sign .result)) ≡ signOf n
+  sign-is = back (c .sign .result) (c .sign .ok) ∙ c .sign .ensures ∙ ap signOf (is (n# (start divided)) tt)
 
-  abbrev d# : E
-  d# = at d (2 ^ 31) (s .pre .1 .high)
+  abbrev signed# : E
+  signed# =
+      via {B = 2 ^ 62 + 2 ^ 17}
+      (record { is = mirrored-is; size = le-trans (mirror-size n (pos (quotient divided))) (omega (arith, quotient-low divided)) })
+      ⊟ via {B = 1} (record { is = sign-is; size = sign-size n })
 
-  abbrev h# : E
-  h# = d# ÷ num 2
+raised-requires : tie.Need-raised-requires
+raised-requires c κs = (c .pre .0, said (λ (z : ℤ). natAbs z ≤ 2 ^ 62) (n# c) tt (c .pre .1))
 
-  -- d is a whole number
-  at-d : (f : ℤ → ℤ) → ((k : ℕ) → 0 < k → f (pos k) ≡ roundAway n k) → f d ≡ roundAway n (natAbs d)
-  at-d f h = subst (λ (x : ℤ). f x ≡ roundAway n (natAbs d)) (sym (s .pre .1 .is)) (h (natAbs d) (omega (arith, s .pre .1 .low)))
+div-size : tie.Need-div-size
+div-size c = let s = start c in omega (arith, s .pre .0 .divisor-is)
 
--- what is added: half of d, with the sign of n
-record Half (c : tie.Joined1) : Type 0 where
-  number : ℤ
-  stored : Num (toZ w64 (c .if1 .half)) number (2 ^ 31)
-  rounds : quotZ (n (c .before) +ℤ number) (d (c .before)) ≡ roundAway (n (c .before)) (natAbs (d (c .before)))
+cast-size : tie.Need-cast-size
+cast-size c = fits (quotient# c) tt
 
-half : (c : tie.Joined1) → Half c
-half c =
-    let s : tie.Start = c .before in
-    ⊎-elim
-    (λ b. record {
-      number = pos 0 -ℤ quotZ (d s) (pos 2);
-      stored = from-bits (num 0 ⊟ h# s) tt (b .1);
-      rounds = at-d s (λ x. quotZ (n s +ℤ (pos 0 -ℤ quotZ x (pos 2))) x)
-          (λ k h. ap (λ (z : ℤ). quotZ z (pos k)) (ring 2 (λ n x. n ⊕ (# 0 ⊖ x) ≈ n ⊖ x) refl (n s) (quotZ (pos k) (pos 2))) ∙
-          round-down (n s) k h (lt-said (n# s) (num 0) tt tt (b .0 .taken)));
-    })
-    (λ b. record {
-      number = quotZ (d s) (pos 2);
-      stored = from-bits (h# s) tt (b .1);
-      rounds = at-d s (λ x. quotZ (n s +ℤ quotZ x (pos 2)) x) (λ k h. round-up (n s) k h (lt-said (n# s) (num 0) tt tt (b .0 .left)));
-    })
-    (c .if1 .came)
+mirrored-requires : tie.Need-mirrored-requires
+mirrored-requires c κs = search needs
 
-abbrev sum# : tie.Joined1 → E
-sum# c = n# (c .before) ⊞ via (half c .stored)
+sign-requires : tie.Need-sign-requires
+sign-requires c κs = search needs
 
-abbrev quotient# : tie.Joined1 → E
-quotient# c = sum# c ÷ d# (c .before)
-
-div-h : tie.Need-div-h
-div-h c = (omega arith, fits (h# c) tt)
-
-sub-half : tie.Need-sub-half
-sub-half c = fits (num 0 ⊟ h# (c .before)) tt
-
-add-result : tie.Need-add-result
-add-result c = fits (sum# c) tt
-
-div-result : tie.Need-div-result
-div-result c = (above (c .before .pre .1) tt, fits (quotient# c) tt)
+sub-result : tie.Need-sub-result
+sub-result c = fits (signed# c) tt
 
 returns : tie.Need-returns
-returns c = is (quotient# c) tt ∙ half c .rounds
+returns c =
+    let p = divided c in
+    is (signed# c) tt ∙ mirror-signed (n c) (quotient p) ∙ ap (λ (q : ℕ). cond (ltZ (n c) (pos 0)) (negℤ (pos q)) (pos q)) (quotient-is p) ∙
+    round-signed (n c) (d p) (divisor-some (start p .pre .0))
 
 pub round-away-spec : {M : Type 1} → statement M
-round-away-spec = tie.close (tie.spec div-h sub-half add-result div-result returns)
+round-away-spec =
+    tie.close
+    (tie.spec
+    raised-requires
+    div-size
+    cast-size
+    mirrored-requires
+    sign-requires
+    sub-result
+    returns)

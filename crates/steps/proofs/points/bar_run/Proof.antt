@@ -1,4 +1,4 @@
--- `bar_run` meets its contract: each point has its two neighbours, and L of L by the values of L before, here and after.
+-- `bar_run` meets its contract: each point has the sum of its neighbours, and those on either side.
 use mathlib.Core.Path.{_≡_, ap, _∙_}
 use Prim.Native.Nat.{ℕ, _+_, _-_, _≤_, _<_}
 use native.Mathlib.Omega.{arith}
@@ -9,22 +9,21 @@ use lib.ListN.{length}
 use mir.Syntax.{w64}
 use mir.Val.{toZ, ofZ}
 use Rattle.bounded.proofs.Num.{back}
-use Rattle.bounded.proofs.Expr.{E, num, _⊞_, _⊟_, _⊠_, fits, is, red}
+use Rattle.bounded.proofs.Expr.{E, _⊞_, fits, is, red}
 use Rattle.scheme.specs.Instruments.{bar, kind}
 use Rattle.steps.specs.Plan.{Ready, Neighbouring}
-use Rattle.steps.specs.Run.{valueAt, OnLine, barLaplacian}
+use Rattle.steps.specs.Run.{valueAt, OnLine, barSum}
 use Rattle.steps.proofs.KindLaws.{line-long}
-use Rattle.steps.proofs.BesideLaws.{at#}
-use Rattle.steps.proofs.BendLaws.{bar#, bar-sum, bar-beside}
+use Rattle.steps.proofs.BendLaws.{bar#, bar-beside}
 use Rattle.steps.proofs.FillLaws.{placed-after, Running, running-start, running-on, running-stops, running-done, ran-fine}
 use Rattle.steps.proofs.points.bar_run.Statement.{statement}
 use Rattle.steps.proofs.points.bar_run.Tie as tie
 
--- the points before `at` are done; left is L before it, here is L at it
+-- the points before `at` are done; left is the sum before it, here the one at it
 abbrev Inv-loop : tie.InvT-loop
 Inv-loop plan older newer s out₀ at₀ left₀ here₀ out at left here =
     Running (valueAt (plan .instrument) (s .force) older newer) (s .write) (s .base) out₀ (s .from) (s .to) out at
-    × (toZ w64 left ≡ barLaplacian newer (at - 1)) × (toZ w64 here ≡ barLaplacian newer at)
+    × (toZ w64 left ≡ barSum newer (at - 1)) × (toZ w64 here ≡ barSum newer at)
 
 abbrev μ-loop : tie.MeasureT-loop
 μ-loop plan older newer s out₀ at₀ left₀ here₀ out at left here = s .to - at
@@ -47,9 +46,9 @@ module _ (s : tie.Start Inv-loop μ-loop) where
   room : s .args .s .to + 1 ≤ length (s .args .newer .now)
   room = omega (arith, ready .newer-long, line-long (s .args .plan .instrument .grid) (on .line), on .last)
 
-  -- L at a point
-  abbrev L : ℕ → ℤ
-  L = barLaplacian (s .args .newer .now)
+  -- the sum at a point
+  abbrev S : ℕ → ℤ
+  S = barSum (s .args .newer .now)
 
 -- a turn of the loop
 module _ (c : tie.Then1 Inv-loop μ-loop) where
@@ -76,8 +75,8 @@ module _ (c : tie.Then1 Inv-loop μ-loop) where
   inside : k + 1 < length (start .args .newer .now)
   inside = omega (arith, last, room start)
 
--- once L after the point is there
-module _ (c : tie.After-laplacian-at3 Inv-loop μ-loop) where
+-- once the sum after the point is there
+module _ (c : tie.After-sum-at3 Inv-loop μ-loop) where
   abbrev turn : tie.Then1 Inv-loop μ-loop
   turn = c .before
 
@@ -85,42 +84,32 @@ module _ (c : tie.After-laplacian-at3 Inv-loop μ-loop) where
   s = start turn
 
   -- as it was stored
-  right-is : toZ w64 (ofZ w64 (c .laplacian-at3 .result)) ≡ L s (k turn + 1)
-  right-is = back (c .laplacian-at3 .result) (c .laplacian-at3 .ok) ∙ c .laplacian-at3 .ensures
+  right-is : toZ w64 (ofZ w64 (c .sum-at3 .result)) ≡ S s (k turn + 1)
+  right-is = back (c .sum-at3 .result) (c .sum-at3 .ok) ∙ c .sum-at3 .ensures
 
-  -- the neighbours' sum and L of L, as the machine adds them
-  abbrev sum# : E
-  sum# =
-      bar# (s .args .newer .now) (ready s .newer-low) (k turn) (turn .before .before .loop .inv .2)
-      ⊞ num 2 ⊠ at# (s .args .newer .now) (ready s .newer-low) (k turn)
-
+  -- the sums on either side, as the machine adds them
   abbrev outer# : E
   outer# =
       bar# (s .args .newer .now) (ready s .newer-low) (k turn - 1) (turn .before .before .loop .inv .1)
       ⊞ bar# (s .args .newer .now) (ready s .newer-low) (k turn + 1) right-is
 
-  abbrev twice# : E
-  twice# = num 2 ⊠ bar# (s .args .newer .now) (ready s .newer-low) (k turn) (turn .before .before .loop .inv .2)
-
-  beside : Neighbouring (s .args .plan .instrument) (s .args .newer .now) (k turn) (red sum#) (pos 2) (red (outer# ⊟ twice#))
+  beside : Neighbouring (s .args .plan .instrument) (s .args .newer .now) (k turn) (toZ w64 (turn .before .before .loop .here)) (red outer#)
   beside =
-      let sum = is sum# tt ∙ bar-sum (s .args .newer .now) (k turn) (above turn) (inside turn) in
-      coe 1 0 (j. Neighbouring (s .args .plan .instrument) (s .args .newer .now) (k turn) (sum j) (pos 2) (is (outer# ⊟ twice#) tt j))
-      (bar-beside (s .args .plan .instrument) (is-bar s) (s .args .newer .now) (ready s .newer-long) (ready s .newer-low) (on s) (k turn)
-      (first turn) (last turn))
+      coe 1 0 (j. Neighbouring (s .args .plan .instrument) (s .args .newer .now) (k turn) (turn .before .before .loop .inv .2 j) (is outer# tt j))
+      (bar-beside (s .args .plan .instrument) (is-bar s) (s .args .newer .now) (ready s .newer-long) (on s) (k turn) (first turn) (last turn))
 
 -- once the point is done
-abbrev right : tie.After-out Inv-loop μ-loop → tie.After-laplacian-at3 Inv-loop μ-loop
-right c = c .before .before .before .before
+abbrev right : tie.After-out Inv-loop μ-loop → tie.After-sum-at3 Inv-loop μ-loop
+right c = c .before .before .before
 
-sub-laplacian-at : tie.Need-sub-laplacian-at Inv-loop μ-loop
-sub-laplacian-at c = on c .first
+sub-sum-at : tie.Need-sub-sum-at Inv-loop μ-loop
+sub-sum-at c = on c .first
 
-laplacian-at-requires : tie.Need-laplacian-at-requires Inv-loop μ-loop
-laplacian-at-requires c κs = (omega (arith, room c, c .pre .0 .1 .order), ready c .newer-low)
+sum-at-requires : tie.Need-sum-at-requires Inv-loop μ-loop
+sum-at-requires c κs = (omega (arith, room c, c .pre .0 .1 .order), ready c .newer-low)
 
-laplacian-at-requires-2 : tie.Need-laplacian-at-requires-2 Inv-loop μ-loop
-laplacian-at-requires-2 c κs =
+sum-at-requires-2 : tie.Need-sum-at-requires-2 Inv-loop μ-loop
+sum-at-requires-2 c κs =
     let s = c .before in (omega (arith, room s, s .pre .0 .1 .order), ready s .newer-low)
 
 loop-holds : tie.Need-loop-holds Inv-loop μ-loop
@@ -128,40 +117,22 @@ loop-holds c =
     let l = c .before in
     let p = l .before .pre .0 .1 in (
       running-start _ _ _ (p .above) (p .order),
-      back (l .laplacian-at .result) (l .laplacian-at .ok) ∙ l .laplacian-at .ensures,
-      back (c .laplacian-at2 .result) (c .laplacian-at2 .ok) ∙ c .laplacian-at2 .ensures,
+      back (l .sum-at .result) (l .sum-at .ok) ∙ l .sum-at .ensures,
+      back (c .sum-at2 .result) (c .sum-at2 .ok) ∙ c .sum-at2 .ensures,
     )
 
-add-laplacian-at : tie.Need-add-laplacian-at Inv-loop μ-loop
-add-laplacian-at c = let h = inside c in search needs
+add-sum-at : tie.Need-add-sum-at Inv-loop μ-loop
+add-sum-at c = let h = inside c in search needs
 
-laplacian-at-requires-3 : tie.Need-laplacian-at-requires-3 Inv-loop μ-loop
-laplacian-at-requires-3 c κs = (inside c, ready (start c) .newer-low)
+sum-at-requires-3 : tie.Need-sum-at-requires-3 Inv-loop μ-loop
+sum-at-requires-3 c κs = (inside c, ready (start c) .newer-low)
 
-mul-sum : tie.Need-mul-sum Inv-loop μ-loop
-mul-sum c = let h = inside (turn c) in search needs
-
-shared-slice-copy-out-sum : tie.Need-shared-slice-copy-out-sum Inv-loop μ-loop
-shared-slice-copy-out-sum c = omega (arith, inside (turn c))
-
-mul-sum-2 : tie.Need-mul-sum-2 Inv-loop μ-loop
-mul-sum-2 c = let r = c .before in fits (num 2 ⊠ at# (s r .args .newer .now) (ready (s r) .newer-low) (k (turn r))) tt
-
-add-sum : tie.Need-add-sum Inv-loop μ-loop
-add-sum c = fits (sum# (c .before)) tt
-
-add-b : tie.Need-add-b Inv-loop μ-loop
-add-b c = fits (outer# (c .before)) tt
-
-mul-b : tie.Need-mul-b Inv-loop μ-loop
-mul-b c = fits (twice# (c .before)) tt
-
-sub-b : tie.Need-sub-b Inv-loop μ-loop
-sub-b c = fits (outer# (c .before) ⊟ twice# (c .before)) tt
+add-next-point : tie.Need-add-next-point Inv-loop μ-loop
+add-next-point c = fits (outer# c) tt
 
 next-point-requires : tie.Need-next-point-requires Inv-loop μ-loop
 next-point-requires c κs =
-    let r = c .before .before in
+    let r = c .before in
     let t = turn r in
     let s = start t in
     ((ready s, beside r), (placed-after (s .pre .0 .1) (inv t .ran .long), first t, last t))
@@ -188,7 +159,7 @@ loop-again c =
     let before : k t ≡ k t + 1 - 1 = omega arith in (
       running-on (inv t) (omega arith) (omega (arith, last t))
           (ran-fine (not-false _ (c .if2 .left)) (c .before .before .next-point .ensures)),
-      t .before .before .loop .inv .2 ∙ ap (L (start t)) before,
+      t .before .before .loop .inv .2 ∙ ap (S (start t)) before,
       right-is r,
     )
 
@@ -204,19 +175,13 @@ bar-run-spec =
     (tie.spec
     Inv-loop
     μ-loop
-    sub-laplacian-at
-    laplacian-at-requires
-    laplacian-at-requires-2
+    sub-sum-at
+    sum-at-requires
+    sum-at-requires-2
     loop-holds
-    add-laplacian-at
-    laplacian-at-requires-3
-    mul-sum
-    shared-slice-copy-out-sum
-    mul-sum-2
-    add-sum
-    add-b
-    mul-b
-    sub-b
+    add-sum-at
+    sum-at-requires-3
+    add-next-point
     next-point-requires
     same-length
     returns

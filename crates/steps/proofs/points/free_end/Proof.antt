@@ -25,9 +25,9 @@ module _ (s : tie.Start) where
   twice# = at# (s .args .newer .now) (ready .newer-low) (s .args .near) ⊞ at# (s .args .newer .now) (ready .newer-low) (s .args .near)
 
   beside : s .args .s .from < s .args .s .to → Neighbouring (s .args .plan .instrument) (s .args .newer .now) (s .args .s .from)
-      (red twice#) (pos 2) (pos 0)
+      (red twice#) (pos 0)
   beside h =
-      said (λ (z : ℤ). Neighbouring (s .args .plan .instrument) (s .args .newer .now) (s .args .s .from) z (pos 2) (pos 0)) twice# tt
+      said (λ (z : ℤ). Neighbouring (s .args .plan .instrument) (s .args .newer .now) (s .args .s .from) z (pos 0)) twice# tt
       (end-beside (s .args .plan .instrument) (ready .planned .passes) (s .args .newer .now) free h)
 
 -- the point is there

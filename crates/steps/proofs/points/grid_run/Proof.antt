@@ -78,11 +78,11 @@ module _ (c : tie.Then1 Inv-loop μ-loop) where
 
 -- its neighbours, as they were stored
 beside : (c : tie.After-around Inv-loop μ-loop) → let t = c .before in
-    Neighbouring (start t .args .plan .instrument) (start t .args .newer .now) (k t) (toZ w64 (ofZ w64 (c .around .result))) (pos 4) (pos 0)
+    Neighbouring (start t .args .plan .instrument) (start t .args .newer .now) (k t) (toZ w64 (ofZ w64 (c .around .result))) (pos 0)
 beside c =
     let t = c .before in
     let s = start t in
-    subst (λ (z : ℤ). Neighbouring (s .args .plan .instrument) (s .args .newer .now) (k t) z (pos 4) (pos 0))
+    subst (λ (z : ℤ). Neighbouring (s .args .plan .instrument) (s .args .newer .now) (k t) z (pos 0))
     (sym (back (c .around .result) (c .around .ok) ∙ c .around .ensures))
     (grid-beside (s .args .plan .instrument) (ready s .planned .passes) (grid s) (s .pre .1 .1) (s .args .newer .now) (k t)
     (moves-here t))

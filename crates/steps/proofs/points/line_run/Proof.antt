@@ -69,11 +69,11 @@ module _ (c : tie.Then1 Inv-loop μ-loop) where
 
 -- its neighbours, as they were stored
 beside : (c : tie.After-beside Inv-loop μ-loop) → let t = c .before in
-    Neighbouring (start t .args .plan .instrument) (start t .args .newer .now) (k t) (toZ w64 (ofZ w64 (c .beside .result))) (pos 2) (pos 0)
+    Neighbouring (start t .args .plan .instrument) (start t .args .newer .now) (k t) (toZ w64 (ofZ w64 (c .beside .result))) (pos 0)
 beside c =
     let t = c .before in
     let s = start t in
-    subst (λ (z : ℤ). Neighbouring (s .args .plan .instrument) (s .args .newer .now) (k t) z (pos 2) (pos 0))
+    subst (λ (z : ℤ). Neighbouring (s .args .plan .instrument) (s .args .newer .now) (k t) z (pos 0))
     (sym (back (c .beside .result) (c .beside .ok) ∙ c .beside .ensures))
     (line-beside (s .args .plan .instrument) (ready s .planned .passes) (on s) (soft s) (s .args .newer .now) (k t) (first t) (last t))
 

@@ -1,26 +1,25 @@
 -- `next_point` meets its contract: its numerator is the scheme's, and so is the value that it is rounded to.
 use mathlib.Core.Path.{_≡_, sym, ap, _∙_, subst}
 use mathlib.Core.Bool.{not, Bool·not-not}
-use Prim.Native.Nat.{ℕ, _*_, _^_, _≤_}
+use Prim.Native.Nat.{ℕ, _*_, _^_, _≤_, _<_}
 use native.Mathlib.Omega.{arith}
 use borrow.Author.Needs.{needs}
-use lib.IntN.{ℤ, natAbs, _-ℤ_, _*ℤ_}
+use lib.IntN.{ℤ, pos, natAbs, _-ℤ_, _*ℤ_}
+use lib.ListN.{length}
 use mir.Syntax.{w64}
 use mir.Val.{toZ, ofZ}
-use Rattle.bounded.specs.Between.{Between}
 use Rattle.bounded.proofs.Num.{back}
-use Rattle.bounded.proofs.Expr.{E, at, is, said}
 use Rattle.types.specs.declared.Settings.{Settings}
 use Rattle.types.specs.Numbers.{ceiling}
 use Rattle.scheme.specs.Lists.{point}
 use Rattle.scheme.specs.Instruments.{beyond}
 use Rattle.scheme.specs.Step.{numeratorOf, roundAway, divisor}
-use Rattle.scheme.proofs.Laws.Ranges.{partial-sums}
-use Rattle.steps.specs.Plan.{Updatable, Ready, Neighbouring}
+use Rattle.scheme.proofs.Laws.Step.{moving-inside}
+use Rattle.steps.specs.Plan.{countOf, bendingOf, Updatable, Ready, Neighbouring}
 use Rattle.steps.specs.Run.{valueAt}
 use Rattle.steps.proofs.Held.{held, held-below}
 use Rattle.steps.proofs.FillLaws.{point-beyond, point-written, point-tested}
-use Rattle.steps.proofs.PlanLaws.{divisor-between}
+use Rattle.steps.proofs.NumeratorLaws.{numerator-below}
 use Rattle.steps.proofs.PointLaws.{updatable, value-is}
 use Rattle.steps.proofs.points.next_point.Statement.{statement}
 use Rattle.steps.proofs.points.next_point.Tie as tie
@@ -33,8 +32,15 @@ module _ (s : tie.Start) where
   ready : Ready (s .args .plan) (s .args .s .force) (s .args .older .now) (s .args .newer .now)
   ready = s .pre .0 .0
 
-  beside : Neighbouring (s .args .plan .instrument) (s .args .newer .now) (s .args .at) (s .args .sum) (s .args .count) (s .args .b)
+  beside : Neighbouring (s .args .plan .instrument) (s .args .newer .now) (s .args .at) (s .args .sum) (s .args .second)
   beside = s .pre .0 .1
+
+  -- the point is in both levels
+  in-newer : s .args .at < length (s .args .newer .now)
+  in-newer = omega (arith, ready .newer-long, moving-inside _ (s .args .at) (beside .moves))
+
+  in-older : s .args .at < length (s .args .older .now)
+  in-older = omega (arith, ready .older-long, moving-inside _ (s .args .at) (beside .moves))
 
   -- each number as the machine has it
   abbrev u : ℤ
@@ -46,7 +52,7 @@ module _ (s : tie.Start) where
   abbrev f : ℤ
   f = s .args .s .force
 
-  given : Updatable c u (s .args .sum) (s .args .count) (s .args .b) p f
+  given : Updatable (s .args .plan) u (s .args .sum) (s .args .second) p f
   given = updatable ready beside
 
   u-is : toZ w64 (ofZ w64 u) ≡ u
@@ -55,26 +61,23 @@ module _ (s : tie.Start) where
   sum-is : toZ w64 (ofZ w64 (s .args .sum)) ≡ s .args .sum
   sum-is = held-below (4 * ceiling) tt (given .sum-low)
 
-  count-is : toZ w64 (ofZ w64 (s .args .count)) ≡ s .args .count
-  count-is = held-below 4 tt (given .count-low)
-
-  b-is : toZ w64 (ofZ w64 (s .args .b)) ≡ s .args .b
-  b-is = held-below (64 * ceiling) tt (given .b-low)
+  second-is : toZ w64 (ofZ w64 (s .args .second)) ≡ s .args .second
+  second-is = held-below (16 * ceiling) tt (given .second-low)
 
   p-is : toZ w64 (ofZ w64 p) ≡ p
-  p-is = held (given .p-low)
+  p-is = held (given .older-low)
 
   f-is : toZ w64 (ofZ w64 f) ≡ f
   f-is = held (given .f-low)
 
+  abbrev count : ℤ
+  count = pos (countOf (s .args .plan .instrument .grid))
+
   abbrev numerator-there : ℤ
-  numerator-there = numeratorOf c u (s .args .sum -ℤ s .args .count *ℤ u) (s .args .b) p f
+  numerator-there = numeratorOf c u (s .args .sum -ℤ count *ℤ u) (bendingOf count (s .args .sum) (s .args .second) u) p f
 
   abbrev value : ℕ → ℤ
   value = valueAt (s .args .plan .instrument) f (s .args .older .now) (s .args .newer .now)
-
-  abbrev divisor# : E
-  divisor# = at (s .args .plan .divisor) (2 ^ 31) (divisor-between (ready .planned) .high)
 
 -- the numerator is the scheme's
 module _ (c : tie.After-numerator) where
@@ -88,8 +91,8 @@ module _ (c : tie.After-numerator) where
   numerator-is =
       let s = start in
       back (c .numerator .result) (c .numerator .ok) ∙ c .numerator .ensures ∙
-      (λ j. numeratorOf (s .args .plan .instrument .settings) (u-is s j) (sum-is s j -ℤ count-is s j *ℤ u-is s j) (b-is s j) (p-is s j)
-      (f-is s j))
+      (λ j. numeratorOf (s .args .plan .instrument .settings) (u-is s j) (sum-is s j -ℤ count s *ℤ u-is s j)
+      (bendingOf (count s) (sum-is s j) (second-is s j) (u-is s j)) (p-is s j) (f-is s j))
 
   -- what it is rounded to is the point's value
   rounded : roundAway stored (divisor (start .args .plan .instrument .settings)) ≡ value start (start .args .at)
@@ -97,7 +100,7 @@ module _ (c : tie.After-numerator) where
       ∙ value-is (ready start) (beside start)
 
   numerator-low : natAbs stored ≤ 2 ^ 62
-  numerator-low = subst (λ (z : ℤ). natAbs z ≤ 2 ^ 62) (sym numerator-is) (partial-sums _ _ _ _ _ _ (given start .terms) .five)
+  numerator-low = subst (λ (z : ℤ). natAbs z ≤ 2 ^ 62) (sym numerator-is) (numerator-below (ready start .planned) (given start))
 
 -- whether it lies beyond the ceiling
 module _ (c : tie.After-is-within) where
@@ -109,40 +112,38 @@ module _ (c : tie.After-is-within) where
       ap beyond (sym (rounded (c .before))) ∙ sym (Bool·not-not _) ∙ ap not (sym (c .is-within .ensures))
 
 mul-numerator : tie.Need-mul-numerator
-mul-numerator c = search needs
+mul-numerator c = let h = in-newer c in search needs
 
 shared-slice-copy-out-numerator : tie.Need-shared-slice-copy-out-numerator
-shared-slice-copy-out-numerator c = search needs
+shared-slice-copy-out-numerator c = in-newer c
 
 mul-numerator-2 : tie.Need-mul-numerator-2
-mul-numerator-2 c = search needs
+mul-numerator-2 c = let h = in-older (c .before) in search needs
 
 shared-slice-copy-out-numerator-2 : tie.Need-shared-slice-copy-out-numerator-2
-shared-slice-copy-out-numerator-2 c = search needs
+shared-slice-copy-out-numerator-2 c = in-older (c .before)
 
 numerator-requires : tie.Need-numerator-requires
 numerator-requires c κs =
     let s = c .before .before .before in (
       ready s .planned,
-      coe 1 0 (j. Updatable (s .args .plan .instrument .settings) (u-is s j) (sum-is s j) (count-is s j) (b-is s j) (p-is s j) (f-is s j))
-          (given s),
+      coe 1 0 (j. Updatable (s .args .plan) (u-is s j) (sum-is s j) (second-is s j) (p-is s j) (f-is s j)) (given s),
     )
 
 is-within-requires : tie.Need-is-within-requires
-is-within-requires c κs = search needs
+is-within-requires c κs = (ready (start c) .planned, numerator-low c)
 
 returns : tie.Need-returns
 returns c = point-beyond _ _ (beyond-is (c .before) ∙ c .if1 .taken)
 
 round-away-requires : tie.Need-round-away-requires
-round-away-requires c κs = let n = c .before .before .before .before in
-    (numerator-low n, said (Between 1 (2 ^ 31)) (divisor# (start n)) tt (divisor-between (ready (start n) .planned)))
+round-away-requires c κs = let n = c .before .before .before in (ready (start n) .planned, numerator-low n)
 
-sub-t20 : tie.Need-sub-t20
-sub-t20 c = search needs
+sub-t19 : tie.Need-sub-t19
+sub-t19 c = search needs
 
-mul-t21 : tie.Need-mul-t21
-mul-t21 c = search needs
+mul-t20 : tie.Need-mul-t20
+mul-t20 c = search needs
 
 slice-set-from-out : tie.Need-slice-set-from-out
 slice-set-from-out c = search needs
@@ -152,13 +153,12 @@ same-length c = search needs
 
 returns-2 : tie.Need-returns-2
 returns-2 c =
-    let w = c .before .before .before .before .before in
+    let w = c .before .before .before .before in
     let n = w .before in
     let s = start n in
-    point-written _ _ _ (c .before .before .before .if2 .taken) (omega (arith, s .pre .1)) (omega (arith, s .pre .1))
-    (back (c .before .round-away .result) (c .before .round-away .ok) ∙ c .before .round-away .ensures ∙
-    ap (λ (d : ℤ). roundAway (stored n) (natAbs d)) (is (divisor# s) tt ∙ ready s .planned .divisor-is) ∙ rounded n)
-    (beyond-is w ∙ c .before .before .before .before .if1 .left)
+    point-written _ _ _ (c .before .before .if2 .taken) (omega (arith, s .pre .1)) (omega (arith, s .pre .1))
+    (back (c .before .round-away .result) (c .before .round-away .ok) ∙ c .before .round-away .ensures ∙ rounded n)
+    (beyond-is w ∙ c .before .before .before .if1 .left)
 
 returns-3 : tie.Need-returns-3
 returns-3 c = point-tested _ _ (c .if2 .left) (beyond-is (c .before .before) ∙ c .before .if1 .left)
@@ -175,8 +175,8 @@ next-point-spec =
     is-within-requires
     returns
     round-away-requires
-    sub-t20
-    mul-t21
+    sub-t19
+    mul-t20
     slice-set-from-out
     same-length
     returns-2

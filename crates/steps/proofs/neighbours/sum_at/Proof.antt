@@ -1,0 +1,40 @@
+-- `sum_at` meets its contract: an end, or a point between its two neighbours.
+use mathlib.Core.Path.{_≡_, sym, ap, _∙_}
+use mathlib.Core.Bool.{Bool, cond}
+use mathlib.Core.Logic.{inl, inr}
+use borrow.Author.Needs.{needs}
+use borrow.Author.Tests.{ne-eqb}
+use lib.IntN.{pos}
+use lib.ListN.{length}
+use Rattle.bounded.proofs.Num.{back}
+use Rattle.scheme.specs.Instruments.{atEdge}
+use Rattle.scheme.proofs.Laws.Bools.{neither-or}
+use Rattle.steps.specs.Run.{twoBeside, barSum}
+use Rattle.steps.proofs.KindLaws.{at-edge}
+use Rattle.steps.proofs.neighbours.sum_at.Statement.{statement}
+use Rattle.steps.proofs.neighbours.sum_at.Tie as tie
+
+-- the value, by whether the point is an end
+value : (c : tie.Start) {t : Bool} → atEdge (length (c .args .xs .now)) (c .args .k) ≡ t
+    → cond t (pos 0) (twoBeside (c .args .xs .now) (c .args .k)) ≡ barSum (c .args .xs .now) (c .args .k)
+value c e = sym (ap (λ (t : Bool). cond t (pos 0) (twoBeside (c .args .xs .now) (c .args .k))) e)
+
+returns : tie.Need-returns
+returns c = value (c .before) (at-edge _ _ (inl (c .if1 .taken)))
+
+add-if2 : tie.Need-add-if2
+add-if2 c = search needs
+
+returns-2 : tie.Need-returns-2
+returns-2 c = value (c .before .before) (at-edge _ _ (inr (c .if2 .taken)))
+
+beside-requires : tie.Need-beside-requires
+beside-requires c κs = search needs
+
+returns-3 : tie.Need-returns-3
+returns-3 c =
+    let s = c .before .before .before in
+    back (c .beside .result) (c .beside .ok) ∙ c .beside .ensures ∙ value s (neither-or (ne-eqb _ 0 (c .before .before .if1 .left)) (ne-eqb _ _ (c .before .if2 .left)))
+
+pub sum-at-spec : {M : Type 1} → statement M
+sum-at-spec = tie.close (tie.spec returns add-if2 returns-2 beside-requires returns-3)
