@@ -6,13 +6,12 @@
 -- `raw e` is what the last step of e computes, in the machine's terms, and `red e` is that,
 -- stored and read back. `val e` is the number that is meant, and `cap e` bounds it.
 -- `fits e tt` answers a need, and `is e tt` says what came out. The `tt` is checked by computing `ok e`: no step's bound passes the width.
-use mathlib.Core.Path.{_≡_, sym, ap, _∙_, subst}
+use mathlib.Core.Path.{_≡_, sym, subst}
 use mathlib.Core.Bool.{Bool, _&&_}
 use Prim.Native.Nat.{ℕ, _+_, _*_, _^_, _≤_}
-use native.Mathlib.Nat.{le-trans}
-use lib.Dec.{T, ltb, leb, leb→le}
+use lib.Dec.{T, ltb}
 use lib.IntN.{ℤ, pos, natAbs, _+ℤ_, _-ℤ_, _*ℤ_}
-use lib.Signed.{quotZ, shrZ, ltZ}
+use lib.Signed.{quotZ, shrZ}
 use mir.Facts.{and-yes}
 use mir.Syntax.{w64}
 use mir.Val.{SFits, toZ, ofZ}
@@ -131,18 +130,6 @@ size e t = good e t .size
 -- what holds of the number that is meant holds of it as the machine has it
 pub said : (P : ℤ → Type 0) (e : E) → T (ok e) → P (val e) → P (red e)
 said P e t h = subst P (sym (is e t)) h
-
--- the machine's number is at most B, where what is computed for it is
-pub bounded : (e : E) (B : ℕ) → T (ok e) → T (leb (cap e) B) → natAbs (red e) ≤ B
-bounded e B t l = said (λ (z : ℤ). natAbs z ≤ B) e t (le-trans (size e t) (leb→le (cap e) B l))
-
--- a local that two branches set, by the bits that one of them stored
-pub from-bits : (e : E) → T (ok e) → {b : ℕ} → b ≡ ofZ w64 (raw e) → Num (toZ w64 b) (val e) (cap e)
-from-bits e t p = record { is = ap (toZ w64) p ∙ N.kept (step e t) (under e t) .is; size = size e t }
-
--- what a test found of the numbers as the machine has them, said of the numbers
-pub lt-said : (a b : E) → T (ok a) → T (ok b) → {t : Bool} → ltZ (red a) (red b) ≡ t → ltZ (val a) (val b) ≡ t
-lt-said a b p q {t} e = subst (λ (x : ℤ). ltZ x (val b) ≡ t) (is a p) (subst (λ (y : ℤ). ltZ (red a) y ≡ t) (is b q) e)
 
 -- a product with a bound of one's own, where the computed one is too large: as the machine makes it, and stored
 pub product : (a b : E) (B : ℕ) → T (ok a) → T (ok b) → natAbs (val a *ℤ val b) ≤ B → Num (red a *ℤ red b) (val a *ℤ val b) B

@@ -6,7 +6,7 @@
 -- since B is a numeral wherever the bounds of what goes in are numerals.
 use mathlib.Core.Path.{_≡_, refl, sym, ap, _∙_, subst}
 use Prim.Native.Nat.{ℕ, _+_, _*_, _^_, _≤_, _<_}
-use native.Mathlib.Nat.{le-refl, le-trans, div-le-self, mul-le-mul, lt-of-lt-of-le}
+use native.Mathlib.Nat.{le-refl, le-trans, div-le-self, mul-le-mul}
 use native.Mathlib.Omega.{arith}
 use lib.Dec.{T, ltb, ltb→lt}
 use lib.IntN.{ℤ, pos, natAbs, _+ℤ_, _-ℤ_, _*ℤ_}
@@ -15,21 +15,11 @@ use mir.Syntax.{w16, w64}
 use mir.Val.{SFits, toZ, ofZ}
 use mir.ValLaws.{toZ-ofZ}
 use Rattle.integers.proofs.Size.{size-add, size-minus, size-mul}
-use Rattle.bounded.specs.Between.{Between}
 use Rattle.bounded.proofs.Size.{size-quot, size-shr, mag-size}
 
 pub record Num (r z : ℤ) (B : ℕ) : Type 0 where
   pub is : r ≡ z
   pub size : natAbs z ≤ B
-
--- ---- numbers that are not negative
-
-pub between : (n : ℕ) {lo hi : ℕ} → lo ≤ n → n ≤ hi → Between lo hi (pos n)
-between n l h = record { is = refl; low = l; high = h }
-
--- the bits of a divisor are not 0
-pub above : {lo hi : ℕ} {z : ℤ} → Between lo hi z → T (ltb 0 lo) → 0 < ofZ w64 z
-above {lo} {hi} {z} w t = subst (λ (v : ℤ). 0 < ofZ w64 v) (sym (w .is)) (lt-of-lt-of-le (ltb→lt 0 lo t) (w .low))
 
 -- ---- what goes in
 

@@ -6,5 +6,4 @@ pub mod Kinds
 pub mod Neighbours
 pub mod Step
 pub mod Refusals
-pub mod Ranges
 pub mod Calls

@@ -3,7 +3,6 @@
 pub mod Lists
 pub mod Instruments
 pub mod Step
-pub mod Ranges
 pub mod Pluck
 pub mod Refusals
 pub mod Calls

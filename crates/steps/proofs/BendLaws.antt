@@ -18,10 +18,9 @@ use Rattle.types.specs.Numbers.{ceiling}
 use Rattle.scheme.specs.Lists.{point}
 use Rattle.scheme.specs.Instruments.{Kind, bar, kind, points, column, row, atEdge, fixedIn, fixed, moving}
 use Rattle.scheme.specs.Step.{neighbours}
-use Rattle.scheme.specs.Ranges.{AtMost}
 use Rattle.scheme.proofs.Laws.Bools.{or-neither, neither-or}
 use Rattle.scheme.proofs.Laws.Neighbours.{line-inner}
-use Rattle.steps.specs.Plan.{innerSum, Neighbouring}
+use Rattle.steps.specs.Plan.{AtMost, innerSum, Neighbouring}
 use Rattle.steps.specs.Run.{OnLine, twoBeside, barSum}
 use Rattle.steps.proofs.KindLaws.{line-long}
 use Rattle.steps.proofs.BesideLaws.{beside#, sum-two}

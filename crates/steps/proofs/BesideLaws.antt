@@ -6,7 +6,7 @@ use mathlib.Core.Logic.{_⊎_, inl, inr}
 use Prim.Native.Nat.{ℕ, _+_, _-_, _*_, _≤_, _<_, zero-le}
 use native.Mathlib.Decide.{ℕ-discrete}
 use native.Mathlib.Omega.{arith}
-use lib.IntN.{ℤ, pos, _+ℤ_, _-ℤ_, _*ℤ_, zero-*ℤ}
+use lib.IntN.{ℤ, pos, _+ℤ_}
 use lib.ListN.{length}
 use Rattle.integers.specs.Sum.{sumOver}
 use Rattle.integers.proofs.Ring.{#_, _⊕_, _≈_, ring}
@@ -16,12 +16,10 @@ use Rattle.types.specs.declared.Instrument.{Instrument}
 use Rattle.types.specs.Numbers.{ceiling}
 use Rattle.scheme.specs.Lists.{point}
 use Rattle.scheme.specs.Instruments.{bar, kind, points, inTable, moving}
-use Rattle.scheme.specs.Step.{neighbours, laplacian, biharmonic}
+use Rattle.scheme.specs.Step.{neighbours}
 use Rattle.scheme.specs.Passing.{InstrumentPasses}
-use Rattle.scheme.specs.Ranges.{AtMost}
 use Rattle.scheme.proofs.Laws.Neighbours.{line-inner, line-first, line-last, grid-inner, grid-above, grid-below}
-use Rattle.scheme.proofs.Laws.Step.{moving-inside}
-use Rattle.steps.specs.Plan.{countOf, Neighbouring}
+use Rattle.steps.specs.Plan.{AtMost, countOf, Neighbouring}
 use Rattle.steps.specs.Run.{Moves, OnLine, FreeEnd, clamp, twoBeside, fourBeside}
 use Rattle.steps.proofs.KindLaws.{Edge, two-of, four-of, line-long, wide, line-stiff, line-in, line-free, bar-inner, grid-free, grid-in}
 use Rattle.steps.proofs.StretchLaws.{clamp-before, clamp-inside, clamp-after}
@@ -38,13 +36,6 @@ module _ (xs : List ℤ) (low : AtMost ceiling (point xs)) where
   -- that sum, as a function answered it
   abbrev pub two# : (k : ℕ) {r : ℤ} → r ≡ twoBeside xs k → E
   two# k {r} e = via {r = r} {z = twoBeside xs k} {B = 2 * ceiling} (record { is = e; size = size (beside# k) tt })
-
-  -- the sum of all four around one, as a function answered it
-  abbrev pub around# : (columns k : ℕ) {r : ℤ} → r ≡ fourBeside xs columns k → E
-  around# columns k {r} e = via {r = r} {z = fourBeside xs columns k} {B = 4 * ceiling} (record {
-    is = e;
-    size = size (beside# k ⊞ at# (k - columns) ⊞ at# (k + columns)) tt;
-  })
 
 -- ---- the sum over two and over four neighbours
 

@@ -14,7 +14,7 @@ use Rattle.types.specs.Numbers.{D, ceiling}
 use Rattle.scheme.specs.Instruments.{kind, points}
 use Rattle.scheme.specs.Step.{divisor}
 use Rattle.scheme.proofs.Laws.Kinds.{degree-within, Sized, sized, stable-means}
-use Rattle.scheme.proofs.Laws.Ranges.{coefficients-small}
+use Rattle.scheme.proofs.Laws.Refusals.{coefficients-small}
 use Rattle.steps.specs.declared.plan.Plan.{Plan}
 use Rattle.steps.specs.Plan.{countOf, Planned}
 use Rattle.steps.proofs.KindLaws.{count-degree}

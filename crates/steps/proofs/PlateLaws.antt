@@ -17,12 +17,11 @@ use Rattle.types.specs.Numbers.{ceiling}
 use Rattle.scheme.specs.Lists.{point}
 use Rattle.scheme.specs.Instruments.{inTable, moving}
 use Rattle.scheme.specs.Step.{neighbours}
-use Rattle.scheme.specs.Ranges.{AtMost}
 use Rattle.steps.specs.declared.plan.Plan.{Plan}
 use Rattle.steps.specs.declared.plates.SumRows.{SumRows}
-use Rattle.steps.specs.Plan.{innerSum, Ready, Neighbouring}
+use Rattle.steps.specs.Plan.{AtMost, innerSum, Ready, Neighbouring}
 use Rattle.steps.specs.Run.{Filled, Moves, fourBeside}
-use Rattle.steps.specs.Plates.{SumRow, TwoRows, InRow, Readable, secondAt}
+use Rattle.steps.specs.Plates.{TwoRows, InRow, Readable, secondAt}
 use Rattle.steps.proofs.KindLaws.{count-few}
 use Rattle.steps.proofs.BesideLaws.{sum-four, around-neighbours}
 use Rattle.steps.proofs.PointLaws.{inner-low}

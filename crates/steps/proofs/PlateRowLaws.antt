@@ -17,15 +17,13 @@ use Rattle.types.specs.declared.Hit.{Hit}
 use Rattle.types.specs.Numbers.{ceiling}
 use Rattle.scheme.specs.Lists.{point}
 use Rattle.scheme.specs.Instruments.{Kind, plate, kind, points, inTable, moving}
-use Rattle.scheme.specs.Ranges.{AtMost}
 use Rattle.scheme.proofs.Laws.Bools.{neither-or}
-use Rattle.kinds.specs.declared.runs.Run.{Run}
 use Rattle.kinds.specs.Runs.{run, runIn, innerRun, runOf}
 use Rattle.kinds.proofs.RunLaws.{run-is}
 use Rattle.levels.proofs.LevelLaws.{next-row}
 use Rattle.steps.specs.declared.plan.Plan.{Plan}
 use Rattle.steps.specs.declared.plates.SumRows.{SumRows}
-use Rattle.steps.specs.Plan.{innerSum}
+use Rattle.steps.specs.Plan.{AtMost, innerSum}
 use Rattle.steps.specs.Run.{Filled, Stepping, fourBeside}
 use Rattle.steps.specs.Roles.{Steppable, Stepped}
 use Rattle.steps.specs.Plates.{SumRow, TwoRows, InRow}
@@ -108,204 +106,204 @@ pub record PlateRows (i : Instrument) (h : Hit) (older newer out₀ out sums : L
   pub low : AtMost (4 * ceiling) (point sums)
 
 module _ {p : Plan} {h : Hit} {older newer out₀ : List ℤ} (s : Steppable p h older newer out₀) (is-plate : kind (p .instrument .grid) ≡ plate)
-    where
-  abbrev i : Instrument
-  i = p .instrument
+  where
+    abbrev i : Instrument
+    i = p .instrument
 
-  abbrev g : Grid
-  g = i .grid
+    abbrev g : Grid
+    g = i .grid
 
-  size : inTable g ≡ true
-  size = s .planned .passes .size
+    size : inTable g ≡ true
+    size = s .planned .passes .size
 
-  abbrev S : ℕ → ℤ
-  S = innerSum g (point newer)
+    abbrev S : ℕ → ℤ
+    S = innerSum g (point newer)
 
-  pub some-columns : 3 ≤ g .columns
-  some-columns = wide g size
+    pub some-columns : 3 ≤ g .columns
+    some-columns = wide g size
 
-  pub some-rows : 3 ≤ g .rows
-  some-rows = plate-sized g size is-plate .1
+    pub some-rows : 3 ≤ g .rows
+    some-rows = plate-sized g size is-plate .1
 
-  pub few-columns : g .columns ≤ 64
-  few-columns = plate-sized g size is-plate .0
+    pub few-columns : g .columns ≤ 64
+    few-columns = plate-sized g size is-plate .0
 
-  grid : g .rows ≡ 1 → ⊥
-  grid e = omega (arith, some-rows)
+    grid : g .rows ≡ 1 → ⊥
+    grid e = omega (arith, some-rows)
 
-  -- a row that is passed over: nothing of it moves
-  ring-more : {out : List ℤ} {row start : ℕ} → Rows i h older newer out₀ out row start → row < g .rows → Edge (g .rows) row
-      → Rows i h older newer out₀ out (row + 1) (start + g .columns)
-  ring-more {out} {row} {start} l m e = rows-more s l m (run 0 0) (ring-run g size is-plate row m e) (ran-none out (start + 0))
+    -- a row that is passed over: nothing of it moves
+    ring-more : {out : List ℤ} {row start : ℕ} → Rows i h older newer out₀ out row start → row < g .rows → Edge (g .rows) row
+        → Rows i h older newer out₀ out (row + 1) (start + g .columns)
+    ring-more {out} {row} {start} l m e = rows-more s l m (run 0 0) (ring-run g size is-plate row m e) (ran-none out (start + 0))
 
-  -- the sum at either end of a row
-  left-zero : (row : ℕ) → row < g .rows → (k : ℕ) → row * g .columns ≡ k → S k ≡ pos 0
-  left-zero row m k e = sum-still g (point newer) k (subst (λ (k : ℕ). moving g k ≡ false) e (ends-still g size is-plate row m .0))
+    -- the sum at either end of a row
+    left-zero : (row : ℕ) → row < g .rows → (k : ℕ) → row * g .columns ≡ k → S k ≡ pos 0
+    left-zero row m k e = sum-still g (point newer) k (subst (λ (k : ℕ). moving g k ≡ false) e (ends-still g size is-plate row m .0))
 
-  right-zero : (row : ℕ) → row < g .rows → (k : ℕ) → row * g .columns + (g .columns - 1) ≡ k → S k ≡ pos 0
-  right-zero row m k e = sum-still g (point newer) k (subst (λ (k : ℕ). moving g k ≡ false) e (ends-still g size is-plate row m .1))
+    right-zero : (row : ℕ) → row < g .rows → (k : ℕ) → row * g .columns + (g .columns - 1) ≡ k → S k ≡ pos 0
+    right-zero row m k e = sum-still g (point newer) k (subst (λ (k : ℕ). moving g k ≡ false) e (ends-still g size is-plate row m .1))
 
-  -- ---- before the first inner row: the sums of the ring's first row are 0, and those of the row are put
+    -- ---- before the first inner row: the sums of the ring's first row are 0, and those of the row are put
 
-  pub three-rows : g .columns + g .columns + g .columns ≤ length newer
-  three-rows = omega (arith, s .newer-passes .long, N.mul-le-mul-left (g .columns) some-rows)
+    pub three-rows : g .columns + g .columns + g .columns ≤ length newer
+    three-rows = omega (arith, s .newer-passes .long, N.mul-le-mul-left (g .columns) some-rows)
 
-  module _ (sums : List ℤ) (zeros : (j : ℕ) → point sums j ≡ pos 0) (long : length sums ≡ 128) where
-    first-zero : (c : ℕ) → c < g .columns → S (g .columns - g .columns + c) ≡ pos 0
-    first-zero c l = sum-still g (point newer) (g .columns - g .columns + c)
-        (ring-still g size is-plate 0 (omega (arith, some-rows)) (inl refl) (g .columns - g .columns + c) (omega arith) (omega arith))
+    module _ (sums : List ℤ) (zeros : (j : ℕ) → point sums j ≡ pos 0) (long : length sums ≡ 128) where
+      first-zero : (c : ℕ) → c < g .columns → S (g .columns - g .columns + c) ≡ pos 0
+      first-zero c l = sum-still g (point newer) (g .columns - g .columns + c)
+          (ring-still g size is-plate 0 (omega (arith, some-rows)) (inl refl) (g .columns - g .columns + c) (omega arith) (omega arith))
 
-    module _ {sums′ : List ℤ}
-        (f : Filled (λ j. fourBeside newer (g .columns) (g .columns + (j - 64))) true 0 sums sums′ (64 + 1) (64 + (g .columns - 1))) where
-      -- a place that was passed over
-      kept : (j : ℕ) → (j < 65) ⊎ (64 + (g .columns - 1) ≤ j) → point sums′ j ≡ pos 0
-      kept j o = f .kept j (inr (go o)) ∙ zeros j
+      module _ {sums′ : List ℤ}
+          (f : Filled (λ j. fourBeside newer (g .columns) (g .columns + (j - 64))) true 0 sums sums′ (64 + 1) (64 + (g .columns - 1))) where
+        -- a place that was passed over
+        kept : (j : ℕ) → (j < 65) ⊎ (64 + (g .columns - 1) ≤ j) → point sums′ j ≡ pos 0
+        kept j o = f .kept j (inr (go o)) ∙ zeros j
+          where
+            go : (j < 65) ⊎ (64 + (g .columns - 1) ≤ j) → (j + 0 < 64 + 1) ⊎ (64 + (g .columns - 1) ≤ j + 0)
+            go (inl l) = inl (omega arith)
+            go (inr l) = inr (omega arith)
+
+        -- a sum between the ends of the first inner row
+        between : (c : ℕ) → 1 ≤ c → c < g .columns - 1 → fourBeside newer (g .columns) (g .columns + c) ≡ S (g .columns + c)
+        between c a b =
+            let one = N.one-mul (g .columns) in
+            let w = inner-columns g size is-plate 1 (omega (arith, some-rows)) (omega arith) (omega (arith, some-rows)) in
+            sum-around g (point newer) size grid (g .columns + c) (w .moves (g .columns + c) (omega arith) (omega arith))
+
+        put : (c : ℕ) → c < g .columns → point sums′ (64 + c) ≡ S (g .columns + c)
+        put c l = go (decLt 0 c) (decLt c (g .columns - 1))
+          where
+            one : 1 * g .columns ≡ g .columns
+            one = N.one-mul (g .columns)
+
+            go : Dec (0 < c) → Dec (c < g .columns - 1) → point sums′ (64 + c) ≡ S (g .columns + c)
+            go (no a) b = kept (64 + c) (inl (omega (arith, a))) ∙ sym (left-zero 1 (omega (arith, some-rows)) (g .columns + c) (omega (arith, a, one)))
+            go (yes a) (no b) =
+                kept (64 + c) (inr (omega (arith, b))) ∙ sym (right-zero 1 (omega (arith, some-rows)) (g .columns + c) (omega (arith, b, one)))
+            go (yes a) (yes b) =
+                ap (point sums′) (sym (N.sub-zero (64 + c))) ∙ f .written refl (64 + c) (omega arith) (omega arith) ∙
+                ap (λ (n : ℕ). fourBeside newer (g .columns) (g .columns + n)) (omega arith) ∙ between c a b
+
+        small : (j : ℕ) → 65 ≤ j → j < 64 + (g .columns - 1) → natAbs (fourBeside newer (g .columns) (g .columns + (j - 64))) ≤ 4 * ceiling
+        small j a b = subst (λ (z : ℤ). natAbs z ≤ 4 * ceiling) (sym (between (j - 64) (omega arith) (omega arith)))
+            (sum-low (steppable-ready s) (g .columns + (j - 64)))
+
+        pub plate-start : PlateRows i h older newer out₀ out₀ sums′ 0 64 1 (g .columns)
+        plate-start = record {
+          rows = subst (Rows i h older newer out₀ out₀ 1) (N.zero-add (g .columns))
+              (ring-more (rows-start i h older newer out₀) (omega (arith, some-rows)) (inl refl));
+          some = omega arith;
+          upto = omega (arith, some-rows);
+          turning = zeroth;
+          long = f .long ∙ long;
+          above-row = record {
+            room = omega (arith, few-columns, f .long, long);
+            each = λ c l. kept (0 + c) (inl (omega (arith, few-columns))) ∙ sym (first-zero c l);
+          };
+          here-row = record { room = omega (arith, few-columns, f .long, long); each = put };
+          low = put-low f small (λ j. subst (λ (z : ℤ). natAbs z ≤ 4 * ceiling) (sym (zeros j)) zero-le);
+        }
+
+    -- ---- a row
+
+    module _ {out sums : List ℤ} {other here row start : ℕ} (t : PlateRows i h older newer out₀ out sums other here row start)
+        (l : row + 1 < g .rows) where
+      in-grid : row < g .rows
+      in-grid = omega arith
+
+      -- its run
+      columns-run : run 1 (g .columns - 1) ≡ runOf g row
+      columns-run = inner-run g size is-plate row in-grid (t .some) l
+
+      -- where its sums stand
+      abbrev pub here-now : SumRows
+      here-now = record { start = start; here = here; other = other; last = eqb (row + 1) (g .rows - 1) }
+
+      -- the row lies in the level
+      pub in-level : start + g .columns ≤ points g
+      in-level = row-room s (t .rows) in-grid (run 1 (g .columns - 1)) columns-run
+
+      -- the rows above and below
+      high : g .columns ≤ start
+      high = omega (arith, t .rows .start-is, N.mul-le-mul-right (g .columns) (t .some), N.one-mul (g .columns))
+
+      above-start : (row - 1) * g .columns ≡ start - g .columns
+      above-start =
+          let one : row - 1 + 1 ≡ row = omega (arith, t .some) in
+          omega (arith, next-row (row - 1) (g .columns), ap (λ (n : ℕ). n * g .columns) one, t .rows .start-is)
+
+      below-start : (row + 1) * g .columns ≡ start + g .columns
+      below-start = sym (ap (λ (n : ℕ). n + g .columns) (t .rows .start-is) ∙ next-row row (g .columns))
+
+      below-moves : (k : ℕ) → start + 1 ≤ k → k < start + (g .columns - 1) → moving g (k + g .columns) ≡ not (eqb (row + 1) (g .rows - 1))
+      below-moves k a b = go (ℕ-discrete (row + 1) (g .rows - 1))
         where
-          go : (j < 65) ⊎ (64 + (g .columns - 1) ≤ j) → (j + 0 < 64 + 1) ⊎ (64 + (g .columns - 1) ≤ j + 0)
-          go (inl l) = inl (omega arith)
-          go (inr l) = inr (omega arith)
+          go : Dec (row + 1 ≡ g .rows - 1) → moving g (k + g .columns) ≡ not (eqb (row + 1) (g .rows - 1))
+          go (yes e) =
+              ring-still g size is-plate (row + 1) l (inr (omega (arith, some-rows))) (k + g .columns) (omega (arith, below-start))
+              (omega (arith, below-start)) ∙ sym (ap not (eq-eqb (row + 1) (g .rows - 1) e))
+          go (no n) =
+              let w = inner-columns g size is-plate (row + 1) l (omega arith) (omega (arith, n)) in
+              w .moves (k + g .columns) (omega (arith, below-start)) (omega (arith, below-start)) ∙
+              sym (ap not (ne-eqb (row + 1) (g .rows - 1) n))
 
-      -- a sum between the ends of the first inner row
-      between : (c : ℕ) → 1 ≤ c → c < g .columns - 1 → fourBeside newer (g .columns) (g .columns + c) ≡ S (g .columns + c)
-      between c a b =
-          let one = N.one-mul (g .columns) in
-          let w = inner-columns g size is-plate 1 (omega (arith, some-rows)) (omega arith) (omega (arith, some-rows)) in
-          sum-around g (point newer) size grid (g .columns + c) (w .moves (g .columns + c) (omega arith) (omega arith))
-
-      put : (c : ℕ) → c < g .columns → point sums′ (64 + c) ≡ S (g .columns + c)
-      put c l = go (decLt 0 c) (decLt c (g .columns - 1))
-        where
-          one : 1 * g .columns ≡ g .columns
-          one = N.one-mul (g .columns)
-
-          go : Dec (0 < c) → Dec (c < g .columns - 1) → point sums′ (64 + c) ≡ S (g .columns + c)
-          go (no a) b = kept (64 + c) (inl (omega (arith, a))) ∙ sym (left-zero 1 (omega (arith, some-rows)) (g .columns + c) (omega (arith, a, one)))
-          go (yes a) (no b) =
-              kept (64 + c) (inr (omega (arith, b))) ∙ sym (right-zero 1 (omega (arith, some-rows)) (g .columns + c) (omega (arith, b, one)))
-          go (yes a) (yes b) =
-              ap (point sums′) (sym (N.sub-zero (64 + c))) ∙ f .written refl (64 + c) (omega arith) (omega arith) ∙
-              ap (λ (n : ℕ). fourBeside newer (g .columns) (g .columns + n)) (omega arith) ∙ between c a b
-
-      small : (j : ℕ) → 65 ≤ j → j < 64 + (g .columns - 1) → natAbs (fourBeside newer (g .columns) (g .columns + (j - 64))) ≤ 4 * ceiling
-      small j a b = subst (λ (z : ℤ). natAbs z ≤ 4 * ceiling) (sym (between (j - 64) (omega arith) (omega arith)))
-          (sum-low (steppable-ready s) (g .columns + (j - 64)))
-
-      pub plate-start : PlateRows i h older newer out₀ out₀ sums′ 0 64 1 (g .columns)
-      plate-start = record {
-        rows = subst (Rows i h older newer out₀ out₀ 1) (N.zero-add (g .columns))
-            (ring-more (rows-start i h older newer out₀) (omega (arith, some-rows)) (inl refl));
-        some = omega arith;
-        upto = omega (arith, some-rows);
-        turning = zeroth;
-        long = f .long ∙ long;
-        above-row = record {
-          room = omega (arith, few-columns, f .long, long);
-          each = λ c l. kept (0 + c) (inl (omega (arith, few-columns))) ∙ sym (first-zero c l);
-        };
-        here-row = record { room = omega (arith, few-columns, f .long, long); each = put };
-        low = put-low f small (λ j. subst (λ (z : ℤ). natAbs z ≤ 4 * ceiling) (sym (zeros j)) zero-le);
+      pub in-row : InRow g here-now (start + 1) (start + (g .columns - 1))
+      in-row = record {
+        grid = grid;
+        moves = run-moves s (t .rows) in-grid (run 1 (g .columns - 1)) columns-run;
+        first = omega arith;
+        last = omega (arith, some-columns);
+        below = below-moves;
       }
 
-  -- ---- a row
-
-  module _ {out sums : List ℤ} {other here row start : ℕ} (t : PlateRows i h older newer out₀ out sums other here row start)
-      (l : row + 1 < g .rows) where
-    in-grid : row < g .rows
-    in-grid = omega arith
-
-    -- its run
-    columns-run : run 1 (g .columns - 1) ≡ runOf g row
-    columns-run = inner-run g size is-plate row in-grid (t .some) l
-
-    -- where its sums stand
-    abbrev pub here-now : SumRows
-    here-now = record { start = start; here = here; other = other; last = eqb (row + 1) (g .rows - 1) }
-
-    -- the row lies in the level
-    pub in-level : start + g .columns ≤ points g
-    in-level = row-room s (t .rows) in-grid (run 1 (g .columns - 1)) columns-run
-
-    -- the rows above and below
-    high : g .columns ≤ start
-    high = omega (arith, t .rows .start-is, N.mul-le-mul-right (g .columns) (t .some), N.one-mul (g .columns))
-
-    above-start : (row - 1) * g .columns ≡ start - g .columns
-    above-start =
-        let one : row - 1 + 1 ≡ row = omega (arith, t .some) in
-        omega (arith, next-row (row - 1) (g .columns), ap (λ (n : ℕ). n * g .columns) one, t .rows .start-is)
-
-    below-start : (row + 1) * g .columns ≡ start + g .columns
-    below-start = sym (ap (λ (n : ℕ). n + g .columns) (t .rows .start-is) ∙ next-row row (g .columns))
-
-    below-moves : (k : ℕ) → start + 1 ≤ k → k < start + (g .columns - 1) → moving g (k + g .columns) ≡ not (eqb (row + 1) (g .rows - 1))
-    below-moves k a b = go (ℕ-discrete (row + 1) (g .rows - 1))
-      where
-        go : Dec (row + 1 ≡ g .rows - 1) → moving g (k + g .columns) ≡ not (eqb (row + 1) (g .rows - 1))
-        go (yes e) =
-            ring-still g size is-plate (row + 1) l (inr (omega (arith, some-rows))) (k + g .columns) (omega (arith, below-start))
-            (omega (arith, below-start)) ∙ sym (ap not (eq-eqb (row + 1) (g .rows - 1) e))
-        go (no n) =
-            let w = inner-columns g size is-plate (row + 1) l (omega arith) (omega (arith, n)) in
-            w .moves (k + g .columns) (omega (arith, below-start)) (omega (arith, below-start)) ∙
-            sym (ap not (ne-eqb (row + 1) (g .rows - 1) n))
-
-    pub in-row : InRow g here-now (start + 1) (start + (g .columns - 1))
-    in-row = record {
-      grid = grid;
-      moves = run-moves s (t .rows) in-grid (run 1 (g .columns - 1)) columns-run;
-      first = omega arith;
-      last = omega (arith, some-columns);
-      below = below-moves;
-    }
-
-    -- before its first moving point
-    pub two-rows : TwoRows g newer sums here-now (start + 1)
-    two-rows = record {
-      high = high;
-      here = t .here-row;
-      room = t .above-row .room;
-      apart = turn-apart (t .turning) few-columns;
-      above = λ c a m. t .above-row .each c m;
-      below = λ c a.
-          let zero : c ≡ 0 = omega arith in
-          t .above-row .each c (omega (arith, some-columns)) ∙
-          left-zero (row - 1) (omega (arith, t .some)) (start - g .columns + c) (omega (arith, above-start)) ∙
-          sym (left-zero (row + 1) l (start + g .columns + c) (omega (arith, below-start)));
-      low = t .low;
-    }
-
-    -- after its last one
-    module _ {out′ sums′ : List ℤ} (q : Stepping i h true 0 older newer out out′ (start + 1) (start + (g .columns - 1)) true)
-        (w : TwoRows g newer sums′ here-now (start + (g .columns - 1))) (long : length sums′ ≡ length sums) where
-      below-each : (c : ℕ) → c < g .columns → point sums′ (other + c) ≡ S (start + g .columns + c)
-      below-each c m = go (decLt c (g .columns - 1))
-        where
-          go : Dec (c < g .columns - 1) → point sums′ (other + c) ≡ S (start + g .columns + c)
-          go (yes a) = w .below c (omega arith)
-          go (no a) =
-              w .above c (omega (arith, a)) m ∙
-              right-zero (row - 1) (omega (arith, t .some)) (start - g .columns + c) (omega (arith, a, above-start)) ∙
-              sym (right-zero (row + 1) l (start + g .columns + c) (omega (arith, a, below-start)))
-
-      pub plate-next : PlateRows i h older newer out₀ out′ sums′ here other (row + 1) (start + g .columns)
-      plate-next = record {
-        rows = rows-more s (t .rows) in-grid (run 1 (g .columns - 1)) columns-run q;
-        some = omega arith;
-        upto = omega arith;
-        turning = turn (t .turning);
-        long = long ∙ t .long;
-        above-row = subst (λ (n : ℕ). SumRow g newer sums′ n here) (omega arith) (w .here);
-        here-row = record { room = w .room; each = below-each };
-        low = w .low;
+      -- before its first moving point
+      pub two-rows : TwoRows g newer sums here-now (start + 1)
+      two-rows = record {
+        high = high;
+        here = t .here-row;
+        room = t .above-row .room;
+        apart = turn-apart (t .turning) few-columns;
+        above = λ c a m. t .above-row .each c m;
+        below = λ c a.
+            let zero : c ≡ 0 = omega arith in
+            t .above-row .each c (omega (arith, some-columns)) ∙
+            left-zero (row - 1) (omega (arith, t .some)) (start - g .columns + c) (omega (arith, above-start)) ∙
+            sym (left-zero (row + 1) l (start + g .columns + c) (omega (arith, below-start)));
+        low = t .low;
       }
 
-    pub plate-stops : {out′ : List ℤ} → Stepping i h true 0 older newer out out′ (start + 1) (start + (g .columns - 1)) false
-        → Stepped i h older newer out′ false
-    plate-stops q = stepped-not s (rows-stop s (t .rows) in-grid (run 1 (g .columns - 1)) columns-run q)
+      -- after its last one
+      module _ {out′ sums′ : List ℤ} (q : Stepping i h true 0 older newer out out′ (start + 1) (start + (g .columns - 1)) true)
+          (w : TwoRows g newer sums′ here-now (start + (g .columns - 1))) (long : length sums′ ≡ length sums) where
+        below-each : (c : ℕ) → c < g .columns → point sums′ (other + c) ≡ S (start + g .columns + c)
+        below-each c m = go (decLt c (g .columns - 1))
+          where
+            go : Dec (c < g .columns - 1) → point sums′ (other + c) ≡ S (start + g .columns + c)
+            go (yes a) = w .below c (omega arith)
+            go (no a) =
+                w .above c (omega (arith, a)) m ∙
+                right-zero (row - 1) (omega (arith, t .some)) (start - g .columns + c) (omega (arith, a, above-start)) ∙
+                sym (right-zero (row + 1) l (start + g .columns + c) (omega (arith, a, below-start)))
 
-  -- after the last of them
-  pub plate-done : {out sums : List ℤ} {other here row start : ℕ}
-      → PlateRows i h older newer out₀ out sums other here row start → g .rows ≤ row + 1 → Stepped i h older newer out true
-  plate-done {row = row} t m =
-      let last : row + 1 ≡ g .rows = omega (arith, t .upto) in
-      stepped-all s (rows-done s (ring-more (t .rows) (omega (arith, t .upto)) (inr last)) m)
+        pub plate-next : PlateRows i h older newer out₀ out′ sums′ here other (row + 1) (start + g .columns)
+        plate-next = record {
+          rows = rows-more s (t .rows) in-grid (run 1 (g .columns - 1)) columns-run q;
+          some = omega arith;
+          upto = omega arith;
+          turning = turn (t .turning);
+          long = long ∙ t .long;
+          above-row = subst (λ (n : ℕ). SumRow g newer sums′ n here) (omega arith) (w .here);
+          here-row = record { room = w .room; each = below-each };
+          low = w .low;
+        }
+
+      pub plate-stops : {out′ : List ℤ} → Stepping i h true 0 older newer out out′ (start + 1) (start + (g .columns - 1)) false
+          → Stepped i h older newer out′ false
+      plate-stops q = stepped-not s (rows-stop s (t .rows) in-grid (run 1 (g .columns - 1)) columns-run q)
+
+    -- after the last of them
+    pub plate-done : {out sums : List ℤ} {other here row start : ℕ}
+        → PlateRows i h older newer out₀ out sums other here row start → g .rows ≤ row + 1 → Stepped i h older newer out true
+    plate-done {row = row} t m =
+        let last : row + 1 ≡ g .rows = omega (arith, t .upto) in
+        stepped-all s (rows-done s (ring-more (t .rows) (omega (arith, t .upto)) (inr last)) m)

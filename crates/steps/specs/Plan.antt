@@ -16,8 +16,11 @@ use Rattle.scheme.specs.Lists.{point}
 use Rattle.scheme.specs.Instruments.{points, moving}
 use Rattle.scheme.specs.Step.{neighbours, divisor}
 use Rattle.scheme.specs.Passing.{InstrumentPasses}
-use Rattle.scheme.specs.Ranges.{AtMost}
 use Rattle.steps.specs.declared.plan.Plan.{Plan}
+
+-- every value is at most B
+abbrev pub AtMost : ℕ → (ℕ → ℤ) → Type 0
+AtMost B a = (k : ℕ) → natAbs (a k) ≤ B
 
 -- "two neighbours, or four": on a line, on a grid
 abbrev pub countOf : Grid → ℕ

@@ -10,9 +10,8 @@ use Rattle.types.specs.declared.Grid.{Grid}
 use Rattle.types.specs.Numbers.{ceiling}
 use Rattle.scheme.specs.Lists.{point}
 use Rattle.scheme.specs.Instruments.{moving}
-use Rattle.scheme.specs.Ranges.{AtMost}
 use Rattle.steps.specs.declared.plates.SumRows.{SumRows}
-use Rattle.steps.specs.Plan.{innerSum}
+use Rattle.steps.specs.Plan.{AtMost, innerSum}
 use Rattle.steps.specs.Run.{Moves}
 
 -- the sums of the row that begins at point `start` stand from `place` on

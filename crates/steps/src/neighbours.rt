@@ -4,7 +4,7 @@ ghost use Prim.Native.Nat.{_+_, _≤_, _<_};
 ghost use lib.ListN.{length};
 ghost use Rattle.types.specs.Numbers.{ceiling};
 ghost use Rattle.scheme.specs.Lists.{point};
-ghost use Rattle.scheme.specs.Ranges.{AtMost};
+ghost use Rattle.steps.specs.Plan.{AtMost};
 ghost use Rattle.steps.specs.Run.{twoBeside, fourBeside, barSum};
 
 // The points to the left and to the right.

@@ -16,7 +16,7 @@ use Rattle.types.specs.Numbers.{D}
 use Rattle.scheme.specs.Lists.{point}
 use Rattle.scheme.specs.Instruments.{kind, points, moving}
 use Rattle.scheme.specs.Energy.{weight, squares, energy}
-use Rattle.scheme.proofs.Laws.Ranges.{coefficients-small}
+use Rattle.scheme.proofs.Laws.Refusals.{coefficients-small}
 use Rattle.scheme.specs.Passing.{InstrumentPasses}
 use Rattle.scheme.proofs.Laws.Refusals.{instrument-passes, passes-still}
 use Rattle.scheme.proofs.Theorems.Forms.{weighed, weighed-form, weighed-nonneg, stepForm, step-form, energy-is}

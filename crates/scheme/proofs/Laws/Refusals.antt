@@ -10,6 +10,7 @@ use lib.Dec.{T, ltb}
 use lib.IntN.{ℤ, pos, negsuc, natAbs}
 use lib.ListN.{length, List·getD-eq-default}
 use Rattle.forms.proofs.Level.{Still}
+use Rattle.types.specs.declared.Settings.{Settings}
 use Rattle.types.specs.declared.Grid.{Grid}
 use Rattle.types.specs.declared.Instrument.{Instrument}
 use Rattle.types.specs.declared.Hit.{Hit}
@@ -17,11 +18,11 @@ use Rattle.types.specs.declared.Refusal.{Refusal}
 use Rattle.types.specs.declared.Refusal.the-variants.{Nothing, UnknownKind, WrongSize, SheetNumber, Coefficient, Unstable}
 use Rattle.types.specs.declared.Refusal.the-variants.{WrongLength, NotMoving, TooStrong, PickUp, HalfWidth, PointBeyond}
 use Rattle.types.specs.declared.Refusal.the-variants.{FixedNotZero, NextBeyond}
-use Rattle.types.specs.Numbers.{ceiling, number}
+use Rattle.types.specs.Numbers.{D, ceiling, number}
 use Rattle.scheme.specs.Lists.{point}
 use Rattle.scheme.specs.Instruments.{points, beyond, fixed, moving}
 use Rattle.scheme.specs.Step.{someBeyond}
-use Rattle.scheme.specs.Refusals.{wrongLength, fixedNotZero, Check, _⇒_, lowest, instrumentChecks, blockChecks, pluckChecks}
+use Rattle.scheme.specs.Refusals.{wrongCoefficient, wrongLength, fixedNotZero, Check, _⇒_, lowest, instrumentChecks, blockChecks, pluckChecks}
 use Rattle.scheme.specs.Refusals.{readingChecks, instrumentRefusal, blockRefusal, pluckRefusal, readingRefusal, ChecksInOrder}
 use Rattle.scheme.specs.Calls.{accepted}
 use Rattle.scheme.specs.Claims.{LevelPasses}
@@ -73,6 +74,13 @@ accepted-is FixedNotZero e = absurd (true≢false (sym e))
 accepted-is NextBeyond e = absurd (true≢false (sym e))
 
 -- ---- what has passed
+
+-- "Each is 0..65536."
+pub coefficients-small : (c : Settings) → wrongCoefficient c ≡ false → (c .q ≤ D) × (c .m ≤ D) × (c .s ≤ D)
+coefficients-small c e =
+    let qm = or-neither (ltb D (c .q) || ltb D (c .m)) (ltb D (c .s)) e in
+    let q = or-neither (ltb D (c .q)) (ltb D (c .m)) (qm .0) in
+    (ltb-false D (c .q) (q .0), ltb-false D (c .m) (q .1), ltb-false D (c .s) (qm .1))
 
 pub right-length : (g : Grid) (n : ℕ) → wrongLength g n ≡ false → n ≡ points g
 right-length g n e = eqb-true n (points g) (not-false _ e)

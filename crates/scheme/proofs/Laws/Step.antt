@@ -63,16 +63,6 @@ module _ (g : Grid) (k : ℕ) where
   unfolding innerLaplacian
   inner-linear = linear-cond (moving g k) laplacian-linear
 
--- "with L counted 0" where nothing moves
-module _ (g : Grid) (a : Level) (k : ℕ) where
-  pub inner-moving : moving g k ≡ true → innerLaplacian g a k ≡ laplacian g a k
-  unfolding innerLaplacian
-  inner-moving e = simp e
-
-  pub inner-still : moving g k ≡ false → innerLaplacian g a k ≡ pos 0
-  unfolding innerLaplacian
-  inner-still e = simp e
-
 pub biharmonic-linear : (g : Grid) (k : ℕ) → Linear (λ a. biharmonic g a k)
 unfolding laplacian
 biharmonic-linear g k = linear-minus (linear-over (neighbours g k) (inner-linear g))

@@ -1,7 +1,6 @@
 -- `is_within` meets its contract: by the limit that the raised size may not reach.
-use mathlib.Core.Path.{_≡_, _∙_}
+use mathlib.Core.Path.{_∙_}
 use Prim.Native.Nat.{_+_, _/_, _^_, _≤_}
-use borrow.Author.Needs.{needs}
 use lib.Dec.{ltb}
 use lib.IntN.{ℤ, natAbs}
 use Rattle.bounded.proofs.Expr.{E, at, is, said}

@@ -2,7 +2,7 @@
 use mathlib.Core.Path.{_∙_}
 use Rattle.bounded.proofs.Num as Num
 use Rattle.bounded.proofs.Num.{Num}
-use Rattle.bounded.proofs.Expr.{E, fits, is}
+use Rattle.bounded.proofs.Expr.{fits, is}
 use Rattle.steps.proofs.NumeratorLaws as N
 use Rattle.steps.proofs.arithmetic.numerator.Statement.{statement}
 use Rattle.steps.proofs.arithmetic.numerator.Tie as tie

@@ -1,6 +1,6 @@
 -- `raised` meets its contract: mirrored twice where n is below 0.
 use mathlib.Core.Path.{_≡_, sym, ap, _∙_, subst}
-use Prim.Native.Nat.{ℕ, _+_, _/_, _^_, _≤_}
+use Prim.Native.Nat.{ℕ, _+_, _/_, _^_}
 use native.Mathlib.Nat.{le-trans}
 use native.Mathlib.Omega.{arith}
 use borrow.Author.Needs.{needs}

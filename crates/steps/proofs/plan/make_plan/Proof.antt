@@ -11,7 +11,7 @@ use mir.Val.{Fits}
 use Rattle.bounded.proofs.Num.{back}
 use Rattle.bounded.proofs.Expr.{E, at, num, via, _⊞_, _⊟_, _⊠_, _÷_, fits, is, said}
 use Rattle.types.specs.Numbers.{D}
-use Rattle.scheme.proofs.Laws.Ranges.{coefficients-small}
+use Rattle.scheme.proofs.Laws.Refusals.{coefficients-small}
 use Rattle.steps.proofs.KindLaws.{count-few}
 use Rattle.steps.proofs.plan.make_plan.Statement.{statement}
 use Rattle.steps.proofs.plan.make_plan.Tie as tie

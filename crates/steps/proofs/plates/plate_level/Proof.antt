@@ -1,10 +1,9 @@
 -- `plate_level` meets its contract: the rows passed have their next values, the sums of the row and of the one above it stand.
 use mathlib.Core.Path.{_≡_, refl, sym, _∙_}
-use Prim.Native.Nat.{ℕ, _+_, _-_, _≤_, _<_, zero-le}
+use Prim.Native.Nat.{_+_, _-_, _≤_, _<_, zero-le}
 use native.Mathlib.Omega.{arith}
 use borrow.Author.Needs.{needs}
 use borrow.Author.Tests.{not-true, not-false}
-use lib.ListN.{length}
 use Rattle.types.specs.declared.Grid.{Grid}
 use Rattle.scheme.specs.Instruments.{plate, kind, points}
 use Rattle.slices.proofs.SliceLaws.{zeros}

@@ -82,8 +82,12 @@ module _ (c : tie.After-struct-known2 Inv-loop μ-loop) where
 
   -- the point below moves where the row below is not the ring's
   below-inside : start .args .rows .last ≡ false → k + g start .columns + g start .columns < length (start .args .newer .now)
-  below-inside e = omega (arith, ready start .newer-long, around-below (g start) (ready start .planned .passes .size) (row start .grid)
-      (k + g start .columns) (row start .below k first last ∙ ap not e))
+  below-inside e = omega (
+    arith,
+    ready start .newer-long,
+    around-below (g start) (ready start .planned .passes .size) (row start .grid)
+        (k + g start .columns) (row start .below k first last ∙ ap not e),
+  )
 
   -- the sum below it
   abbrev under : ℤ
