@@ -6,7 +6,7 @@
 struct plan {
     uint64_t kind;
     size_t columns, rows;
-    int64_t q, m, kept, divisor, half, limit;
+    int64_t q, m, kept, divisor, half, limit; /* q of a plate has 4 m more: its B is the sum of L at the neighbours less 4 L */
     uint64_t reciprocal; /* above 2^79 / divisor */
     struct edges edges;
 };
@@ -76,6 +76,66 @@ static int64_t membrane_run(const struct plan *x, const int64_t *restrict p, con
     return sign;
 }
 
+/* L of a row of a plate, 0 on the ring. */
+static inline void plate_l(size_t c, const int64_t *restrict u, int64_t *restrict l)
+{
+    const int64_t *left = u - 1, *right = u + 1, *up = u - c, *down = u + c;
+    for (size_t k = 0; k < c; k++)
+        l[k] = left[k] + right[k] + up[k] + down[k] - 4 * u[k];
+    l[0] = l[c - 1] = 0;
+}
+
+/* Points a..e - 1 of a row of a plate, from L of the row above, of this row and of the row below. */
+static inline int64_t plate_run(const struct plan *x, const int64_t *restrict p, const int64_t *restrict u, int64_t *restrict next,
+                                const int64_t *restrict above, const int64_t *restrict l, const int64_t *restrict below, size_t a, size_t e)
+{
+    int64_t sign = 0, before = l[a - 1], here = l[a];
+    for (size_t k = a; k < e; k++) {
+        int64_t after = l[k + 1];
+        next[k] = next_value(x, u[k], p[k], here, before + after + above[k] + below[k], 0, &sign);
+        before = here;
+        here = after;
+    }
+    return sign;
+}
+
+/* A row of a plate with a hit at column at. */
+static int64_t struck_plate_row(const struct plan *x, const int64_t *p, const int64_t *u, int64_t *next, const int64_t *above,
+                                const int64_t *l, const int64_t *below, size_t at, int64_t force)
+{
+    int64_t sign = plate_run(x, p, u, next, above, l, below, 1, at);
+    next[at] = next_value(x, u[at], p[at], l[at], l[at - 1] + l[at + 1] + above[at] + below[at], force, &sign);
+    return sign | plate_run(x, p, u, next, above, l, below, at + 1, x->columns - 1);
+}
+
+/* One step of a plate. L is worked out once at each point, a row ahead, and three rows of it turn. The ring's own rows, which are 0, serve
+ * as their L. */
+static inline int64_t plate_step(const struct plan *x, const int64_t *p, const int64_t *u, int64_t *next, int is_hit, size_t point,
+                                 int64_t force)
+{
+    int64_t rows[3][ROWS], *l = rows[0], *ahead = rows[1], *spare = rows[2], *done, sign = 0;
+    const int64_t *above = u;
+    size_t c = x->columns;
+    plate_l(c, u + c, l);
+    for (size_t row = 1; row + 1 < x->rows; row++) {
+        size_t at = row * c;
+        const int64_t *below = u + at + c;
+        if (row + 2 < x->rows) {
+            plate_l(c, below, ahead);
+            below = ahead;
+        }
+        if (is_hit && point / c == row)
+            sign |= struck_plate_row(x, p + at, u + at, next + at, above, l, below, point % c, force);
+        else
+            sign |= plate_run(x, p + at, u + at, next + at, above, l, below, 1, c - 1);
+        above = done = l;
+        l = ahead;
+        ahead = spare;
+        spare = done;
+    }
+    return sign;
+}
+
 /* One point, with its force. */
 static int64_t point_run(const struct plan *x, const int64_t *p, const int64_t *u, int64_t *next, size_t k, int64_t f)
 {
@@ -114,6 +174,8 @@ static int64_t run(const struct plan *x, const int64_t *p, const int64_t *u, int
 static int64_t step(const struct plan *x, const int64_t *p, const int64_t *u, int64_t *next)
 {
     int64_t sign = 0;
+    if (x->kind == 7)
+        return plate_step(x, p, u, next, 0, 0, 0);
     for (size_t row = 0; row < x->rows; row++)
         sign |= run(x, p, u, next, row * x->columns + x->edges.from[row], row * x->columns + x->edges.to[row]);
     return sign;
@@ -122,7 +184,10 @@ static int64_t step(const struct plan *x, const int64_t *p, const int64_t *u, in
 /* The same with a hit at a moving point. */
 static int64_t struck_step(const struct plan *x, const int64_t *p, const int64_t *u, int64_t *next, size_t point, int64_t force)
 {
-    int64_t sign = point_run(x, p, u, next, point, force);
+    int64_t sign;
+    if (x->kind == 7)
+        return plate_step(x, p, u, next, 1, point, force);
+    sign = point_run(x, p, u, next, point, force);
     for (size_t row = 0; row < x->rows; row++) {
         size_t a = row * x->columns + x->edges.from[row], e = row * x->columns + x->edges.to[row];
         size_t middle = point < a || point > e ? e : point;
@@ -163,8 +228,8 @@ static void settle(int64_t *levels[3], int64_t *older, int64_t *newer, int64_t *
 
 static void make_plan(struct plan *x, uint64_t kind, size_t columns, size_t rows, int64_t q, int64_t m, int64_t s)
 {
-    x->kind = kind, x->columns = columns, x->rows = rows;
-    x->q = q, x->m = m, x->kept = D - s, x->divisor = D + s, x->half = (D + s) / 2;
+    x->kind = kind == 7 && m == 0 ? 5 : kind, x->columns = columns, x->rows = rows;
+    x->q = kind == 7 ? q + 4 * m : q, x->m = m, x->kept = D - s, x->divisor = D + s, x->half = (D + s) / 2;
     x->limit = (CEILING + 1) * x->divisor - x->half - 1;
 #ifdef RECIPROCAL
     x->reciprocal = (uint64_t)(((__extension__(unsigned __int128) 1) << 79) / (uint64_t)x->divisor + 1);
@@ -176,9 +241,7 @@ static uint64_t settings_refusal(uint64_t kind, uint64_t q, uint64_t m, uint64_t
 {
     if (q > 65536 || m > 65536 || s > 65536)
         return 4;
-    if (kind == 4 ? q + 4 * m > 65536 : m > 0 || (kind >= 5 && q > 32768))
-        return 5;
-    return 0;
+    return is_stable(kind, q, m) ? 0 : 5;
 }
 
 uint64_t PLAIN(block)(uint64_t kind, size_t columns, size_t rows, uint64_t q, uint64_t m, uint64_t s,
@@ -189,7 +252,7 @@ uint64_t PLAIN(block)(uint64_t kind, size_t columns, size_t rows, uint64_t q, ui
     int64_t *levels[3] = {older, newer, work};
     size_t points = columns * rows;
     struct plan x;
-    uint64_t refusal = grid_refusal(kind, 6, columns, rows);
+    uint64_t refusal = grid_refusal(kind, 7, columns, rows);
     *steps = 0;
     if (!refusal)
         refusal = settings_refusal(kind, q, m, s);
