@@ -27,9 +27,25 @@ static double laplacian(const struct buvcsolta_instrument *i, const double *u, s
     return u[k - 1] + u[k + 1] - 2 * u[k];
 }
 
+static int is_on_ring(const struct buvcsolta_instrument *i, size_t k)
+{
+    size_t row = k / i->columns, column = k % i->columns;
+    return row == 0 || row + 1 == i->rows || column == 0 || column + 1 == i->columns;
+}
+
+static double plate_l(const struct buvcsolta_instrument *i, const double *u, size_t k)
+{
+    return is_on_ring(i, k) ? 0 : laplacian(i, u, k);
+}
+
 static double biharmonic(const struct buvcsolta_instrument *i, const double *u, size_t k)
 {
-    return i->kind == 4 ? supported(i, u, k - 1) + supported(i, u, k + 1) - 2 * supported(i, u, k) : 0;
+    size_t c = i->columns;
+    if (i->kind == 4)
+        return supported(i, u, k - 1) + supported(i, u, k + 1) - 2 * supported(i, u, k);
+    if (i->kind == 7)
+        return plate_l(i, u, k - 1) + plate_l(i, u, k + 1) + plate_l(i, u, k - c) + plate_l(i, u, k + c) - 4 * plate_l(i, u, k);
+    return 0;
 }
 
 static void string_points(const struct factors *x, const double *p, const double *u, double *next, size_t a, size_t e)
@@ -48,6 +64,22 @@ static void membrane_points(const struct factors *x, const double *p, const doub
 {
     for (size_t k = a; k < e; k++)
         put(x, p, u, next, k, u[k - 1] + u[k + 1] + u[k - c] + u[k + c] - 4 * u[k], 0, 0);
+}
+
+/* L of the rows between the ring's, 0 at their ends. */
+static void plate_rows(const double *restrict u, double *restrict l, size_t c, size_t end)
+{
+    for (size_t k = c; k < end; k++)
+        l[k] = u[k - 1] + u[k + 1] + u[k - c] + u[k + c] - 4 * u[k];
+    for (size_t k = c; k < end; k += c)
+        l[k] = l[k + c - 1] = 0;
+}
+
+static void plate_points(const struct factors *x, const double *restrict p, const double *restrict u, double *restrict next,
+                         const double *restrict above, const double *restrict l, const double *restrict below, size_t c)
+{
+    for (size_t k = 1; k + 1 < c; k++)
+        put(x, p, u, next, k, l[k], l[k - 1] + l[k + 1] + above[k] + below[k] - 4 * l[k], 0);
 }
 
 static void point(const struct buvcsolta_instrument *i, const struct factors *x, const double *p, const double *u, double *next, size_t k,
@@ -81,6 +113,16 @@ static void grid_step(const struct buvcsolta_instrument *i, const struct factors
         membrane_points(x, p, u, next, row * c + e->from[row], row * c + e->to[row], c);
 }
 
+/* The ring's own rows, which are 0, serve as their L. */
+static void plate_step(const struct buvcsolta_instrument *i, const struct factors *x, const double *p, const double *u, double *next)
+{
+    double l[ROWS * ROWS];
+    size_t c = i->columns, end = (i->rows - 1) * c;
+    plate_rows(u, l, c, end);
+    for (size_t at = c; at < end; at += c)
+        plate_points(x, p + at, u + at, next + at, at == c ? u : l + at - c, l + at, at + c == end ? u + end : l + at + c, c);
+}
+
 void double_block(const struct buvcsolta_instrument *i, double *levels[3], float *samples, size_t places, size_t pick_up,
                   size_t hit, double force)
 {
@@ -91,6 +133,8 @@ void double_block(const struct buvcsolta_instrument *i, double *levels[3], float
         double *next = levels[2];
         if (i->rows == 1)
             line_step(i, &x, levels[0], levels[1], next);
+        else if (i->kind == 7)
+            plate_step(i, &x, levels[0], levels[1], next);
         else
             grid_step(i, &x, &e, levels[0], levels[1], next);
         if (n == 0)

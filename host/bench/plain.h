@@ -27,13 +27,21 @@ static inline int has_size(uint64_t kind, size_t columns, size_t rows)
 {
     if (kind <= 4)
         return rows == 1 && columns - 3 <= 1021;
-    return columns - 3 <= 61 && (kind == 5 ? rows - 3 <= 61 : rows == columns);
+    return columns - 3 <= 61 && (kind == 6 ? rows == columns : rows - 3 <= 61);
 }
 
 /* 1 and 2, where kinds 1..last are known. */
 static inline uint64_t grid_refusal(uint64_t kind, uint64_t last, size_t columns, size_t rows)
 {
     return kind - 1 >= last ? 1 : has_size(kind, columns, rows) ? 0 : 2;
+}
+
+/* Settings within 0..65536 that 5 lets pass. */
+static inline int is_stable(uint64_t kind, uint64_t q, uint64_t m)
+{
+    if (m > 0 && kind != 4 && kind != 7)
+        return 0;
+    return kind < 4 || (kind == 4 ? q + 4 * m : 2 * q + 16 * m) <= 65536;
 }
 
 static inline void set_row(struct edges *e, size_t row, size_t from, size_t to)

@@ -46,7 +46,7 @@ uint64_t PLAIN(pluck)(uint64_t kind, size_t columns, size_t rows, int64_t *older
 
 uint64_t PLAIN(reading)(uint64_t kind, size_t columns, size_t rows, const int64_t *newer, size_t newer_length, size_t pick_up, double *value)
 {
-    uint64_t refusal = grid_refusal(kind, 6, columns, rows);
+    uint64_t refusal = grid_refusal(kind, 7, columns, rows);
     struct edges e;
     *value = 0;
     if (refusal)
@@ -86,7 +86,7 @@ static int is_above_zero(double x)
 uint64_t PLAIN(sheet)(uint64_t kind, size_t columns, size_t rows, double rate, double length, double bending, uint64_t by_tension,
                       double speed, double density, uint64_t by_seconds, double loss, uint64_t *q, uint64_t *m, uint64_t *s)
 {
-    uint64_t refusal = grid_refusal(kind, 6, columns, rows);
+    uint64_t refusal = grid_refusal(kind, 7, columns, rows);
     double g = (double)(columns - 1), h = length / g, z = 2 * speed * g / rate;
     int64_t a, b, c;
     *q = *m = *s = 0;
@@ -100,7 +100,7 @@ uint64_t PLAIN(sheet)(uint64_t kind, size_t columns, size_t rows, double rate, d
     c = nearest((by_seconds ? 6.907755278982137 / loss : loss) / rate);
     if (a < 0 || b < 0 || c < 0)
         return 4;
-    if (kind == 4 ? a + 4 * b > D : b > 0 || (kind >= 5 && 2 * a > D))
+    if (!is_stable(kind, (uint64_t)a, (uint64_t)b))
         return 5;
     *q = (uint64_t)a, *m = (uint64_t)b, *s = (uint64_t)c;
     return 0;
