@@ -1,7 +1,8 @@
 /* The calls of the C library, of plain C by each compiler, and the block in double precision, on the same input in turn. Prints a line for
  * each row and table.py makes the tables of them:
  *     what;grid;units of a call;the levels and results are the same;nanoseconds of a call by each
- * where the nanoseconds are the least of ROUNDS of processor time. `bench count` runs each row once by each, in `counted`, for callgrind. */
+ * where the nanoseconds are the least of ROUNDS of processor time. `bench count` runs each row once by each, in `counted`, for
+ * callgrind. */
 #include "buvcsolta.h"
 #include "doubles.h"
 #include <stdio.h>
@@ -72,8 +73,8 @@ static void some_steps(const struct engine *e, struct state *x, const struct row
 {
     struct buvcsolta_instrument i = instrument_of(r);
     size_t n = i.columns * i.rows, at = middle(&i);
-    x->refusal |= e->block(i.kind, i.columns, i.rows, i.q, i.m, i.s, x->older, n, x->newer, n, x->work, n, x->samples, places, at + 1, 1, at,
-                           force, &x->steps);
+    x->refusal |= e->block(i.kind, i.columns, i.rows, i.q, i.m, i.s, x->older, n, x->newer, n, x->work, n, x->samples, places, at + 1, 1,
+                           at, force, &x->steps);
 }
 
 static void long_block(const struct engine *e, struct state *x, const struct row *r, int64_t force)

@@ -105,8 +105,8 @@ static void line_step(const struct buvcsolta_instrument *i, const struct factors
     bar_points(x, p, u, next, 2, c - 2);
 }
 
-static void grid_step(const struct buvcsolta_instrument *i, const struct factors *x, const struct edges *e, const double *p, const double *u,
-                      double *next)
+static void grid_step(const struct buvcsolta_instrument *i, const struct factors *x, const struct edges *e, const double *p,
+                      const double *u, double *next)
 {
     size_t c = i->columns;
     for (size_t row = 1; row + 1 < i->rows; row++)

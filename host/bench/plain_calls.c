@@ -44,7 +44,8 @@ uint64_t PLAIN(pluck)(uint64_t kind, size_t columns, size_t rows, int64_t *older
     return 0;
 }
 
-uint64_t PLAIN(reading)(uint64_t kind, size_t columns, size_t rows, const int64_t *newer, size_t newer_length, size_t pick_up, double *value)
+uint64_t PLAIN(reading)(uint64_t kind, size_t columns, size_t rows, const int64_t *newer, size_t newer_length, size_t pick_up,
+                        double *value)
 {
     uint64_t refusal = grid_refusal(kind, 7, columns, rows);
     struct edges e;

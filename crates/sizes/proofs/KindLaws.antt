@@ -13,7 +13,7 @@ use Rattle.scheme.specs.Refusals.{lastKind}
 use Rattle.scheme.proofs.Laws.Bools.{and-both, and-no, not-so}
 use Rattle.scheme.proofs.Laws.Kinds.{within-is, is-within, within-one}
 
--- what holds of each number with its kind, and of every number past the last with none, holds of any number with the kind that it stands for
+-- what holds of each number with its kind, and of every number past the last with none, holds of any number with the kind it stands for
 pub by-number : (P : ℕ → Kind → Type 0)
     → P 0 unknown → P 1 fixedString → P 2 halfFreeString → P 3 freeString → P 4 bar → P 5 membrane → P 6 roundMembrane
     → P 7 plate → ((k : ℕ) → lastKind < k → P k unknown) → (k : ℕ) → P k (kindOf k)

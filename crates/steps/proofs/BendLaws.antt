@@ -63,9 +63,11 @@ module _ (g : Grid) (line : g .rows ≡ 1) (is-bar : kind g ≡ bar) (xs : List 
 
   inner-is : (k : ℕ) → k < g .columns → barSum xs k ≡ innerSum g (point xs) k
   unfolding innerSum
-  inner-is k p = sym (ap (λ (t : Bool). cond t (sumOver (neighbours g k) (point xs)) (pos 0)) (bar-moving k p) ∙ go (atEdge (length xs) k) refl)
+  inner-is k p =
+      sym (ap (λ (t : Bool). cond t (sumOver (neighbours g k) (point xs)) (pos 0)) (bar-moving k p) ∙ go (atEdge (length xs) k) refl)
     where
-      go : (t : Bool) → atEdge (length xs) k ≡ t → cond (not t) (sumOver (neighbours g k) (point xs)) (pos 0) ≡ cond t (pos 0) (twoBeside xs k)
+      go : (t : Bool) → atEdge (length xs) k ≡ t
+          → cond (not t) (sumOver (neighbours g k) (point xs)) (pos 0) ≡ cond t (pos 0) (twoBeside xs k)
       go true e = refl
       go false e =
           let u = or-neither (eqb k 0) (eqb (k + 1) (length xs)) e in

@@ -63,7 +63,9 @@ module _ (s : Stretch) {p : Plan} {older newer : List ℤ} (r : Ready p (s .forc
         clamped (s .from) (s .to) order (λ k. k + 1 ≤ g .columns) (n - 1) (λ h. omega (arith, some, within, n-is))
         (λ h l. omega (arith, n-is, three))
         (λ h. omega (arith, n-is, three));
-    each = λ k a b. all .each k (N.le-trans (clamp-low (s .from) (s .to) order 1) a) (N.lt-of-lt-of-le b (clamp-high (s .from) (s .to) order (n - 1)));
+    each = λ k a b.
+        all .each k (N.le-trans (clamp-low (s .from) (s .to) order 1) a)
+        (N.lt-of-lt-of-le b (clamp-high (s .from) (s .to) order (n - 1)));
   }
 
   -- ---- one part after the other

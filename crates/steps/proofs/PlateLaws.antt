@@ -108,7 +108,8 @@ module _ {p : Plan} {f : ℤ} {older newer : List ℤ} (r : Ready p f older newe
 
   -- no sum is large
   pub sum-low : (k : ℕ) → natAbs (S k) ≤ 4 * ceiling
-  sum-low k = N.le-trans (inner-low g size (point newer) (r .newer-still) ceiling (r .newer-low) k) (N.mul-le-mul-right ceiling (count-few g))
+  sum-low k =
+      N.le-trans (inner-low g size (point newer) (r .newer-still) ceiling (r .newer-low) k) (N.mul-le-mul-right ceiling (count-few g))
 
   module _ {sums : List ℤ} {rows : SumRows} {from to at : ℕ} (t : TwoRows g newer sums rows at) (w : InRow g rows from to)
       (first : from ≤ at) (last : at < to) where
@@ -125,7 +126,8 @@ module _ {p : Plan} {f : ℤ} {older newer : List ℤ} (r : Ready p f older newe
     pub below-is : below ≡ S (at + g .columns)
     below-is = go (rows .last) (w .below at first last)
       where
-        go : (l : Bool) → moving g (at + g .columns) ≡ not l → cond l (pos 0) (fourBeside newer (g .columns) (at + g .columns)) ≡ S (at + g .columns)
+        go : (l : Bool) → moving g (at + g .columns) ≡ not l
+            → cond l (pos 0) (fourBeside newer (g .columns) (at + g .columns)) ≡ S (at + g .columns)
         go true e = sym (sum-still g (point newer) (at + g .columns) e)
         go false e = sum-around g (point newer) size (w .grid) (at + g .columns) e
 
@@ -153,7 +155,8 @@ module _ {p : Plan} {f : ℤ} {older newer : List ℤ} (r : Ready p f older newe
     second-is =
         let left = stands (at - 1) (c - 1) (rows .here + c - 1) (omega (arith, w .first)) (omega (arith, w .first))
         (omega (arith, w .first, w .last)) in
-        let right = stands (at + 1) (c + 1) (rows .here + c + 1) (omega arith) (omega (arith, w .first)) (omega (arith, w .first, w .last)) in
+        let right = stands (at + 1) (c + 1) (rows .here + c + 1) (omega arith) (omega (arith, w .first))
+        (omega (arith, w .first, w .last)) in
         let above : point sums (rows .other + c) ≡ S (at - g .columns) =
         t .above c (omega (arith, w .first)) (omega (arith, w .first, w .last)) ∙ ap S (omega (arith, w .first, t .high)) in
         (λ j. left j +ℤ right j +ℤ above j +ℤ below-is j) ∙ sum-four S (at - 1) (at + 1) (at - g .columns) (at + g .columns) ∙
@@ -172,7 +175,10 @@ module _ {p : Plan} {f : ℤ} {older newer : List ℤ} (r : Ready p f older newe
     pub two-next : TwoRows g newer (set sums (rows .other + c) below) rows (at + 1)
     two-next = record {
       high = t .high;
-      here = record { room = simp length-set (t .here .room); each = λ x h. other-place (rows .here + x) (here-apart x h (t .apart)) ∙ t .here .each x h };
+      here = record {
+        room = simp length-set (t .here .room);
+        each = λ x h. other-place (rows .here + x) (here-apart x h (t .apart)) ∙ t .here .each x h;
+      };
       room = simp length-set (t .room);
       apart = t .apart;
       above = λ x a h. other-place (rows .other + x) (λ e. omega arith) ∙ t .above x (omega arith) h;
@@ -194,7 +200,8 @@ module _ {p : Plan} {f : ℤ} {older newer : List ℤ} (r : Ready p f older newe
         by-column : (x : ℕ) → rows .start + x < at + 1 → Dec (x ≡ c)
             → point (set sums (rows .other + c) below) (rows .other + x) ≡ S (rows .start + g .columns + x)
         by-column x a (yes e) =
-            ap (λ (y : ℕ). point (set sums (rows .other + c) below) (rows .other + y)) e ∙ this-place ∙ below-is ∙ ap S (omega (arith, w .first))
+            ap (λ (y : ℕ). point (set sums (rows .other + c) below) (rows .other + y)) e ∙ this-place ∙
+            below-is ∙ ap S (omega (arith, w .first))
         by-column x a (no n) = other-place (rows .other + x) (λ e. n (omega arith)) ∙ t .below x (omega (arith, n))
 
         by-place : (j : ℕ) → Dec (j ≡ rows .other + c) → natAbs (point (set sums (rows .other + c) below) j) ≤ 4 * ceiling

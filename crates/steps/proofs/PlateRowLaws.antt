@@ -74,8 +74,10 @@ module _ (g : Grid) (size : inTable g ≡ true) (is-plate : kind g ≡ plate) (r
       go (yes e) d = ring (inl e)
       go (no a) (yes e) = ring (inr e)
       go (no a) (no b) =
-          let w = inner-columns (omega (arith, a)) (omega (arith, b, h)) in
-          (w .before (row * g .columns) (omega arith) (omega arith), w .after (row * g .columns + (g .columns - 1)) (omega arith) (omega (arith, some)))
+          let w = inner-columns (omega (arith, a)) (omega (arith, b, h)) in (
+            w .before (row * g .columns) (omega arith) (omega arith),
+            w .after (row * g .columns + (g .columns - 1)) (omega arith) (omega (arith, some)),
+          )
 
 -- ---- two rows in turn
 
@@ -105,7 +107,8 @@ pub record PlateRows (i : Instrument) (h : Hit) (older newer out₀ out sums : L
   pub here-row : SumRow (i .grid) newer sums start here
   pub low : AtMost (4 * ceiling) (point sums)
 
-module _ {p : Plan} {h : Hit} {older newer out₀ : List ℤ} (s : Steppable p h older newer out₀) (is-plate : kind (p .instrument .grid) ≡ plate)
+module _ {p : Plan} {h : Hit} {older newer out₀ : List ℤ} (s : Steppable p h older newer out₀)
+    (is-plate : kind (p .instrument .grid) ≡ plate)
   where
     abbrev i : Instrument
     i = p .instrument
@@ -177,9 +180,12 @@ module _ {p : Plan} {h : Hit} {older newer out₀ : List ℤ} (s : Steppable p h
             one = N.one-mul (g .columns)
 
             go : Dec (0 < c) → Dec (c < g .columns - 1) → point sums′ (64 + c) ≡ S (g .columns + c)
-            go (no a) b = kept (64 + c) (inl (omega (arith, a))) ∙ sym (left-zero 1 (omega (arith, some-rows)) (g .columns + c) (omega (arith, a, one)))
+            go (no a) b =
+                kept (64 + c) (inl (omega (arith, a))) ∙
+                sym (left-zero 1 (omega (arith, some-rows)) (g .columns + c) (omega (arith, a, one)))
             go (yes a) (no b) =
-                kept (64 + c) (inr (omega (arith, b))) ∙ sym (right-zero 1 (omega (arith, some-rows)) (g .columns + c) (omega (arith, b, one)))
+                kept (64 + c) (inr (omega (arith, b))) ∙
+                sym (right-zero 1 (omega (arith, some-rows)) (g .columns + c) (omega (arith, b, one)))
             go (yes a) (yes b) =
                 ap (point sums′) (sym (N.sub-zero (64 + c))) ∙ f .written refl (64 + c) (omega arith) (omega arith) ∙
                 ap (λ (n : ℕ). fourBeside newer (g .columns) (g .columns + n)) (omega arith) ∙ between c a b

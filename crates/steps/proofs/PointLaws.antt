@@ -64,7 +64,8 @@ module _ (g : Grid) (size : inTable g ≡ true) (a : ℕ → ℤ) (still : (k : 
   unfolding laplacian
   bending-by-sums k mk =
       let js = neighbours g k in
-      (λ j. over-ext js inner-by-sum j -ℤ pos (count-is g size k mk j) *ℤ (inner-by-sum k ∙ ap (λ (z : ℤ). z +ℤ (pos 0 -ℤ c) *ℤ a k) (inner-sum k mk)) j) ∙
+      (λ j. over-ext js inner-by-sum j -ℤ pos (count-is g size k mk j)
+      *ℤ (inner-by-sum k ∙ ap (λ (z : ℤ). z +ℤ (pos 0 -ℤ c) *ℤ a k) (inner-sum k mk)) j) ∙
       ap (λ (z : ℤ). z -ℤ c *ℤ (sumOver js a +ℤ (pos 0 -ℤ c) *ℤ a k))
       (over-add js S (λ j. (pos 0 -ℤ c) *ℤ a j) ∙ ap (λ (z : ℤ). sumOver js S +ℤ z) (over-scale js (pos 0 -ℤ c) a)) ∙
       ring 4 (λ c x y z. y ⊕ (# 0 ⊖ c) ⊗ x ⊖ c ⊗ (x ⊕ (# 0 ⊖ c) ⊗ z) ≈ y ⊖ # 2 ⊗ c ⊗ x ⊕ c ⊗ c ⊗ z) refl

@@ -25,7 +25,8 @@ pub record TwoRows (g : Grid) (newer sums : List ℤ) (r : SumRows) (at : ℕ) :
   pub here : SumRow g newer sums (r .start) (r .here)
   pub room : r .other + g .columns ≤ length sums
   pub apart : (r .here + g .columns ≤ r .other) ⊎ (r .other + g .columns ≤ r .here)
-  pub above : (c : ℕ) → at ≤ r .start + c → c < g .columns → point sums (r .other + c) ≡ innerSum g (point newer) (r .start - g .columns + c)
+  pub above : (c : ℕ) → at ≤ r .start + c → c < g .columns
+      → point sums (r .other + c) ≡ innerSum g (point newer) (r .start - g .columns + c)
   pub below : (c : ℕ) → r .start + c < at → point sums (r .other + c) ≡ innerSum g (point newer) (r .start + g .columns + c)
   pub low : AtMost (4 * ceiling) (point sums)
 

@@ -22,8 +22,9 @@ use Rattle.types.specs.Numbers.{D, ceiling, number}
 use Rattle.scheme.specs.Lists.{point}
 use Rattle.scheme.specs.Instruments.{points, beyond, fixed, moving}
 use Rattle.scheme.specs.Step.{someBeyond}
-use Rattle.scheme.specs.Refusals.{wrongCoefficient, wrongLength, fixedNotZero, Check, _⇒_, lowest, instrumentChecks, blockChecks, pluckChecks}
-use Rattle.scheme.specs.Refusals.{readingChecks, instrumentRefusal, blockRefusal, pluckRefusal, readingRefusal, ChecksInOrder}
+use Rattle.scheme.specs.Refusals.{wrongCoefficient, wrongLength, fixedNotZero, Check, _⇒_, lowest, instrumentChecks, blockChecks}
+use Rattle.scheme.specs.Refusals.{pluckChecks, readingChecks, instrumentRefusal, blockRefusal, pluckRefusal, readingRefusal}
+use Rattle.scheme.specs.Refusals.{ChecksInOrder}
 use Rattle.scheme.specs.Calls.{accepted}
 use Rattle.scheme.specs.Claims.{LevelPasses}
 use Rattle.scheme.specs.Passing.{InstrumentPasses, BlockPasses, PluckPasses, ReadingPasses}

@@ -35,7 +35,8 @@ other a b (inl e) f = a (sym e ∙ f)
 other a b (inr e) f = b (sym e ∙ f)
 
 returns-3 : tie.Need-returns-3
-returns-3 c = sym (run-is (c .before) (other (eqb-false 1 6 refl) (eqb-false 4 6 refl) (c .match .keys1)) ∙ ends-run _ _ _ (c .match .keys1))
+returns-3 c =
+    sym (run-is (c .before) (other (eqb-false 1 6 refl) (eqb-false 4 6 refl) (c .match .keys1)) ∙ ends-run _ _ _ (c .match .keys1))
 
 returns-4 : tie.Need-returns-4
 unfolding runIn

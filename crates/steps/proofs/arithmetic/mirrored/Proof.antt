@@ -21,7 +21,8 @@ sign-requires c κs = search needs
 returns : tie.Need-returns
 returns c =
     let s = c .before in
-    ap (λ (z : ℤ). toZ w64 (bitXor (ofZ w64 (s .args .x)) (ofZ w64 z))) (sign-is c) ∙ mirror-bits (s .args .n) (s .args .x) (s .fits .x .sfits)
+    ap (λ (z : ℤ). toZ w64 (bitXor (ofZ w64 (s .args .x)) (ofZ w64 z))) (sign-is c) ∙
+    mirror-bits (s .args .n) (s .args .x) (s .fits .x .sfits)
 
 pub mirrored-spec : {M : Type 1} → statement M
 mirrored-spec = tie.close (tie.spec sign-requires returns)

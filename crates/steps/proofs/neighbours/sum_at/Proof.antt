@@ -34,7 +34,8 @@ beside-requires c κs = search needs
 returns-3 : tie.Need-returns-3
 returns-3 c =
     let s = c .before .before .before in
-    back (c .beside .result) (c .beside .ok) ∙ c .beside .ensures ∙ value s (neither-or (ne-eqb _ 0 (c .before .before .if1 .left)) (ne-eqb _ _ (c .before .if2 .left)))
+    back (c .beside .result) (c .beside .ok) ∙ c .beside .ensures ∙
+    value s (neither-or (ne-eqb _ 0 (c .before .before .if1 .left)) (ne-eqb _ _ (c .before .if2 .left)))
 
 pub sum-at-spec : {M : Type 1} → statement M
 sum-at-spec = tie.close (tie.spec returns add-if2 returns-2 beside-requires returns-3)

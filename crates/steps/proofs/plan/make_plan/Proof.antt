@@ -105,7 +105,9 @@ sub-t16 : tie.Need-sub-t16
 sub-t16 c = fits (num 65536 ⊟ s# (at-s c)) tt
 
 cast-t17 : tie.Need-cast-t17
-cast-t17 c = let p = at-s c in said (λ (z : ℤ). T (nonNeg z) × Fits w64 (natAbs z)) (divisor# p) tt (tt, record { fits = omega (arith, s-low p) })
+cast-t17 c =
+    let p = at-s c in
+    said (λ (z : ℤ). T (nonNeg z) × Fits w64 (natAbs z)) (divisor# p) tt (tt, record { fits = omega (arith, s-low p) })
 
 div-t18 : tie.Need-div-t18
 div-t18 c = (omega arith, fits (divisor# (at-s c) ÷ num 2) tt)
@@ -117,7 +119,9 @@ mul-t20 : tie.Need-mul-t20
 mul-t20 c = fits (limit# (at-s c)) tt
 
 cast-t21 : tie.Need-cast-t21
-cast-t21 c = let p = at-s c in said (λ (z : ℤ). T (nonNeg z) × Fits w64 (natAbs z)) (limit# p) tt (tt, record { fits = omega (arith, s-low p) })
+cast-t21 c =
+    let p = at-s c in
+    said (λ (z : ℤ). T (nonNeg z) × Fits w64 (natAbs z)) (limit# p) tt (tt, record { fits = omega (arith, s-low p) })
 
 returns : tie.Need-returns
 returns c =

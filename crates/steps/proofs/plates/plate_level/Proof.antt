@@ -11,8 +11,8 @@ use Rattle.steps.specs.Roles.{Steppable}
 use Rattle.steps.proofs.PlanLaws.{few-rows, few-points}
 use Rattle.steps.proofs.FillLaws.{ran-fine}
 use Rattle.steps.proofs.RowLaws.{steppable-ready}
-use Rattle.steps.proofs.PlateRowLaws.{PlateRows, some-columns, some-rows, few-columns, three-rows, plate-start, in-level, in-row, two-rows}
-use Rattle.steps.proofs.PlateRowLaws.{plate-next, plate-stops, plate-done}
+use Rattle.steps.proofs.PlateRowLaws.{PlateRows, some-columns, some-rows, few-columns, three-rows, plate-start, in-level, in-row}
+use Rattle.steps.proofs.PlateRowLaws.{two-rows, plate-next, plate-stops, plate-done}
 use Rattle.steps.proofs.plates.plate_level.Statement.{statement}
 use Rattle.steps.proofs.plates.plate_level.Tie as tie
 

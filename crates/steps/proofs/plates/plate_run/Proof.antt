@@ -204,7 +204,8 @@ loop-again c =
     let s = start t in (
       running-on (inv t) (omega arith) (omega (arith, last t))
           (ran-fine (not-false _ (c .if2 .left)) (c .before .before .next-point .ensures)),
-      subst (λ (x : ℤ). TwoRows (g s) (s .args .newer .now) (set (sums t) (place t) x) (s .args .rows) (k t + 1)) (sym (under-is (c .before .before .before .before .before .before .before .before .before)))
+      subst (λ (x : ℤ). TwoRows (g s) (s .args .newer .now) (set (sums t) (place t) x) (s .args .rows) (k t + 1))
+          (sym (under-is (c .before .before .before .before .before .before .before .before .before)))
           (two-next (ready s) (two t) (row s) (first t) (last t)),
       long (c .before) _ _,
     )

@@ -63,7 +63,8 @@ loop-again : tie.Need-loop-again Inv-loop μ-loop
 loop-again c =
     let t = c .before in
     putting-on (t .before .loop .inv) (omega arith) (omega (arith, last t)) (omega (arith, s t .pre .0)) _
-    (back (c .around .result) (c .around .ok) ∙ c .around .ensures ∙ ap (fourBeside (s t .args .xs .now) (s t .args .columns)) (omega arith))
+    (back (c .around .result) (c .around .ok) ∙ c .around .ensures ∙
+    ap (fourBeside (s t .args .xs .now) (s t .args .columns)) (omega arith))
 
 same-length : tie.Need-same-length Inv-loop μ-loop
 same-length c = c .before .loop .inv .filled .long

@@ -95,8 +95,9 @@ module _ (c : tie.After-sum-at3 Inv-loop μ-loop) where
 
   beside : Neighbouring (s .args .plan .instrument) (s .args .newer .now) (k turn) (toZ w64 (turn .before .before .loop .here)) (red outer#)
   beside =
-      coe 1 0 (j. Neighbouring (s .args .plan .instrument) (s .args .newer .now) (k turn) (turn .before .before .loop .inv .2 j) (is outer# tt j))
-      (bar-beside (s .args .plan .instrument) (is-bar s) (s .args .newer .now) (ready s .newer-long) (on s) (k turn) (first turn) (last turn))
+      let i = s .args .plan .instrument in
+      coe 1 0 (j. Neighbouring i (s .args .newer .now) (k turn) (turn .before .before .loop .inv .2 j) (is outer# tt j))
+      (bar-beside i (is-bar s) (s .args .newer .now) (ready s .newer-long) (on s) (k turn) (first turn) (last turn))
 
 -- once the point is done
 abbrev right : tie.After-out Inv-loop μ-loop → tie.After-sum-at3 Inv-loop μ-loop
