@@ -113,6 +113,8 @@ def summary(counts, seconds, jobs):
         numbers = sorted(number for key in counts if isinstance(key, tuple) for number in key[1:] if key[0] == name)
         print(name, sum(counts[name, number] for number in numbers), "by refusal:",
               " ".join(f"{number}:{counts[name, number]}" for number in numbers))
+    kinds = sorted(key for key in counts if isinstance(key, str) and key.startswith("kind "))
+    print("blocks carried out:", "; ".join(f"{kind}: {counts[kind]}" for kind in kinds))
     print(f"{counts['lists']} lists, {counts['calls in lists']} calls in lists "
           f"({counts['far']} with the book at a distance), energy watched at {counts['energy watched']} steps")
 

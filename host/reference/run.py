@@ -60,6 +60,9 @@ class Run:
         if found != expected:
             raise Difference(shown(name, arguments, expected, found))
         self.counts[name, expected[0]] += 1
+        if name == "block" and expected[0] in (0, 13):
+            kind, _, _, _, m = arguments[:5]
+            self.counts[f"kind {kind}{', stiff' if m else ''}"] += 1
         return expected
 
     def block(self, grid, settings, older, newer):
