@@ -1,5 +1,5 @@
 -- The next values of moving points, by the force that a hit has on them.
-use mathlib.Core.Path.{_≡_, sym, ap, _∙_, subst}
+use mathlib.Core.Path.{_≡_, refl, sym, ap, _∙_, subst}
 use mathlib.Core.Bool.{Bool, true, false}
 use mathlib.Core.List.{List}
 use Prim.Native.Nat.{ℕ, _≤_, zero-le}
@@ -56,6 +56,12 @@ next-value i h older newer f k m e =
     (biharmonic (i .grid) (point newer) k)
     (point older k) z) (divisor (i .settings))) (sym e) ∙
     sym (next-moving i h older newer k m)
+
+-- without a hit there is no force
+pub no-hit : (i : Instrument) (older newer : List ℤ) {write : Bool} {base : ℕ} {out out′ : List ℤ} {from to : ℕ} {fine : Bool}
+    → Moves (i .grid) from to → Ran (valueAt i (pos 0) older newer) write base out out′ from to fine
+    → Ran (nextAt i Absent older newer) write base out out′ from to fine
+no-hit i older newer m = ran-same (λ k a b. next-value i Absent older newer (pos 0) k (m .each k a b) refl)
 
 -- ---- a loop over the stretches of a row
 

@@ -1,5 +1,5 @@
 -- The roles of the three slices.
-use mathlib.Core.Path.{_≡_, refl, sym, ap, _∙_}
+use mathlib.Core.Path.{_≡_, refl, sym, ap, _∙_, subst}
 use mathlib.Core.Bool.{Bool}
 use mathlib.Core.List.{List}
 use Prim.Native.Nat.{ℕ, zero, suc}
@@ -59,6 +59,19 @@ module _ {p : ℕ} {a₀ b₀ c₀ older newer out₀ : List ℤ} (r₀ : InRole
     older-kept = r .older-is ∙ sym (r₀ .older-is);
     newer-kept = r .newer-is ∙ sym (r₀ .newer-is);
   }
+
+-- the same of another name of the hit
+module _ {h h′ : Hit} (e : h ≡ h′) where
+  pub given-as : {q : Plan} {older newer out : List ℤ} → Steppable q h older newer out → Steppable q h′ older newer out
+  given-as {q} {older} {newer} {out} = subst (λ (h : Hit). Steppable q h older newer out) e
+
+  pub stepped-as : {i : Instrument} {older newer out : List ℤ} {done : Bool}
+      → Stepped i h′ older newer out done → Stepped i h older newer out done
+  stepped-as {i} {older} {newer} {out} {done} = subst (λ (h : Hit). Stepped i h older newer out done) (sym e)
+
+  pub in-roles-as : {p : ℕ} {i : Instrument} {a₀ b₀ c₀ a b c : List ℤ} {done : Bool}
+      → SteppedIn p i h′ a₀ b₀ c₀ a b c done → SteppedIn p i h a₀ b₀ c₀ a b c done
+  in-roles-as s = record { stepped = stepped-as (s .stepped); older-kept = s .older-kept; newer-kept = s .newer-kept }
 
 -- ---- after a step the level in the role of newer is older, and the next level newer
 

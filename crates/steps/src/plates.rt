@@ -4,6 +4,7 @@ ghost use mathlib.Core.Bool.{true, false, cond};
 ghost use Prim.Native.Nat.{_+_, _-_, _≤_, _<_};
 ghost use lib.IntN.{pos};
 ghost use lib.ListN.{length};
+ghost use Rattle.types.specs.declared.Hit.the-variants.{Absent};
 ghost use Rattle.types.specs.Numbers.{ceiling};
 ghost use Rattle.scheme.specs.Lists.{point};
 ghost use Rattle.scheme.specs.Instruments.{plate, kind};
@@ -17,7 +18,6 @@ use crate::plan::Plan;
 use crate::points::next_point;
 use crate::stretch::Stretch;
 use crate::stretch::force_at;
-use crate::stretch::stretch_end;
 use types::Hit;
 
 // Where the sums of two rows stand: of column c of the row that begins at point `start` at place here + c; at other + c that of the row
@@ -65,7 +65,32 @@ fn second_at(sums: &[i64], rows: SumRows, c: usize, below: i64) -> i64
     sums[here - 1] + sums[here + 1] + sums[above] + below
 }
 
-// Points of a row. Where a point is done, the sum below it stands for the one above it.
+// A point of a row. Once it is done, the sum below it stands for the one above it.
+fn plate_point(
+    plan: Plan,
+    older: &[i64],
+    newer: &[i64],
+    rows: SumRows,
+    at: usize,
+    s: Stretch,
+    sums: &mut [i64],
+    out: &mut [i64],
+) -> bool
+    requires { ⌜ Ready plan (s .force) (now older) (now newer) × Placed s (length (now out)) × (s .from ≤ at) × (at < s .to) ⌝ }
+    requires { ⌜ TwoRows (plan .instrument .grid) (now newer) (now sums) rows at
+        × InRow (plan .instrument .grid) rows (s .from) (s .to) ⌝ }
+    ensures { λ r. ⌜ Advanced plan s (now (older .entry)) (now (newer .entry)) (now (out .entry)) (now (out .exit)) at (at + 1) r
+        × TwoRows (plan .instrument .grid) (now (newer .entry)) (now (sums .exit)) rows (at + 1) ⌝ }
+{
+    let c = at - rows.start;
+    let below = sum_below(newer, at, plan.instrument.grid.columns, rows.last);
+    let second = second_at(sums, rows, c, below);
+    let sum = sums[rows.here + c];
+    sums[rows.other + c] = below;
+    next_point(plan, older, newer, at, sum, second, s, out)
+}
+
+// Points of a row, one force on all of them.
 fn plate_run(
     plan: Plan,
     older: &[i64],
@@ -81,15 +106,9 @@ fn plate_run(
     ensures { λ r. ⌜ Advanced plan s (now (older .entry)) (now (newer .entry)) (now (out .entry)) (now (out .exit)) (s .from) (s .to) r
         × (r ≡ true → TwoRows (plan .instrument .grid) (now (newer .entry)) (now (sums .exit)) rows (s .to)) ⌝ }
 {
-    let columns = plan.instrument.grid.columns;
     let mut at = s.from;
     while at < s.to {
-        let c = at - rows.start;
-        let below = sum_below(newer, at, columns, rows.last);
-        let second = second_at(sums, rows, c, below);
-        let sum = sums[rows.here + c];
-        sums[rows.other + c] = below;
-        if !next_point(plan, older, newer, at, sum, second, s, out) {
+        if !plate_point(plan, older, newer, rows, at, s, sums, out) {
             return false;
         }
         at += 1;
@@ -97,8 +116,8 @@ fn plate_run(
     true
 }
 
-// The moving points of a row.
-fn plate_row(
+// Points of a row with a hit: each is a stretch of its own.
+fn struck_run(
     plan: Plan,
     older: &[i64],
     newer: &[i64],
@@ -117,32 +136,25 @@ fn plate_row(
 {
     let mut at = row.from;
     while at < row.to {
-        let end = stretch_end(hit, at, row.to);
         let s = Stretch {
             from: at,
-            to: end,
+            to: at + 1,
             force: force_at(hit, at),
             base: row.base,
             write: row.write,
         };
-        if !plate_run(plan, older, newer, rows, s, sums, out) {
+        if !plate_point(plan, older, newer, rows, at, s, sums, out) {
             return false;
         }
-        at = end;
+        at += 1;
     }
     true
 }
 
-// Every moving point of a plate. After a row the two places of the sums change roles.
-pub(crate) fn plate_level(
-    plan: Plan,
-    older: &[i64],
-    newer: &[i64],
-    out: &mut [i64],
-    hit: Hit,
-) -> bool
-    requires { ⌜ Steppable plan hit (now older) (now newer) (now out) × (kind (plan .instrument .grid) ≡ plate) ⌝ }
-    ensures { λ r. ⌜ Stepped (plan .instrument) hit (now (older .entry)) (now (newer .entry)) (now (out .exit)) r ⌝ }
+// Every moving point of a plate, in a step without a hit. After a row the two places of the sums change roles.
+pub(crate) fn plate_level(plan: Plan, older: &[i64], newer: &[i64], out: &mut [i64]) -> bool
+    requires { ⌜ Steppable plan Absent (now older) (now newer) (now out) × (kind (plan .instrument .grid) ≡ plate) ⌝ }
+    ensures { λ r. ⌜ Stepped (plan .instrument) Absent (now (older .entry)) (now (newer .entry)) (now (out .exit)) r ⌝ }
 {
     let g = plan.instrument.grid;
     let columns = g.columns;
@@ -168,7 +180,57 @@ pub(crate) fn plate_level(
             base: 0,
             write: true,
         };
-        if !plate_row(plan, older, newer, rows, moving, hit, &mut sums, out) {
+        if !plate_run(plan, older, newer, rows, moving, &mut sums, out) {
+            return false;
+        }
+        let free = other;
+        other = here;
+        here = free;
+        row += 1;
+        start += columns;
+    }
+    true
+}
+
+// The same in a step with a hit: a loop of its own, so that the other steps have no force to look for.
+pub(crate) fn struck_level(
+    plan: Plan,
+    older: &[i64],
+    newer: &[i64],
+    out: &mut [i64],
+    hit: Hit,
+) -> bool
+    requires { ⌜ Steppable plan hit (now older) (now newer) (now out) × (kind (plan .instrument .grid) ≡ plate) ⌝ }
+    ensures { λ r. ⌜ Stepped (plan .instrument) hit (now (older .entry)) (now (newer .entry)) (now (out .exit)) r ⌝ }
+{
+    let Hit::At { point: _, force: _ } = hit else {
+        return plate_level(plan, older, newer, out);
+    };
+    let g = plan.instrument.grid;
+    let columns = g.columns;
+    let right = columns - 1;
+    let last = g.rows - 1;
+    let mut sums = [0i64; 128];
+    put_first(newer, columns, 64, &mut sums);
+    let mut other = 0;
+    let mut here = 64;
+    let mut row = 1;
+    let mut start = columns;
+    while row < last {
+        let rows = SumRows {
+            start,
+            here,
+            other,
+            last: row + 1 == last,
+        };
+        let moving = Stretch {
+            from: start + 1,
+            to: start + right,
+            force: 0,
+            base: 0,
+            write: true,
+        };
+        if !struck_run(plan, older, newer, rows, moving, hit, &mut sums, out) {
             return false;
         }
         let free = other;

@@ -5,11 +5,14 @@ use native.Mathlib.Omega.{arith}
 use borrow.Author.Needs.{needs}
 use borrow.Author.Tests.{not-true, not-false}
 use Rattle.types.specs.declared.Grid.{Grid}
+use Rattle.types.specs.declared.Hit.the-variants.{Absent}
 use Rattle.scheme.specs.Instruments.{plate, kind, points}
 use Rattle.slices.proofs.SliceLaws.{zeros}
+use Rattle.steps.specs.Run.{Moves}
 use Rattle.steps.specs.Roles.{Steppable}
 use Rattle.steps.proofs.PlanLaws.{few-rows, few-points}
 use Rattle.steps.proofs.FillLaws.{ran-fine}
+use Rattle.steps.proofs.HitLaws.{no-hit}
 use Rattle.steps.proofs.RowLaws.{steppable-ready}
 use Rattle.steps.proofs.PlateRowLaws.{PlateRows, some-columns, some-rows, few-columns, three-rows, plate-start, in-level, in-row}
 use Rattle.steps.proofs.PlateRowLaws.{two-rows, plate-next, plate-stops, plate-done}
@@ -17,18 +20,18 @@ use Rattle.steps.proofs.plates.plate_level.Statement.{statement}
 use Rattle.steps.proofs.plates.plate_level.Tie as tie
 
 abbrev Inv-loop : tie.InvT-loop
-Inv-loop plan older newer out₀ hit columns right last sums₀ other₀ here₀ row₀ start₀ out sums other here row start =
-    PlateRows (plan .instrument) hit older newer out₀ out sums other here row start
+Inv-loop plan older newer out₀ columns right last sums₀ other₀ here₀ row₀ start₀ out sums other here row start =
+    PlateRows (plan .instrument) Absent older newer out₀ out sums other here row start
 
 abbrev μ-loop : tie.MeasureT-loop
-μ-loop plan older newer out₀ hit columns right last sums₀ other₀ here₀ row₀ start₀ out sums other here row start = last - row
+μ-loop plan older newer out₀ columns right last sums₀ other₀ here₀ row₀ start₀ out sums other here row start = last - row
 
 -- what the caller showed
 module _ (s : tie.Start Inv-loop μ-loop) where
   abbrev g : Grid
   g = s .args .plan .instrument .grid
 
-  given : Steppable (s .args .plan) (s .args .hit) (s .args .older .now) (s .args .newer .now) (s .args .out .now)
+  given : Steppable (s .args .plan) Absent (s .args .older .now) (s .args .newer .now) (s .args .out .now)
   given = s .pre .0
 
   is-plate : kind g ≡ plate
@@ -42,7 +45,7 @@ module _ (c : tie.In-loop Inv-loop μ-loop) where
   abbrev start : tie.Start Inv-loop μ-loop
   start = c .before .before .before .before .before .before .before
 
-  abbrev inv : PlateRows (start .args .plan .instrument) (start .args .hit) (start .args .older .now) (start .args .newer .now)
+  abbrev inv : PlateRows (start .args .plan .instrument) Absent (start .args .older .now) (start .args .newer .now)
       (start .args .out .now) (c .before .loop .out) (c .before .loop .sums) (c .before .loop .other) (c .before .loop .here)
       (c .before .loop .row) (c .before .loop .start)
   inv = c .before .loop .inv
@@ -52,6 +55,9 @@ module _ (c : tie.In-loop Inv-loop μ-loop) where
 
   room : c .before .loop .start + g start .columns ≤ points (g start)
   room = in-level (given start) (is-plate start) inv last
+
+  moves : Moves (g start) (c .before .loop .start + 1) (c .before .loop .start + (g start .columns - 1))
+  moves = in-row (given start) (is-plate start) inv last .moves
 
   few : g start .rows ≤ 64
   few = few-rows (given start .planned)
@@ -87,17 +93,17 @@ loop-holds c =
 add-if1 : tie.Need-add-if1 Inv-loop μ-loop
 add-if1 c = record { fits = omega (arith, last c, few c) }
 
+add-t21 : tie.Need-add-t21 Inv-loop μ-loop
+add-t21 c = record { fits = omega (arith, room c, small (start c), wide c) }
+
 add-t22 : tie.Need-add-t22 Inv-loop μ-loop
-add-t22 c = record { fits = omega (arith, room c, small (start c), wide c) }
+add-t22 c = record { fits = omega (arith, room c, small (start c)) }
 
-add-t23 : tie.Need-add-t23 Inv-loop μ-loop
-add-t23 c = record { fits = omega (arith, room c, small (start c)) }
+slice-aggregate-plate-run : tie.Need-slice-aggregate-plate-run Inv-loop μ-loop
+slice-aggregate-plate-run c = sym (inv (c .before) .long)
 
-slice-aggregate-plate-row : tie.Need-slice-aggregate-plate-row Inv-loop μ-loop
-slice-aggregate-plate-row c = sym (inv (c .before) .long)
-
-plate-row-requires : tie.Need-plate-row-requires Inv-loop μ-loop
-plate-row-requires c κs =
+plate-run-requires : tie.Need-plate-run-requires Inv-loop μ-loop
+plate-run-requires c κs =
     let t = c .before .before in
     let s = start t in (
       (
@@ -107,19 +113,18 @@ plate-row-requires c κs =
           above = zero-le;
           room = omega (arith, room t, inv t .rows .ran .long, given s .room .long);
         },
-        given s .hit-low,
       ),
       (two-rows (given s) (is-plate s) (inv t) (last t), in-row (given s) (is-plate s) (inv t) (last t)),
     )
 
 same-length : tie.Need-same-length Inv-loop μ-loop
-same-length c = let t = done (c .before) in c .before .before .before .plate-row .ensures .0 .long ∙ inv t .rows .ran .long
+same-length c = let t = done (c .before) in c .before .before .before .plate-run .ensures .0 .long ∙ inv t .rows .ran .long
 
 returns : tie.Need-returns Inv-loop μ-loop
 returns c =
     let t = done (c .before) in
     plate-stops (given (start t)) (is-plate (start t)) (inv t) (last t)
-    (ran-fine (not-true _ (c .if1 .taken)) (c .before .before .before .plate-row .ensures .0))
+    (no-hit _ _ _ (moves t) (ran-fine (not-true _ (c .if1 .taken)) (c .before .before .before .plate-run .ensures .0)))
 
 add-row : tie.Need-add-row Inv-loop μ-loop
 add-row c = let t = done (c .before) in record { fits = omega (arith, last t, few t) }
@@ -133,9 +138,10 @@ loop-less c = let t = done (c .before) in omega (arith, t .loop-test .taken)
 loop-again : tie.Need-loop-again Inv-loop μ-loop
 loop-again c =
     let t = done (c .before) in
-    let p = c .before .before .before .plate-row .ensures in
+    let p = c .before .before .before .plate-run .ensures in
     let fine = not-false _ (c .if1 .left) in
-    plate-next (given (start t)) (is-plate (start t)) (inv t) (last t) (ran-fine fine (p .0)) (p .1 fine) (search needs)
+    plate-next (given (start t)) (is-plate (start t)) (inv t) (last t) (no-hit _ _ _ (moves t) (ran-fine fine (p .0))) (p .1 fine)
+    (search needs)
 
 same-length-2 : tie.Need-same-length-2 Inv-loop μ-loop
 same-length-2 c = c .before .loop .inv .rows .ran .long
@@ -157,10 +163,10 @@ plate-level-spec =
     put-first-requires
     loop-holds
     add-if1
+    add-t21
     add-t22
-    add-t23
-    slice-aggregate-plate-row
-    plate-row-requires
+    slice-aggregate-plate-run
+    plate-run-requires
     same-length
     returns
     add-row

@@ -1,7 +1,7 @@
--- `plate_row` meets its contract: stretch by stretch, one force on the points of each.
+-- `struck_run` meets its contract: point by point, each with the force of the hit on it.
 use mathlib.Core.Path.{_≡_, refl, sym, _∙_, subst}
 use mathlib.Core.Bool.{true≢false}
-use Prim.Native.Nat.{_-_}
+use Prim.Native.Nat.{_+_, _-_, _<_}
 use native.Mathlib.Omega.{arith}
 use borrow.Author.Needs.{needs}
 use borrow.Author.Tests.{not-true, not-false}
@@ -10,12 +10,14 @@ use mir.Syntax.{w64}
 use mir.Val.{toZ, ofZ}
 use Rattle.bounded.proofs.Num.{back}
 use Rattle.scheme.specs.Step.{nextAt}
+use Rattle.scheme.proofs.Laws.Step.{moving-inside}
 use Rattle.steps.specs.Plates.{TwoRows}
 use Rattle.steps.proofs.FillLaws.{Running, running-start, running-done, ran-fine}
+use Rattle.steps.proofs.StretchLaws.{ends-alone}
 use Rattle.steps.proofs.HitLaws.{Struck, struck-ready, struck-placed, struck-moves, struck-on, struck-stops}
 use Rattle.steps.proofs.PlateLaws.{some-row}
-use Rattle.steps.proofs.plates.plate_row.Statement.{statement}
-use Rattle.steps.proofs.plates.plate_row.Tie as tie
+use Rattle.steps.proofs.plates.struck_run.Statement.{statement}
+use Rattle.steps.proofs.plates.struck_run.Tie as tie
 
 abbrev Inv-loop : tie.InvT-loop
 Inv-loop plan older newer rows row hit sums₀ out₀ at₀ sums out at =
@@ -25,43 +27,54 @@ Inv-loop plan older newer rows row hit sums₀ out₀ at₀ sums out at =
 abbrev μ-loop : tie.MeasureT-loop
 μ-loop plan older newer rows row hit sums₀ out₀ at₀ sums out at = row .to - at
 
--- the stretch of a turn, and the force on it as it was stored
-module _ (c : tie.After-force-at Inv-loop μ-loop) where
+-- a point of the row
+module _ (c : tie.Then1 Inv-loop μ-loop) where
   abbrev loop : tie.At-loop Inv-loop μ-loop
-  loop = c .before .before .before .before
+  loop = c .before .before
 
   abbrev s : tie.Start Inv-loop μ-loop
   s = loop .before
 
-  struck : Struck (s .args .plan) (s .args .hit) (s .args .older .now) (s .args .newer .now) (s .args .row) (s .args .out .now)
-      (loop .loop .out) (loop .loop .at) (c .before .stretch-end .result) (toZ w64 (ofZ w64 (c .force-at .result)))
-  struck = record {
-    moves = s .pre .1 .1 .moves;
-    inv = loop .loop .inv .0;
-    ends = c .before .stretch-end .ensures;
-    force-is = back (c .force-at .result) (c .force-at .ok) ∙ c .force-at .ensures;
-  }
+  inside : loop .loop .at < length (s .args .newer .now)
+  inside = omega (
+    arith,
+    s .pre .0 .0 .newer-long,
+    moving-inside (s .args .plan .instrument .grid) (loop .loop .at)
+        (s .pre .1 .1 .moves .each (loop .loop .at) (loop .loop .inv .0 .order) (c .if1 .taken)),
+  )
 
--- once the stretch is done
+-- the force on it, as it was stored
+struck : (c : tie.After-force-at Inv-loop μ-loop) → let t = c .before in let s = s t in
+    Struck (s .args .plan) (s .args .hit) (s .args .older .now) (s .args .newer .now) (s .args .row) (s .args .out .now)
+    (loop t .loop .out) (loop t .loop .at) (loop t .loop .at + 1) (toZ w64 (ofZ w64 (c .force-at .result)))
+struck c =
+    let t = c .before in record {
+      moves = s t .pre .1 .1 .moves;
+      inv = loop t .loop .inv .0;
+      ends = ends-alone (t .if1 .taken) (s t .args .hit);
+      force-is = back (c .force-at .result) (c .force-at .ok) ∙ c .force-at .ensures;
+    }
+
+-- once the point is done
 abbrev done : tie.After-out Inv-loop μ-loop → tie.After-force-at Inv-loop μ-loop
 done c = c .before .before .before .before .before
 
 loop-holds : tie.Need-loop-holds Inv-loop μ-loop
 loop-holds c = let p = c .pre .0 .1 in (running-start _ _ _ (p .above) (p .order), c .pre .1 .0, refl)
 
-stretch-end-requires : tie.Need-stretch-end-requires Inv-loop μ-loop
-stretch-end-requires c κs = c .if1 .taken
+add-t12 : tie.Need-add-t12 Inv-loop μ-loop
+add-t12 c = let h = inside c in search needs
 
 force-at-requires : tie.Need-force-at-requires Inv-loop μ-loop
-force-at-requires c κs = c .before .before .before .before .pre .0 .2
+force-at-requires c κs = s c .pre .0 .2
 
-plate-run-requires : tie.Need-plate-run-requires Inv-loop μ-loop
-plate-run-requires c κs =
+plate-point-requires : tie.Need-plate-point-requires Inv-loop μ-loop
+plate-point-requires c κs =
     let b = c .before .before in
     let t = struck b in
-    let p = s b .pre in (
-      (struck-ready t (p .0 .2) (p .0 .0), struck-placed t (p .0 .1)),
-      (loop b .loop .inv .1, some-row (p .1 .1) (t .inv .order) (struck-moves t) (t .ends .upto)),
+    let p = s (b .before) .pre in (
+      (struck-ready t (p .0 .2) (p .0 .0), struck-placed t (p .0 .1), omega arith, omega arith),
+      (loop (b .before) .loop .inv .1, some-row (p .1 .1) (t .inv .order) (struck-moves t) (t .ends .upto)),
     )
 
 same-length : tie.Need-same-length Inv-loop μ-loop
@@ -72,18 +85,20 @@ same-length-2 c = search needs
 
 returns : tie.Need-returns Inv-loop μ-loop
 returns c = (
-  struck-stops (struck (done (c .before))) (ran-fine (not-true _ (c .if2 .taken)) (c .before .before .before .plate-run .ensures .0)),
+  struck-stops (struck (done (c .before))) (ran-fine (not-true _ (c .if2 .taken)) (c .before .before .before .plate-point .ensures .0)),
   λ e. absurd (true≢false (sym e)),
 )
 
+add-at : tie.Need-add-at Inv-loop μ-loop
+add-at c = let h = inside (done (c .before) .before) in search needs
+
 loop-less : tie.Need-loop-less Inv-loop μ-loop
-loop-less c = let e = struck (done (c .before)) .ends in omega (arith, e .some, e .upto)
+loop-less c = omega (arith, done (c .before) .before .if1 .taken)
 
 loop-again : tie.Need-loop-again Inv-loop μ-loop
 loop-again c =
-    let p = c .before .before .before .plate-run .ensures in
-    let fine = not-false _ (c .if2 .left) in
-    (struck-on (struck (done (c .before))) (ran-fine fine (p .0)), p .1 fine, search needs)
+    let p = c .before .before .before .plate-point .ensures in
+    (struck-on (struck (done (c .before))) (ran-fine (not-false _ (c .if2 .left)) (p .0)), p .1, search needs)
 
 same-length-3 : tie.Need-same-length-3 Inv-loop μ-loop
 same-length-3 c = c .before .before .loop .inv .2
@@ -100,19 +115,20 @@ returns-2 c =
           (omega (arith, l .loop .inv .0 .upto, c .if1 .left)) (l .loop .inv .1),
     )
 
-pub plate-row-spec : {M : Type 1} → statement M
-plate-row-spec =
+pub struck-run-spec : {M : Type 1} → statement M
+struck-run-spec =
     tie.close
     (tie.spec
     Inv-loop
     μ-loop
     loop-holds
-    stretch-end-requires
+    add-t12
     force-at-requires
-    plate-run-requires
+    plate-point-requires
     same-length
     same-length-2
     returns
+    add-at
     loop-less
     loop-again
     same-length-3

@@ -1,0 +1,193 @@
+-- `struck_level` meets its contract, as `plate_level` does: with the hit in the rows.
+use mathlib.Core.Path.{_≡_, refl, sym, _∙_}
+use Prim.Native.Nat.{_+_, _-_, _≤_, _<_, zero-le}
+use native.Mathlib.Omega.{arith}
+use borrow.Author.Needs.{needs}
+use borrow.Author.Tests.{not-true, not-false}
+use Rattle.types.specs.declared.Grid.{Grid}
+use Rattle.scheme.specs.Instruments.{plate, kind, points}
+use Rattle.slices.proofs.SliceLaws.{zeros}
+use Rattle.steps.specs.Roles.{Steppable}
+use Rattle.steps.proofs.PlanLaws.{few-rows, few-points}
+use Rattle.steps.proofs.FillLaws.{ran-fine}
+use Rattle.steps.proofs.RoleLaws.{given-as, stepped-as}
+use Rattle.steps.proofs.RowLaws.{steppable-ready}
+use Rattle.steps.proofs.PlateRowLaws.{PlateRows, some-columns, some-rows, few-columns, three-rows, plate-start, in-level, in-row}
+use Rattle.steps.proofs.PlateRowLaws.{two-rows, plate-next, plate-stops, plate-done}
+use Rattle.steps.proofs.plates.struck_level.Statement.{statement}
+use Rattle.steps.proofs.plates.struck_level.Tie as tie
+
+abbrev Inv-loop : tie.InvT-loop
+Inv-loop plan older newer out₀ hit columns right last sums₀ other₀ here₀ row₀ start₀ out sums other here row start =
+    PlateRows (plan .instrument) hit older newer out₀ out sums other here row start
+
+abbrev μ-loop : tie.MeasureT-loop
+μ-loop plan older newer out₀ hit columns right last sums₀ other₀ here₀ row₀ start₀ out sums other here row start = last - row
+
+-- what the caller showed
+module _ (s : tie.Start Inv-loop μ-loop) where
+  abbrev g : Grid
+  g = s .args .plan .instrument .grid
+
+  given : Steppable (s .args .plan) (s .args .hit) (s .args .older .now) (s .args .newer .now) (s .args .out .now)
+  given = s .pre .0
+
+  is-plate : kind g ≡ plate
+  is-plate = s .pre .1
+
+  small : points g ≤ 4096
+  small = few-points (given .planned)
+
+-- a row
+module _ (c : tie.In-loop Inv-loop μ-loop) where
+  abbrev start : tie.Start Inv-loop μ-loop
+  start = c .before .before .before .before .before .before .before .before .before
+
+  abbrev inv : PlateRows (start .args .plan .instrument) (start .args .hit) (start .args .older .now) (start .args .newer .now)
+      (start .args .out .now) (c .before .loop .out) (c .before .loop .sums) (c .before .loop .other) (c .before .loop .here)
+      (c .before .loop .row) (c .before .loop .start)
+  inv = c .before .loop .inv
+
+  last : c .before .loop .row + 1 < g start .rows
+  last = omega (arith, c .loop-test .taken)
+
+  room : c .before .loop .start + g start .columns ≤ points (g start)
+  room = in-level (given start) (is-plate start) inv last
+
+  few : g start .rows ≤ 64
+  few = few-rows (given start .planned)
+
+  wide : 3 ≤ g start .columns
+  wide = some-columns (given start) (is-plate start)
+
+-- once the row is done
+abbrev done : tie.After-out2 Inv-loop μ-loop → tie.In-loop Inv-loop μ-loop
+done c = c .before .before .before .before .before
+
+enum-told : tie.Need-enum-told Inv-loop μ-loop
+enum-told c = search needs
+
+enum-told-2 : tie.Need-enum-told-2 Inv-loop μ-loop
+enum-told-2 c = search needs
+
+-- where there is none
+plate-level-requires : tie.Need-plate-level-requires Inv-loop μ-loop
+plate-level-requires c κs = let s = c .before .before .before in (given-as (c .before .enum-told2 .given .1) (given s), is-plate s)
+
+same-length : tie.Need-same-length Inv-loop μ-loop
+same-length c = search needs
+
+returns : tie.Need-returns Inv-loop μ-loop
+returns c = stepped-as (c .before .before .before .enum-told2 .given .1) (c .before .plate-level .ensures)
+
+sub-right : tie.Need-sub-right Inv-loop μ-loop
+sub-right c = let s = c .before .before .before in omega (arith, some-columns (given s) (is-plate s))
+
+sub-last : tie.Need-sub-last Inv-loop μ-loop
+sub-last c = let s = c .before .before .before .before in omega (arith, some-rows (given s) (is-plate s))
+
+slice-aggregate-put-first : tie.Need-slice-aggregate-put-first Inv-loop μ-loop
+slice-aggregate-put-first c = refl
+
+put-first-requires : tie.Need-put-first-requires Inv-loop μ-loop
+put-first-requires c κs =
+    let s = c .before .before .before .before .before in (
+      (some-columns (given s) (is-plate s), three-rows (given s) (is-plate s), omega (arith, few-columns (given s) (is-plate s))),
+      steppable-ready (given s) .newer-low,
+    )
+
+loop-holds : tie.Need-loop-holds Inv-loop μ-loop
+loop-holds c =
+    let s = c .before .before .before .before .before .before .before in
+    plate-start (given s) (is-plate s) _ (zeros 128) refl (c .before .put-first .ensures)
+
+add-if1 : tie.Need-add-if1 Inv-loop μ-loop
+add-if1 c = record { fits = omega (arith, last c, few c) }
+
+add-t24 : tie.Need-add-t24 Inv-loop μ-loop
+add-t24 c = record { fits = omega (arith, room c, small (start c), wide c) }
+
+add-t25 : tie.Need-add-t25 Inv-loop μ-loop
+add-t25 c = record { fits = omega (arith, room c, small (start c)) }
+
+slice-aggregate-struck-run : tie.Need-slice-aggregate-struck-run Inv-loop μ-loop
+slice-aggregate-struck-run c = sym (inv (c .before) .long)
+
+struck-run-requires : tie.Need-struck-run-requires Inv-loop μ-loop
+struck-run-requires c κs =
+    let t = c .before .before in
+    let s = start t in (
+      (
+        steppable-ready (given s),
+        record {
+          order = omega (arith, wide t);
+          above = zero-le;
+          room = omega (arith, room t, inv t .rows .ran .long, given s .room .long);
+        },
+        given s .hit-low,
+      ),
+      (two-rows (given s) (is-plate s) (inv t) (last t), in-row (given s) (is-plate s) (inv t) (last t)),
+    )
+
+same-length-2 : tie.Need-same-length-2 Inv-loop μ-loop
+same-length-2 c = let t = done (c .before) in c .before .before .before .struck-run .ensures .0 .long ∙ inv t .rows .ran .long
+
+returns-2 : tie.Need-returns-2 Inv-loop μ-loop
+returns-2 c =
+    let t = done (c .before) in
+    plate-stops (given (start t)) (is-plate (start t)) (inv t) (last t)
+    (ran-fine (not-true _ (c .if1 .taken)) (c .before .before .before .struck-run .ensures .0))
+
+add-row : tie.Need-add-row Inv-loop μ-loop
+add-row c = let t = done (c .before) in record { fits = omega (arith, last t, few t) }
+
+add-start : tie.Need-add-start Inv-loop μ-loop
+add-start c = let t = done (c .before) in record { fits = omega (arith, room t, small (start t)) }
+
+loop-less : tie.Need-loop-less Inv-loop μ-loop
+loop-less c = let t = done (c .before) in omega (arith, t .loop-test .taken)
+
+loop-again : tie.Need-loop-again Inv-loop μ-loop
+loop-again c =
+    let t = done (c .before) in
+    let p = c .before .before .before .struck-run .ensures in
+    let fine = not-false _ (c .if1 .left) in
+    plate-next (given (start t)) (is-plate (start t)) (inv t) (last t) (ran-fine fine (p .0)) (p .1 fine) (search needs)
+
+same-length-3 : tie.Need-same-length-3 Inv-loop μ-loop
+same-length-3 c = c .before .loop .inv .rows .ran .long
+
+returns-3 : tie.Need-returns-3 Inv-loop μ-loop
+returns-3 c =
+    let s = c .before .before .before .before .before .before .before .before .before in
+    plate-done (given s) (is-plate s) (c .before .loop .inv) (omega (arith, c .loop-test .left, some-rows (given s) (is-plate s)))
+
+pub struck-level-spec : {M : Type 1} → statement M
+struck-level-spec =
+    tie.close
+    (tie.spec
+    Inv-loop
+    μ-loop
+    enum-told
+    enum-told-2
+    plate-level-requires
+    same-length
+    returns
+    sub-right
+    sub-last
+    slice-aggregate-put-first
+    put-first-requires
+    loop-holds
+    add-if1
+    add-t24
+    add-t25
+    slice-aggregate-struck-run
+    struck-run-requires
+    same-length-2
+    returns-2
+    add-row
+    add-start
+    loop-less
+    loop-again
+    same-length-3
+    returns-3)
