@@ -209,19 +209,19 @@ pub(crate) fn struck_level(
     let g = plan.instrument.grid;
     let columns = g.columns;
     let right = columns - 1;
-    let last = g.rows - 1;
+    let ring = g.rows - 1;
     let mut sums = [0i64; 128];
     put_first(newer, columns, 64, &mut sums);
     let mut other = 0;
     let mut here = 64;
     let mut row = 1;
     let mut start = columns;
-    while row < last {
+    while row < ring {
         let rows = SumRows {
             start,
             here,
             other,
-            last: row + 1 == last,
+            last: row + 1 == ring,
         };
         let moving = Stretch {
             from: start + 1,
@@ -233,9 +233,9 @@ pub(crate) fn struck_level(
         if !struck_run(plan, older, newer, rows, moving, hit, &mut sums, out) {
             return false;
         }
-        let free = other;
+        let spare = other;
         other = here;
-        here = free;
+        here = spare;
         row += 1;
         start += columns;
     }

@@ -18,11 +18,11 @@ use Rattle.steps.proofs.plates.struck_level.Statement.{statement}
 use Rattle.steps.proofs.plates.struck_level.Tie as tie
 
 abbrev Inv-loop : tie.InvT-loop
-Inv-loop plan older newer out₀ hit columns right last sums₀ other₀ here₀ row₀ start₀ out sums other here row start =
+Inv-loop plan older newer out₀ hit columns right ring sums₀ other₀ here₀ row₀ start₀ out sums other here row start =
     PlateRows (plan .instrument) hit older newer out₀ out sums other here row start
 
 abbrev μ-loop : tie.MeasureT-loop
-μ-loop plan older newer out₀ hit columns right last sums₀ other₀ here₀ row₀ start₀ out sums other here row start = last - row
+μ-loop plan older newer out₀ hit columns right ring sums₀ other₀ here₀ row₀ start₀ out sums other here row start = ring - row
 
 -- what the caller showed
 module _ (s : tie.Start Inv-loop μ-loop) where
@@ -83,8 +83,8 @@ returns c = stepped-as (c .before .before .before .enum-told2 .given .1) (c .bef
 sub-right : tie.Need-sub-right Inv-loop μ-loop
 sub-right c = let s = c .before .before .before in omega (arith, some-columns (given s) (is-plate s))
 
-sub-last : tie.Need-sub-last Inv-loop μ-loop
-sub-last c = let s = c .before .before .before .before in omega (arith, some-rows (given s) (is-plate s))
+sub-ring : tie.Need-sub-ring Inv-loop μ-loop
+sub-ring c = let s = c .before .before .before .before in omega (arith, some-rows (given s) (is-plate s))
 
 slice-aggregate-put-first : tie.Need-slice-aggregate-put-first Inv-loop μ-loop
 slice-aggregate-put-first c = refl
@@ -174,7 +174,7 @@ struck-level-spec =
     same-length
     returns
     sub-right
-    sub-last
+    sub-ring
     slice-aggregate-put-first
     put-first-requires
     loop-holds
