@@ -1,11 +1,11 @@
 -- The next values of moving points, by the force that a hit has on them.
 use mathlib.Core.Path.{_≡_, refl, sym, ap, _∙_, subst}
-use mathlib.Core.Bool.{Bool, true, false}
+use mathlib.Core.Bool.{Bool, true, false, _&&_, true≢false}
 use mathlib.Core.List.{List}
-use Prim.Native.Nat.{ℕ, _≤_, zero-le}
+use Prim.Native.Nat.{ℕ, _≤_, _<_, zero-le}
 use native.Mathlib.Omega.{arith}
-use borrow.Author.Tests.{ltb-false}
-use lib.Dec.{eqb}
+use borrow.Author.Tests.{ltb-false, le-leb, lt-ltb}
+use lib.Dec.{leb, ltb, eqb}
 use lib.IntN.{ℤ, pos, natAbs}
 use lib.ListN.{length}
 use Rattle.integers.proofs.Size.{cond-ind}
@@ -22,8 +22,9 @@ use Rattle.scheme.proofs.Laws.Step.{next-moving}
 use Rattle.steps.specs.declared.plan.Plan.{Plan}
 use Rattle.steps.specs.declared.stretch.Stretch.{Stretch}
 use Rattle.steps.specs.Plan.{Ready}
-use Rattle.steps.specs.Run.{valueAt, Ran, Placed, Moves, Ends}
+use Rattle.steps.specs.Run.{valueAt, Ran, Placed, Moves, Ends, hitIn}
 use Rattle.steps.proofs.FillLaws.{Running, running-on, running-stops, ran-same}
+use Rattle.steps.proofs.StretchLaws.{force-away}
 
 -- a force within the ceiling
 force-low : (h : Hit) → tooStrong h ≡ false → (k : ℕ) → natAbs (forceOf h k) ≤ ceiling
@@ -57,11 +58,32 @@ next-value i h older newer f k m e =
     (point older k) z) (divisor (i .settings))) (sym e) ∙
     sym (next-moving i h older newer k m)
 
--- without a hit there is no force
-pub no-hit : (i : Instrument) (older newer : List ℤ) {write : Bool} {base : ℕ} {out out′ : List ℤ} {from to : ℕ} {fine : Bool}
-    → Moves (i .grid) from to → Ran (valueAt i (pos 0) older newer) write base out out′ from to fine
-    → Ran (nextAt i Absent older newer) write base out out′ from to fine
-no-hit i older newer m = ran-same (λ k a b. next-value i Absent older newer (pos 0) k (m .each k a b) refl)
+pub hit-nowhere : (from to : ℕ) → hitIn Absent from to ≡ false
+unfolding hitIn
+hit-nowhere from to = refl
+
+pub hit-at : (p : ℕ) (f : ℤ) (from to : ℕ) → hitIn (At p f) from to ≡ (leb from p && ltb p to)
+unfolding hitIn
+hit-at p f from to = refl
+
+-- where the hit is not, there is no force
+pub no-force : (i : Instrument) (h : Hit) (older newer : List ℤ) (f : ℤ) {write : Bool} {base : ℕ} {out out′ : List ℤ} {from to : ℕ}
+    {fine : Bool}
+    → Moves (i .grid) from to → hitIn h from to ≡ false → f ≡ pos 0 → Ran (valueAt i f older newer) write base out out′ from to fine
+    → Ran (nextAt i h older newer) write base out out′ from to fine
+unfolding hitIn
+no-force i h older newer f {from = from} {to = to} m e z =
+    ran-same (λ k a b. next-value i h older newer f k (m .each k a b) (away h e k a b ∙ sym z))
+  where
+    away : (h : Hit) → hitIn h from to ≡ false → (k : ℕ) → from ≤ k → k < to → forceOf h k ≡ pos 0
+    away Absent e k a b = refl
+    away (At p f) e k a b = force-away p f k (λ s. true≢false (sym (λ j. low s j && high s j) ∙ e))
+      where
+        low : k ≡ p → leb from p ≡ true
+        low s = le-leb from p (omega arith)
+
+        high : k ≡ p → ltb p to ≡ true
+        high s = lt-ltb p to (omega arith)
 
 -- ---- a loop over the stretches of a row
 

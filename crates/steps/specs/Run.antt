@@ -1,15 +1,16 @@
 -- Runs of points, and the list that their values are put into. Vocabulary of private functions.
 use mathlib.Core.Path.{_≡_}
-use mathlib.Core.Bool.{Bool, true, false, cond}
+use mathlib.Core.Bool.{Bool, true, false, cond, _&&_}
 use mathlib.Core.List.{List, [], _∷_}
 use mathlib.Core.Logic.{_⊎_}
 use Prim.Native.Nat.{ℕ, _+_, _-_, _≤_, _<_}
-use lib.Dec.{ltb}
+use lib.Dec.{leb, ltb}
 use lib.IntN.{ℤ, pos, _+ℤ_}
 use lib.ListN.{length}
 use Rattle.types.specs.declared.Grid.{Grid}
 use Rattle.types.specs.declared.Instrument.{Instrument}
 use Rattle.types.specs.declared.Hit.{Hit}
+use Rattle.types.specs.declared.Hit.the-variants.{Absent, At}
 use Rattle.scheme.specs.Lists.{point}
 use Rattle.scheme.specs.Instruments.{beyond, points, atEdge, moving}
 use Rattle.scheme.specs.Step.{neighbours, numerator, roundAway, divisor, forceOf, nextAt}
@@ -102,6 +103,11 @@ pub record Ends (h : Hit) (a e r : ℕ) : Type 0 where
   pub some : a < r
   pub upto : r ≤ e
   pub one-force : (k : ℕ) → a ≤ k → k < r → forceOf h k ≡ forceOf h a
+
+-- whether a hit is at one of the points from..to
+unfoldable pub hitIn : Hit → (from to : ℕ) → Bool
+hitIn Absent from to = false
+hitIn (At k f) from to = leb from k && ltb k to
 
 -- ---- neighbours
 

@@ -10,7 +10,7 @@ ghost use Rattle.scheme.specs.Lists.{point};
 ghost use Rattle.scheme.specs.Instruments.{plate, kind};
 ghost use Rattle.scheme.specs.Refusals.{tooStrong};
 ghost use Rattle.steps.specs.Plan.{AtMost, Ready};
-ghost use Rattle.steps.specs.Run.{Filled, Advanced, Stepping, Placed, fourBeside};
+ghost use Rattle.steps.specs.Run.{Filled, Advanced, Stepping, Placed, fourBeside, hitIn};
 ghost use Rattle.steps.specs.Roles.{Steppable, Stepped};
 ghost use Rattle.steps.specs.Plates.{TwoRows, InRow, Readable, secondAt};
 use crate::neighbours::around;
@@ -151,6 +151,41 @@ fn struck_run(
     true
 }
 
+// Whether a hit is at one of the points from..to.
+fn is_hit_in(hit: Hit, from: usize, to: usize) -> bool
+    ensures { λ r. ⌜ r ≡ hitIn hit from to ⌝ }
+{
+    let Hit::At { point, force: _ } = hit else {
+        return false;
+    };
+    if from <= point { point < to } else { false }
+}
+
+// The moving points of a row, in a step with a hit.
+fn struck_row(
+    plan: Plan,
+    older: &[i64],
+    newer: &[i64],
+    rows: SumRows,
+    row: Stretch,
+    hit: Hit,
+    sums: &mut [i64],
+    out: &mut [i64],
+) -> bool
+    requires { ⌜ Ready plan (row .force) (now older) (now newer) × Placed row (length (now out)) × (tooStrong hit ≡ false) ⌝ }
+    requires { ⌜ row .force ≡ pos 0 ⌝ }
+    requires { ⌜ TwoRows (plan .instrument .grid) (now newer) (now sums) rows (row .from)
+        × InRow (plan .instrument .grid) rows (row .from) (row .to) ⌝ }
+    ensures { λ r. ⌜ Stepping (plan .instrument) hit (row .write) (row .base) (now (older .entry)) (now (newer .entry))
+        (now (out .entry)) (now (out .exit)) (row .from) (row .to) r
+        × (r ≡ true → TwoRows (plan .instrument .grid) (now (newer .entry)) (now (sums .exit)) rows (row .to)) ⌝ }
+{
+    if is_hit_in(hit, row.from, row.to) {
+        return struck_run(plan, older, newer, rows, row, hit, sums, out);
+    }
+    plate_run(plan, older, newer, rows, row, sums, out)
+}
+
 // Every moving point of a plate, in a step without a hit. After a row the two places of the sums change roles.
 pub(crate) fn plate_level(plan: Plan, older: &[i64], newer: &[i64], out: &mut [i64]) -> bool
     requires { ⌜ Steppable plan Absent (now older) (now newer) (now out) × (kind (plan .instrument .grid) ≡ plate) ⌝ }
@@ -203,9 +238,6 @@ pub(crate) fn struck_level(
     requires { ⌜ Steppable plan hit (now older) (now newer) (now out) × (kind (plan .instrument .grid) ≡ plate) ⌝ }
     ensures { λ r. ⌜ Stepped (plan .instrument) hit (now (older .entry)) (now (newer .entry)) (now (out .exit)) r ⌝ }
 {
-    let Hit::At { point: _, force: _ } = hit else {
-        return plate_level(plan, older, newer, out);
-    };
     let g = plan.instrument.grid;
     let columns = g.columns;
     let right = columns - 1;
@@ -230,7 +262,7 @@ pub(crate) fn struck_level(
             base: 0,
             write: true,
         };
-        if !struck_run(plan, older, newer, rows, moving, hit, &mut sums, out) {
+        if !struck_row(plan, older, newer, rows, moving, hit, &mut sums, out) {
             return false;
         }
         let spare = other;

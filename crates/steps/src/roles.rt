@@ -3,6 +3,7 @@
 ghost use mathlib.Core.Path.{_≡_};
 ghost use Prim.Native.Nat.{_<_};
 ghost use lib.ListN.{length};
+ghost use Rattle.types.specs.declared.Hit.the-variants.{Absent};
 ghost use Rattle.types.specs.Numbers.{ceiling};
 ghost use Rattle.scheme.specs.Lists.{point};
 ghost use Rattle.scheme.specs.Step.{sampleOf};
@@ -41,8 +42,51 @@ fn level_in_roles(
     }
 }
 
-// The next level with the three slices in their roles, of a plate.
+// The next level with the three slices in their roles, of a plate without a hit.
 fn plate_in_roles(
+    plan: Plan,
+    older: &mut [i64],
+    newer: &mut [i64],
+    work: &mut [i64],
+    phase: usize,
+) -> bool
+    requires { ⌜ Steppable plan Absent (olderOf phase (now older) (now newer) (now work)) (newerOf phase (now older) (now newer) (now work))
+        (outOf phase (now older) (now newer) (now work)) ⌝ }
+    requires { ⌜ kind (plan .instrument .grid) ≡ plate ⌝ }
+    ensures { λ r. ⌜ SteppedIn phase (plan .instrument) Absent (now (older .entry)) (now (newer .entry)) (now (work .entry))
+        (now (older .exit)) (now (newer .exit)) (now (work .exit)) r ⌝ }
+{
+    match phase {
+        0 => plate_level(plan, older, newer, work),
+        1 => plate_level(plan, newer, work, older),
+        _ => plate_level(plan, work, older, newer),
+    }
+}
+
+// The next level with the three slices in their roles, of a plate with a hit.
+fn struck_in_roles(
+    plan: Plan,
+    older: &mut [i64],
+    newer: &mut [i64],
+    work: &mut [i64],
+    hit: Hit,
+    phase: usize,
+) -> bool
+    requires { ⌜ Steppable plan hit (olderOf phase (now older) (now newer) (now work)) (newerOf phase (now older) (now newer) (now work))
+        (outOf phase (now older) (now newer) (now work)) ⌝ }
+    requires { ⌜ kind (plan .instrument .grid) ≡ plate ⌝ }
+    ensures { λ r. ⌜ SteppedIn phase (plan .instrument) hit (now (older .entry)) (now (newer .entry)) (now (work .entry))
+        (now (older .exit)) (now (newer .exit)) (now (work .exit)) r ⌝ }
+{
+    match phase {
+        0 => struck_level(plan, older, newer, work, hit),
+        1 => struck_level(plan, newer, work, older, hit),
+        _ => struck_level(plan, work, older, newer, hit),
+    }
+}
+
+// The next level with the three slices in their roles, of a plate.
+fn stiff_in_roles(
     plan: Plan,
     older: &mut [i64],
     newer: &mut [i64],
@@ -57,16 +101,8 @@ fn plate_in_roles(
         (now (older .exit)) (now (newer .exit)) (now (work .exit)) r ⌝ }
 {
     match hit {
-        Hit::Absent => match phase {
-            0 => plate_level(plan, older, newer, work),
-            1 => plate_level(plan, newer, work, older),
-            _ => plate_level(plan, work, older, newer),
-        },
-        Hit::At { point: _, force: _ } => match phase {
-            0 => struck_level(plan, older, newer, work, hit),
-            1 => struck_level(plan, newer, work, older, hit),
-            _ => struck_level(plan, work, older, newer, hit),
-        },
+        Hit::Absent => plate_in_roles(plan, older, newer, work, phase),
+        Hit::At { point: _, force: _ } => struck_in_roles(plan, older, newer, work, hit, phase),
     }
 }
 
@@ -89,7 +125,7 @@ pub(crate) fn step_in_roles(
 {
     if plan.m != 0 {
         if plan.instrument.grid.rows != 1 {
-            return plate_in_roles(plan, older, newer, work, hit, phase);
+            return stiff_in_roles(plan, older, newer, work, hit, phase);
         }
     }
     level_in_roles(plan, from, to, older, newer, work, hit, phase)

@@ -12,7 +12,7 @@ use Rattle.steps.specs.Run.{Moves}
 use Rattle.steps.specs.Roles.{Steppable}
 use Rattle.steps.proofs.PlanLaws.{few-rows, few-points}
 use Rattle.steps.proofs.FillLaws.{ran-fine}
-use Rattle.steps.proofs.HitLaws.{no-hit}
+use Rattle.steps.proofs.HitLaws.{no-force, hit-nowhere}
 use Rattle.steps.proofs.RowLaws.{steppable-ready}
 use Rattle.steps.proofs.PlateRowLaws.{PlateRows, some-columns, some-rows, few-columns, three-rows, plate-start, in-level, in-row}
 use Rattle.steps.proofs.PlateRowLaws.{two-rows, plate-next, plate-stops, plate-done}
@@ -124,7 +124,7 @@ returns : tie.Need-returns Inv-loop μ-loop
 returns c =
     let t = done (c .before) in
     plate-stops (given (start t)) (is-plate (start t)) (inv t) (last t)
-    (no-hit _ _ _ (moves t) (ran-fine (not-true _ (c .if1 .taken)) (c .before .before .before .plate-run .ensures .0)))
+    (no-force _ Absent _ _ _ (moves t) (hit-nowhere _ _) refl (ran-fine (not-true _ (c .if1 .taken)) (c .before .before .before .plate-run .ensures .0)))
 
 add-row : tie.Need-add-row Inv-loop μ-loop
 add-row c = let t = done (c .before) in record { fits = omega (arith, last t, few t) }
@@ -140,7 +140,7 @@ loop-again c =
     let t = done (c .before) in
     let p = c .before .before .before .plate-run .ensures in
     let fine = not-false _ (c .if1 .left) in
-    plate-next (given (start t)) (is-plate (start t)) (inv t) (last t) (no-hit _ _ _ (moves t) (ran-fine fine (p .0))) (p .1 fine)
+    plate-next (given (start t)) (is-plate (start t)) (inv t) (last t) (no-force _ Absent _ _ _ (moves t) (hit-nowhere _ _) refl (ran-fine fine (p .0))) (p .1 fine)
     (search needs)
 
 same-length-2 : tie.Need-same-length-2 Inv-loop μ-loop

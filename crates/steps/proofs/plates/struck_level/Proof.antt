@@ -10,7 +10,6 @@ use Rattle.slices.proofs.SliceLaws.{zeros}
 use Rattle.steps.specs.Roles.{Steppable}
 use Rattle.steps.proofs.PlanLaws.{few-rows, few-points}
 use Rattle.steps.proofs.FillLaws.{ran-fine}
-use Rattle.steps.proofs.RoleLaws.{given-as, stepped-as}
 use Rattle.steps.proofs.RowLaws.{steppable-ready}
 use Rattle.steps.proofs.PlateRowLaws.{PlateRows, some-columns, some-rows, few-columns, three-rows, plate-start, in-level, in-row}
 use Rattle.steps.proofs.PlateRowLaws.{two-rows, plate-next, plate-stops, plate-done}
@@ -41,7 +40,7 @@ module _ (s : tie.Start Inv-loop μ-loop) where
 -- a row
 module _ (c : tie.In-loop Inv-loop μ-loop) where
   abbrev start : tie.Start Inv-loop μ-loop
-  start = c .before .before .before .before .before .before .before .before .before
+  start = c .before .before .before .before .before .before .before
 
   abbrev inv : PlateRows (start .args .plan .instrument) (start .args .hit) (start .args .older .now) (start .args .newer .now)
       (start .args .out .now) (c .before .loop .out) (c .before .loop .sums) (c .before .loop .other) (c .before .loop .here)
@@ -61,60 +60,44 @@ module _ (c : tie.In-loop Inv-loop μ-loop) where
   wide = some-columns (given start) (is-plate start)
 
 -- once the row is done
-abbrev done : tie.After-out2 Inv-loop μ-loop → tie.In-loop Inv-loop μ-loop
+abbrev done : tie.After-out Inv-loop μ-loop → tie.In-loop Inv-loop μ-loop
 done c = c .before .before .before .before .before
 
-enum-told : tie.Need-enum-told Inv-loop μ-loop
-enum-told c = search needs
-
-enum-told-2 : tie.Need-enum-told-2 Inv-loop μ-loop
-enum-told-2 c = search needs
-
--- where there is none
-plate-level-requires : tie.Need-plate-level-requires Inv-loop μ-loop
-plate-level-requires c κs = let s = c .before .before .before in (given-as (c .before .enum-told2 .given .1) (given s), is-plate s)
-
-same-length : tie.Need-same-length Inv-loop μ-loop
-same-length c = search needs
-
-returns : tie.Need-returns Inv-loop μ-loop
-returns c = stepped-as (c .before .before .before .enum-told2 .given .1) (c .before .plate-level .ensures)
-
 sub-right : tie.Need-sub-right Inv-loop μ-loop
-sub-right c = let s = c .before .before .before in omega (arith, some-columns (given s) (is-plate s))
+sub-right c = let s = c .before in omega (arith, some-columns (given s) (is-plate s))
 
 sub-ring : tie.Need-sub-ring Inv-loop μ-loop
-sub-ring c = let s = c .before .before .before .before in omega (arith, some-rows (given s) (is-plate s))
+sub-ring c = let s = c .before .before in omega (arith, some-rows (given s) (is-plate s))
 
 slice-aggregate-put-first : tie.Need-slice-aggregate-put-first Inv-loop μ-loop
 slice-aggregate-put-first c = refl
 
 put-first-requires : tie.Need-put-first-requires Inv-loop μ-loop
 put-first-requires c κs =
-    let s = c .before .before .before .before .before in (
+    let s = c .before .before .before in (
       (some-columns (given s) (is-plate s), three-rows (given s) (is-plate s), omega (arith, few-columns (given s) (is-plate s))),
       steppable-ready (given s) .newer-low,
     )
 
 loop-holds : tie.Need-loop-holds Inv-loop μ-loop
 loop-holds c =
-    let s = c .before .before .before .before .before .before .before in
+    let s = c .before .before .before .before .before in
     plate-start (given s) (is-plate s) _ (zeros 128) refl (c .before .put-first .ensures)
 
 add-if1 : tie.Need-add-if1 Inv-loop μ-loop
 add-if1 c = record { fits = omega (arith, last c, few c) }
 
-add-t24 : tie.Need-add-t24 Inv-loop μ-loop
-add-t24 c = record { fits = omega (arith, room c, small (start c), wide c) }
+add-t22 : tie.Need-add-t22 Inv-loop μ-loop
+add-t22 c = record { fits = omega (arith, room c, small (start c), wide c) }
 
-add-t25 : tie.Need-add-t25 Inv-loop μ-loop
-add-t25 c = record { fits = omega (arith, room c, small (start c)) }
+add-t23 : tie.Need-add-t23 Inv-loop μ-loop
+add-t23 c = record { fits = omega (arith, room c, small (start c)) }
 
-slice-aggregate-struck-run : tie.Need-slice-aggregate-struck-run Inv-loop μ-loop
-slice-aggregate-struck-run c = sym (inv (c .before) .long)
+slice-aggregate-struck-row : tie.Need-slice-aggregate-struck-row Inv-loop μ-loop
+slice-aggregate-struck-row c = sym (inv (c .before) .long)
 
-struck-run-requires : tie.Need-struck-run-requires Inv-loop μ-loop
-struck-run-requires c κs =
+struck-row-requires : tie.Need-struck-row-requires Inv-loop μ-loop
+struck-row-requires c κs =
     let t = c .before .before in
     let s = start t in (
       (
@@ -126,17 +109,17 @@ struck-run-requires c κs =
         },
         given s .hit-low,
       ),
-      (two-rows (given s) (is-plate s) (inv t) (last t), in-row (given s) (is-plate s) (inv t) (last t)),
+      (refl, (two-rows (given s) (is-plate s) (inv t) (last t), in-row (given s) (is-plate s) (inv t) (last t))),
     )
 
-same-length-2 : tie.Need-same-length-2 Inv-loop μ-loop
-same-length-2 c = let t = done (c .before) in c .before .before .before .struck-run .ensures .0 .long ∙ inv t .rows .ran .long
+same-length : tie.Need-same-length Inv-loop μ-loop
+same-length c = let t = done (c .before) in c .before .before .before .struck-row .ensures .0 .long ∙ inv t .rows .ran .long
 
-returns-2 : tie.Need-returns-2 Inv-loop μ-loop
-returns-2 c =
+returns : tie.Need-returns Inv-loop μ-loop
+returns c =
     let t = done (c .before) in
     plate-stops (given (start t)) (is-plate (start t)) (inv t) (last t)
-    (ran-fine (not-true _ (c .if1 .taken)) (c .before .before .before .struck-run .ensures .0))
+    (ran-fine (not-true _ (c .if1 .taken)) (c .before .before .before .struck-row .ensures .0))
 
 add-row : tie.Need-add-row Inv-loop μ-loop
 add-row c = let t = done (c .before) in record { fits = omega (arith, last t, few t) }
@@ -150,16 +133,16 @@ loop-less c = let t = done (c .before) in omega (arith, t .loop-test .taken)
 loop-again : tie.Need-loop-again Inv-loop μ-loop
 loop-again c =
     let t = done (c .before) in
-    let p = c .before .before .before .struck-run .ensures in
+    let p = c .before .before .before .struck-row .ensures in
     let fine = not-false _ (c .if1 .left) in
     plate-next (given (start t)) (is-plate (start t)) (inv t) (last t) (ran-fine fine (p .0)) (p .1 fine) (search needs)
 
-same-length-3 : tie.Need-same-length-3 Inv-loop μ-loop
-same-length-3 c = c .before .loop .inv .rows .ran .long
+same-length-2 : tie.Need-same-length-2 Inv-loop μ-loop
+same-length-2 c = c .before .loop .inv .rows .ran .long
 
-returns-3 : tie.Need-returns-3 Inv-loop μ-loop
-returns-3 c =
-    let s = c .before .before .before .before .before .before .before .before .before in
+returns-2 : tie.Need-returns-2 Inv-loop μ-loop
+returns-2 c =
+    let s = c .before .before .before .before .before .before .before in
     plate-done (given s) (is-plate s) (c .before .loop .inv) (omega (arith, c .loop-test .left, some-rows (given s) (is-plate s)))
 
 pub struck-level-spec : {M : Type 1} → statement M
@@ -168,26 +151,21 @@ struck-level-spec =
     (tie.spec
     Inv-loop
     μ-loop
-    enum-told
-    enum-told-2
-    plate-level-requires
-    same-length
-    returns
     sub-right
     sub-ring
     slice-aggregate-put-first
     put-first-requires
     loop-holds
     add-if1
-    add-t24
-    add-t25
-    slice-aggregate-struck-run
-    struck-run-requires
-    same-length-2
-    returns-2
+    add-t22
+    add-t23
+    slice-aggregate-struck-row
+    struck-row-requires
+    same-length
+    returns
     add-row
     add-start
     loop-less
     loop-again
-    same-length-3
-    returns-3)
+    same-length-2
+    returns-2)

@@ -6,8 +6,8 @@ use Rattle.steps.proofs.PlanLaws.{m-none, m-some}
 use Rattle.steps.proofs.roles.step_in_roles.Statement.{statement}
 use Rattle.steps.proofs.roles.step_in_roles.Tie as tie
 
-plate-in-roles-requires : tie.Need-plate-in-roles-requires
-plate-in-roles-requires c κs =
+stiff-in-roles-requires : tie.Need-stiff-in-roles-requires
+stiff-in-roles-requires c κs =
     let grid = c .before .before .before in
     let stiff = grid .before .before in
     let s = stiff .before .before .before in
@@ -48,7 +48,7 @@ pub step-in-roles-spec : {M : Type 1} → statement M
 step-in-roles-spec =
     tie.close
     (tie.spec
-    plate-in-roles-requires
+    stiff-in-roles-requires
     same-length
     same-length-2
     same-length-3
