@@ -124,7 +124,8 @@ returns : tie.Need-returns Inv-loop μ-loop
 returns c =
     let t = done (c .before) in
     plate-stops (given (start t)) (is-plate (start t)) (inv t) (last t)
-    (no-force _ Absent _ _ _ (moves t) (hit-nowhere _ _) refl (ran-fine (not-true _ (c .if1 .taken)) (c .before .before .before .plate-run .ensures .0)))
+    (no-force _ Absent _ _ _ (moves t) (hit-nowhere _ _) refl
+    (ran-fine (not-true _ (c .if1 .taken)) (c .before .before .before .plate-run .ensures .0)))
 
 add-row : tie.Need-add-row Inv-loop μ-loop
 add-row c = let t = done (c .before) in record { fits = omega (arith, last t, few t) }
@@ -140,8 +141,8 @@ loop-again c =
     let t = done (c .before) in
     let p = c .before .before .before .plate-run .ensures in
     let fine = not-false _ (c .if1 .left) in
-    plate-next (given (start t)) (is-plate (start t)) (inv t) (last t) (no-force _ Absent _ _ _ (moves t) (hit-nowhere _ _) refl (ran-fine fine (p .0))) (p .1 fine)
-    (search needs)
+    plate-next (given (start t)) (is-plate (start t)) (inv t) (last t)
+    (no-force _ Absent _ _ _ (moves t) (hit-nowhere _ _) refl (ran-fine fine (p .0))) (p .1 fine) (search needs)
 
 same-length-2 : tie.Need-same-length-2 Inv-loop μ-loop
 same-length-2 c = c .before .loop .inv .rows .ran .long
