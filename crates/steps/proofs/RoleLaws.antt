@@ -69,10 +69,6 @@ module _ {h h′ : Hit} (e : h ≡ h′) where
       → Stepped i h′ older newer out done → Stepped i h older newer out done
   stepped-as {i} {older} {newer} {out} {done} = subst (λ (h : Hit). Stepped i h older newer out done) (sym e)
 
-  pub in-roles-as : {p : ℕ} {i : Instrument} {a₀ b₀ c₀ a b c : List ℤ} {done : Bool}
-      → SteppedIn p i h′ a₀ b₀ c₀ a b c done → SteppedIn p i h a₀ b₀ c₀ a b c done
-  in-roles-as s = record { stepped = stepped-as (s .stepped); older-kept = s .older-kept; newer-kept = s .newer-kept }
-
 -- ---- after a step the level in the role of newer is older, and the next level newer
 
 pub turned-older : (p : ℕ) (a b c : List ℤ) → olderOf (turnedOf p) a b c ≡ newerOf p a b c

@@ -9,6 +9,8 @@ ghost use Rattle.steps.specs.Run.{Stepping, Placed, Moves};
 ghost use Rattle.steps.specs.Edges.{EdgesOf};
 ghost use Rattle.steps.specs.Roles.{Steppable, Stepped};
 use crate::plan::Plan;
+use crate::plates::plate_level;
+use crate::plates::struck_level;
 use crate::points::points_run;
 use crate::stretch::Stretch;
 use crate::stretch::force_at;
@@ -48,7 +50,7 @@ fn row_run(
 }
 
 // Every moving point: from and to have the moving columns of each row. Off a line there is no stiffness.
-pub(crate) fn level_run(
+fn level_run(
     plan: Plan,
     from: &[u16; 64],
     to: &[u16; 64],
@@ -80,4 +82,28 @@ pub(crate) fn level_run(
         start += columns;
     }
     true
+}
+
+// The next level. Off a line only a plate is stiff.
+pub(crate) fn next_level(
+    plan: Plan,
+    from: &[u16; 64],
+    to: &[u16; 64],
+    older: &[i64],
+    newer: &[i64],
+    out: &mut [i64],
+    hit: Hit,
+) -> bool
+    requires { ⌜ Steppable plan hit (now older) (now newer) (now out) × EdgesOf (plan .instrument .grid) (now from) (now to) ⌝ }
+    ensures { λ r. ⌜ Stepped (plan .instrument) hit (now (older .entry)) (now (newer .entry)) (now (out .exit)) r ⌝ }
+{
+    if plan.m != 0 {
+        if plan.instrument.grid.rows != 1 {
+            return match hit {
+                Hit::Absent => plate_level(plan, older, newer, out),
+                Hit::At { point: _, force: _ } => struck_level(plan, older, newer, out, hit),
+            };
+        }
+    }
+    level_run(plan, from, to, older, newer, out, hit)
 }
