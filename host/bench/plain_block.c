@@ -199,6 +199,12 @@ static int64_t struck_step(const struct plan *x, const int64_t *p, const int64_t
     return beyond;
 }
 
+/* A point over 2^28 to the nearest whole number, halves away from zero. */
+static inline int64_t sample(int64_t v)
+{
+    return (v + (INT64_C(1) << 27) + (v >> 63)) >> 28;
+}
+
 static size_t play(const struct plan *x, int64_t *levels[3], int16_t *samples, size_t places, size_t pick_up, int is_hit,
                    size_t point, int64_t force)
 {
@@ -210,7 +216,7 @@ static size_t play(const struct plan *x, int64_t *levels[3], int16_t *samples, s
         levels[2] = levels[0];
         levels[0] = levels[1];
         levels[1] = next;
-        samples[n] = (int16_t)(next[pick_up] >> 28);
+        samples[n] = (int16_t)sample(next[pick_up]);
     }
     return places;
 }

@@ -106,6 +106,24 @@ def rounding(records):
                     records.block(1, 3, 1, q, 0, s, 1)
 
 
+def sample_corners(records):
+    """Samples at and beside halves and at the ceiling, both signs; with q 0, s 0 and older as newer the level stays."""
+    for value in (1, 3, 2**27 - 1, 2**27, 2**27 + 1, 2**28 - 1, 2**28, 2**28 + 1, 3 * 2**27 - 1, 3 * 2**27,
+                  3 * 2**27 + 1, 5 * 2**27, 8 * 10**12, CEILING - 2**27 - 1, CEILING - 2**27, CEILING - 1, CEILING):
+        for level in ([0, value, 0], [0, -value, 0]):
+            records.lend(level, level, [7, 7, 7], [9])
+            assert records.block(1, 3, 1, 0, 0, 0, 1) == (1, 0)
+            assert records.lent[1] == level
+
+
+def fading(records):
+    """A hit string fades to a few units above or below zero and stays there: its samples end in zeros."""
+    for force, level in ((-100 * 2**28, [0, 2, 0]), (100 * 2**28, [0, -2, 0])):
+        records.lend([0] * 3, [0] * 3, [7] * 3, [9] * 150)
+        assert records.block(1, 3, 1, 8192, 0, 12000, 1, (1, force)) == (150, 0)
+        assert records.lent[:2] == [level, level] and records.lent[3][50:] == [0] * 100
+
+
 def small_sizes(records, draw):
     for grid in SMALL:
         kind, columns, rows = grid
@@ -398,6 +416,8 @@ def call_records():
     records, draw = Records(), Draws("calls.txt")
     examples(records)
     rounding(records)
+    sample_corners(records)
+    fading(records)
     small_sizes(records, draw)
     extremes(records, draw)
     thirteen(records, draw)

@@ -52,6 +52,8 @@ RUNS = {
     "steps_0": line(steps=0),
     "steps_1": line(steps=1),
     "steps_300": line(1, 17, 1, 50000, 0, 20, 3, 300, 5, 12345 * 2**28),
+    "fading_from_above": line(1, 5, 1, 8192, 0, 10000, 1, 200, 2, -100 * 2**28),
+    "fading_from_below": line(1, 5, 1, 8192, 0, 10000, 1, 200, 2, 100 * 2**28),
     "leading_zeros": b"01 003 1 0065536 00 0 000000000000000000000000000001 04 1 -000268435456\n",
     "no_line_feed": PAPER,
     "text_after_the_line": PAPER + b"\n1 3 1\n\0and so on, " + b"more " * 80,

@@ -38,8 +38,8 @@ def next_level(grid, settings, older, newer, hit):
 
 
 def sample(value):
-    """"newer at the pick-up point divided by 2^28 and rounded down"."""
-    return value // 2**28
+    """"newer at the pick-up point divided by 2^28"; request 2: "the nearest whole number, halves away from zero"."""
+    return round_half_away(value, 2**28)
 
 
 def reading(value):

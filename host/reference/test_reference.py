@@ -26,6 +26,11 @@ def one_step(grid, settings, older, newer, hit=None):
     return new
 
 
+def away_from_zero(exact):
+    """The nearest whole number to a fraction, halves away from zero."""
+    return math.floor(abs(exact) + Fraction(1, 2)) * (1 if exact >= 0 else -1)
+
+
 def on_grid(columns, rows, values):
     """A level with these values by point, 0 elsewhere."""
     return [values.get(point, 0) for point in range(columns * rows)]
@@ -107,15 +112,14 @@ class Steps(unittest.TestCase):
             denominator = draw.randint(D, 2 * D)
             numerator = draw.choice((draw.randint(-9, 9) * denominator + denominator // 2,
                                      draw.randint(-10**20, 10**20)))
-            exact = Fraction(numerator, denominator)
-            away = math.floor(abs(exact) + Fraction(1, 2)) * (1 if exact >= 0 else -1)
+            away = away_from_zero(Fraction(numerator, denominator))
             self.assertEqual(step.round_half_away(numerator, denominator), away)
 
     def test_sample_and_reading(self):
         grid, level = (3, 3, 1), [-1, CEILING, -CEILING]
         values = [calls.reading(*grid, level, point) for point in range(3)]
         self.assertEqual(values, [(0, -2.0**-43), (0, 32767 / 32768), (0, -32767 / 32768)])
-        for point, expected in enumerate((-1, 32767, -32767)):
+        for point, expected in enumerate((0, 32767, -32767)):
             answer, _, newer, _, samples = calls.block(
                 *grid, 0, 0, 0, level, level, [0] * 3, [9, 9], point, None)
             self.assertEqual((answer, newer, samples), ((2, 0), level, [expected] * 2))
@@ -151,7 +155,72 @@ class Steps(unittest.TestCase):
             self.assertEqual(work, [0] * 3)
             self.assertEqual(samples[steps_before:], [77] * (5 - steps_before))
             self.assertEqual(samples[:steps_before],
-                             [(newer + (k + 1) * grow) // 2**28 for k in range(steps_before)])
+                             [away_from_zero(Fraction(newer + (k + 1) * grow, 2**28)) for k in range(steps_before)])
+
+
+class Samples(unittest.TestCase):
+    """Request 2: "the sample is the nearest whole number, halves away from zero, in place of rounding down"."""
+
+    def heard(self, value):
+        """The sample of a step that leaves value at the pick-up: q, m and s 0, older as newer."""
+        level = [0, value, 0]
+        answer, older, newer, _, samples = calls.block(1, 3, 1, 0, 0, 0, level, level, [0] * 3, [9], 1, None)
+        self.assertEqual((answer, older, newer), ((1, 0), level, level))
+        return samples[0]
+
+    def test_corners(self):
+        """"The ceiling still maps to 32767"."""
+        for value, expected in (
+                (0, 0), (1, 0), (3, 0), (2**27 - 1, 0), (2**27, 1), (2**27 + 1, 1), (2**28 - 1, 1), (2**28, 1),
+                (2**28 + 1, 1), (3 * 2**27 - 1, 1), (3 * 2**27, 2), (3 * 2**27 + 1, 2), (5 * 2**27 - 1, 2),
+                (5 * 2**27, 3), (8 * 10**12, 29802), (CEILING - 2**27 - 1, 32766), (CEILING - 2**27, 32767),
+                (CEILING - 1, 32767), (CEILING, 32767)):
+            for sign in (1, -1):
+                self.assertEqual(step.sample(sign * value), sign * expected, sign * value)
+                self.assertEqual(self.heard(sign * value), sign * expected, sign * value)
+
+    def values(self):
+        """Random values within the ceiling, every other one at a half or beside it."""
+        draw = draws.Draws("samples")
+        for _ in range(1000):
+            yield draw.randint(-CEILING, CEILING)
+            yield draw.choice((-1, 1)) * ((2 * draw.randint(0, 32766) + 1) * 2**27 + draw.randint(-1, 1))
+
+    def test_odd(self):
+        for value in self.values():
+            self.assertEqual(step.sample(-value), -step.sample(value), value)
+
+    def test_nearest_against_fractions(self):
+        halves = 0
+        for value in self.values():
+            exact, found = Fraction(value, 2**28), self.heard(value)
+            off = abs(found - exact)
+            self.assertLessEqual(off, Fraction(1, 2), value)
+            if off == Fraction(1, 2):
+                self.assertGreater(abs(found), abs(exact), value)
+                halves += 1
+        self.assertGreater(halves, 200)
+
+    def faded(self, grid, settings, pick_up, hit):
+        """The level for ever at the pick-up after a hit at rest, and the samples before."""
+        rest = [0] * (grid[1] * grid[2])
+        answer, older, newer, _, samples = calls.block(*grid, *settings, rest, rest, rest, [9] * 200, pick_up, hit)
+        self.assertEqual((answer, older), ((200, 0), newer))
+        self.assertEqual(one_step(grid, settings, newer, newer), newer)
+        return newer[pick_up], samples
+
+    def test_fading(self):
+        """"A fading voice sits a few units below zero", or above: the samples end in zeros."""
+        for grid, settings, pick_up, point, level in (
+                ((1, 3, 1), (8192, 0, 12000), 1, 1, -2), ((1, 5, 1), (8192, 0, 10000), 1, 2, -3),
+                ((4, 7, 1), (16384, 1000, 14000), 2, 4, -3), ((7, 5, 5), (6000, 1000, 12000), 7, 12, 2)):
+            for sign in (1, -1):
+                found, samples = self.faded(grid, settings, pick_up, (point, sign * 100 * 2**28))
+                self.assertEqual(found, sign * level)
+                # Rounding down reads -1 below zero.
+                self.assertEqual(found // 2**28, 0 if found > 0 else -1)
+                self.assertEqual(samples[50:], [0] * 150)
+                self.assertGreater(max(map(abs, samples)), 30)
 
 
 class Plate(unittest.TestCase):

@@ -2,8 +2,10 @@
 
 import unittest
 
+import calls
 from instrument import CEILING
-from ring import ring
+from ring import request, ring
+from ring_runs import RUNS
 
 PAPER = b"1 3 1 65536 0 0 1 4 1 268435456"
 
@@ -25,8 +27,25 @@ class Listing(unittest.TestCase):
         self.assertEqual(ring(line(force=0, steps=2)), "1 0\n2 0\ndone 2 0\n")
         self.assertEqual(ring(line(force="-0", steps=1)), "1 0\ndone 1 0\n")
 
-    def test_sample_rounded_down(self):
-        self.assertEqual(ring(line(force=-1, steps=1)), "1 -1\ndone 1 0\n")
+    def test_sample(self):
+        """"the nearest whole number, halves away from zero"; the first step puts the force at the hit point."""
+        for force, sample in ((1, 0), (3, 0), (2**27 - 1, 0), (2**27, 1), (2**27 + 1, 1), (2**28, 1),
+                              (3 * 2**27 - 1, 1), (3 * 2**27, 2), (5 * 2**27, 3), (8 * 10**12, 29802),
+                              (CEILING, 32767)):
+            for sign in (1, -1):
+                self.assertEqual(ring(line(force=sign * force, steps=1)), f"1 {sign * sample}\ndone 1 0\n")
+
+    def test_fading(self):
+        """The stored runs that fade: they end in zeros, the pick-up 3 units above or below zero for ever."""
+        for name, level in (("fading_from_above", 3), ("fading_from_below", -3)):
+            *given, pick_up, steps, point, force = request(RUNS[name])
+            rest = [0] * (given[1] * given[2])
+            _, older, newer, _, _ = calls.block(*given, rest, rest, rest, [0] * steps, pick_up, (point, force))
+            self.assertEqual((newer[pick_up], older), (level, newer))
+            self.assertEqual(calls.block(*given, older, newer, rest, [0], pick_up, None)[2], newer)
+            listed = ring(RUNS[name]).splitlines()
+            self.assertNotEqual(listed[36], "37 0")
+            self.assertEqual(listed[37:], [f"{number} 0" for number in range(38, 201)] + ["done 200 0"])
 
     def test_no_steps(self):
         self.assertEqual(ring(line(steps=0)), "done 0 0\n")

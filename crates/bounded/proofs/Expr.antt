@@ -11,21 +11,20 @@ use mathlib.Core.Bool.{Bool, _&&_}
 use Prim.Native.Nat.{ℕ, _+_, _*_, _^_, _≤_}
 use lib.Dec.{T, ltb}
 use lib.IntN.{ℤ, pos, natAbs, _+ℤ_, _-ℤ_, _*ℤ_}
-use lib.Signed.{quotZ, shrZ}
+use lib.Signed.{quotZ}
 use mir.Facts.{and-yes}
 use mir.Syntax.{w64}
 use mir.Val.{SFits, toZ, ofZ}
 use Rattle.bounded.proofs.Num as N
-use Rattle.bounded.proofs.Num.{Num, kept, given, _⊕_, _⊖_, _⊗_, _⊘_, _⊳_}
+use Rattle.bounded.proofs.Num.{Num, kept, given, _⊕_, _⊖_, _⊗_, _⊘_}
 
 infixl 6 _⊞_ _⊟_
-infixl 7 _⊠_ _÷_ _≫_
+infixl 7 _⊠_ _÷_
 pub data E : Type 0 where
   at : (z : ℤ) (B : ℕ) → natAbs z ≤ B → E
   num : ℕ → E
   via : {r z : ℤ} {B : ℕ} → Num r z B → E
   _⊞_ _⊟_ _⊠_ _÷_ : E → E → E
-  _≫_ : E → ℕ → E  -- a shift, by its power of 2
 
 abbrev pub red : E → ℤ
 red (at z B h) = toZ w64 (ofZ w64 z)
@@ -35,7 +34,6 @@ red (a ⊞ b) = toZ w64 (ofZ w64 (red a +ℤ red b))
 red (a ⊟ b) = toZ w64 (ofZ w64 (red a -ℤ red b))
 red (a ⊠ b) = toZ w64 (ofZ w64 (red a *ℤ red b))
 red (a ÷ b) = toZ w64 (ofZ w64 (quotZ (red a) (red b)))
-red (a ≫ m) = toZ w64 (ofZ w64 (shrZ (red a) m))
 
 abbrev pub raw : E → ℤ
 raw (at z B h) = z
@@ -45,7 +43,6 @@ raw (a ⊞ b) = red a +ℤ red b
 raw (a ⊟ b) = red a -ℤ red b
 raw (a ⊠ b) = red a *ℤ red b
 raw (a ÷ b) = quotZ (red a) (red b)
-raw (a ≫ m) = shrZ (red a) m
 
 abbrev pub val : E → ℤ
 val (at z B h) = z
@@ -55,7 +52,6 @@ val (a ⊞ b) = val a +ℤ val b
 val (a ⊟ b) = val a -ℤ val b
 val (a ⊠ b) = val a *ℤ val b
 val (a ÷ b) = quotZ (val a) (val b)
-val (a ≫ m) = shrZ (val a) m
 
 abbrev pub cap : E → ℕ
 cap (at z B h) = B
@@ -65,7 +61,6 @@ cap (a ⊞ b) = cap a + cap b
 cap (a ⊟ b) = cap a + cap b
 cap (a ⊠ b) = cap a * cap b
 cap (a ÷ b) = cap a
-cap (a ≫ m) = cap a
 
 abbrev pub ok : E → Bool
 ok (at z B h) = ltb B (2 ^ 63)
@@ -75,7 +70,6 @@ ok (a ⊞ b) = ok a && (ok b && ltb (cap a + cap b) (2 ^ 63))
 ok (a ⊟ b) = ok a && (ok b && ltb (cap a + cap b) (2 ^ 63))
 ok (a ⊠ b) = ok a && (ok b && ltb (cap a * cap b) (2 ^ 63))
 ok (a ÷ b) = ok a && ok b
-ok (a ≫ m) = ok a
 
 fst : (a b : E) (x : Bool) → T (ok a && (ok b && x)) → T (ok a)
 fst a b x t = and-yes (ok a) _ t .0
@@ -94,7 +88,6 @@ under (a ⊞ b) t = thd a b _ t
 under (a ⊟ b) t = thd a b _ t
 under (a ⊠ b) t = thd a b _ t
 under (a ÷ b) t = under a (and-yes (ok a) _ t .0)
-under (a ≫ m) t = under a t
 
 -- stored and read back
 pub good : (e : E) → T (ok e) → Num (red e) (val e) (cap e)
@@ -105,7 +98,6 @@ good (a ⊞ b) t = kept (good a (fst a b _ t) ⊕ good b (snd a b _ t)) (thd a b
 good (a ⊟ b) t = kept (good a (fst a b _ t) ⊖ good b (snd a b _ t)) (thd a b _ t)
 good (a ⊠ b) t = kept (good a (fst a b _ t) ⊗ good b (snd a b _ t)) (thd a b _ t)
 good (a ÷ b) t = kept (good a (and-yes (ok a) _ t .0) ⊘ good b (and-yes (ok a) _ t .1)) (under a (and-yes (ok a) _ t .0))
-good (a ≫ m) t = kept (good a t ⊳ m) (under a t)
 
 -- the last step's result
 step : (e : E) → T (ok e) → Num (raw e) (val e) (cap e)
@@ -116,7 +108,6 @@ step (a ⊞ b) t = good a (fst a b _ t) ⊕ good b (snd a b _ t)
 step (a ⊟ b) t = good a (fst a b _ t) ⊖ good b (snd a b _ t)
 step (a ⊠ b) t = good a (fst a b _ t) ⊗ good b (snd a b _ t)
 step (a ÷ b) t = good a (and-yes (ok a) _ t .0) ⊘ good b (and-yes (ok a) _ t .1)
-step (a ≫ m) t = good a t ⊳ m
 
 pub fits : (e : E) → T (ok e) → SFits w64 (raw e)
 fits e t = N.fits (step e t) (under e t)

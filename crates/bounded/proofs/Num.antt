@@ -1,21 +1,21 @@
 -- A number on its way through signed code at 64 bits:
 -- `Num r z B` says that r, as the machine has it, is the number z, whose magnitude is at most B.
--- `x ⊕ y`, `x ⊖ y`, `x ⊗ y`, `x ⊘ y` and `x ⊳ m` follow the code's operations.
+-- `x ⊕ y`, `x ⊖ y`, `x ⊗ y` and `x ⊘ y` follow the code's operations.
 -- `kept x tt` is the number after it has been stored to a local and read back,
 -- `fits x tt` says that it may be stored. The `tt` is checked by computing,
 -- since B is a numeral wherever the bounds of what goes in are numerals.
-use mathlib.Core.Path.{_≡_, refl, sym, ap, _∙_, subst}
+use mathlib.Core.Path.{_≡_, refl, sym, _∙_, subst}
 use Prim.Native.Nat.{ℕ, _+_, _*_, _^_, _≤_, _<_}
 use native.Mathlib.Nat.{le-refl, le-trans, div-le-self, mul-le-mul}
 use native.Mathlib.Omega.{arith}
 use lib.Dec.{T, ltb, ltb→lt}
 use lib.IntN.{ℤ, pos, natAbs, _+ℤ_, _-ℤ_, _*ℤ_}
-use lib.Signed.{mag, quotZ, shrZ}
+use lib.Signed.{mag, quotZ}
 use mir.Syntax.{w16, w64}
 use mir.Val.{SFits, toZ, ofZ}
 use mir.ValLaws.{toZ-ofZ}
 use Rattle.integers.proofs.Size.{size-add, size-minus, size-mul}
-use Rattle.bounded.proofs.Size.{size-quot, size-shr, mag-size}
+use Rattle.bounded.proofs.Size.{size-quot, mag-size}
 
 pub record Num (r z : ℤ) (B : ℕ) : Type 0 where
   pub is : r ≡ z
@@ -68,11 +68,6 @@ module _ {r s x y : ℤ} {A B : ℕ} where
     size =
         subst (λ (n : ℕ). n ≤ A) (sym (size-quot x y)) (le-trans (div-le-self (natAbs x) (natAbs y)) (a .size));
   }
-
--- a shift to the right by n bits, where m is 2 ^ n
-infixl 7 _⊳_
-pub _⊳_ : {r x : ℤ} {A : ℕ} → Num r x A → (m : ℕ) → Num (shrZ r m) (shrZ x m) A
-_⊳_ {r} {x} {A} a m = record { is = ap (λ (z : ℤ). shrZ z m) (a .is); size = le-trans (size-shr x m) (a .size) }
 
 -- ---- at 16 bits
 

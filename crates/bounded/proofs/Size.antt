@@ -1,10 +1,10 @@
--- The magnitude of a whole number, natAbs z, under the quotient and the shift of signed code, and as a signed width bounds it.
+-- The magnitude of a whole number, natAbs z, under the quotient of signed code, and as a signed width bounds it.
 use mathlib.Core.Path.{_≡_, refl}
 use Prim.Native.Nat.{ℕ, suc, _/_, _≤_}
 use native.Mathlib.Nat.{le-refl, div-le-self}
 use native.Mathlib.Omega.{arith}
 use lib.IntN.{ℤ, pos, negsuc, natAbs}
-use lib.Signed.{mag, quotZ, shrZ}
+use lib.Signed.{mag, quotZ}
 use Rattle.integers.proofs.Size.{size-neg}
 
 pub size-quot : (x y : ℤ) → natAbs (quotZ x y) ≡ natAbs x / natAbs y
@@ -12,10 +12,6 @@ size-quot (pos a) (pos b) = refl
 size-quot (pos a) (negsuc b) = size-neg (pos (a / suc b))
 size-quot (negsuc a) (pos b) = size-neg (pos (suc a / b))
 size-quot (negsuc a) (negsuc b) = refl
-
-pub size-shr : (z : ℤ) (m : ℕ) → natAbs (shrZ z m) ≤ natAbs z
-size-shr (pos a) m = div-le-self a m
-size-shr (negsuc a) m = omega (arith, div-le-self a m)
 
 -- `mag`, by which a signed width bounds a number, is at most the magnitude
 pub mag-size : (z : ℤ) → mag z ≤ natAbs z

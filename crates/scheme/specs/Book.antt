@@ -96,6 +96,10 @@ abbrev pub stepsOf : Outcome → ℕ
 stepsOf (blockOutcome a work samples) = a .steps
 stepsOf (pluckOutcome r) = 0
 
+abbrev pub samplesOf : Outcome → List ℤ
+samplesOf (blockOutcome a work samples) = samples
+samplesOf (pluckOutcome r) = []
+
 abbrev pub refusalOf : Outcome → Refusal
 refusalOf (blockOutcome a work samples) = a .refusal
 refusalOf (pluckOutcome r) = r
@@ -153,3 +157,8 @@ calls (k ∷ ks) t =
     let l = called k t in
     let rest = calls ks (stateAfter k l t) in
     record { outcomes = l .outcome ∷ rest .outcomes; state = rest .state }
+
+-- a claim about each call of a list: about the state before it, its arguments and its outcome
+unfoldable pub EachCall : (State → Call → Outcome → Type 0) → List Call → State → Type 0
+EachCall P [] t = Unit {0}
+EachCall P (k ∷ ks) t = let l = called k t in P t k (l .outcome) × EachCall P ks (stateAfter k l t)

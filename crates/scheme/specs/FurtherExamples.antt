@@ -226,9 +226,13 @@ shows lowestFirst =
     ∷ refusedBy rest (level (1 ∷ above ∷ 0 ∷ 0 ∷ [])) rest 9 (At 1 (pos 1))
     ∷ refusedBy rest (level (1 ∷ above ∷ 0 ∷ 0 ∷ [])) rest 0 Absent ∷ []
     ≡ 1 ∷ 2 ∷ 4 ∷ 5 ∷ 6 ∷ 7 ∷ 8 ∷ 9 ∷ 11 ∷ []
+-- a few units from zero, both sides of a half and of three halves, the ceiling
 shows samples =
-    map sampleOf (pos 0 ∷ minus 1 ∷ pos 268435455 ∷ pos 268435456 ∷ minus 268435456 ∷ minus 268435457 ∷ pos ceiling ∷ minus ceiling ∷ [])
-    ≡ pos 0 ∷ minus 1 ∷ pos 0 ∷ pos 1 ∷ minus 1 ∷ minus 2 ∷ pos 32767 ∷ minus 32767 ∷ []
+    map sampleOf
+    (pos 3 ∷ pos 134217727 ∷ pos 134217728 ∷ pos 402653183 ∷ pos 402653184 ∷ pos 8000000000000 ∷ pos ceiling ∷ pos 0 ∷ minus 3 ∷
+    minus 134217727 ∷ minus 134217728 ∷ minus 402653183 ∷ minus 402653184 ∷ minus 8000000000000 ∷ minus ceiling ∷ [])
+    ≡ pos 0 ∷ pos 0 ∷ pos 1 ∷ pos 1 ∷ pos 2 ∷ pos 29802 ∷ pos 32767 ∷ pos 0 ∷ pos 0 ∷ pos 0 ∷ minus 1 ∷ minus 1 ∷ minus 2 ∷
+    minus 29802 ∷ minus 32767 ∷ []
 -- 2⁴² reads 0.5, −2⁴¹ reads −0.25, and a refused reading 0
 shows readings =
     (reading (grid 1 4 1) (level (0 ∷ 2 ^ 42 ∷ 0 ∷ 0 ∷ [])) 1 ≡ record { value = ofBits binary64 0x3fe0_0000_0000_0000; refusal = Nothing })

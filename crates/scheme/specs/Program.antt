@@ -2,7 +2,7 @@
 use mathlib.Core.Path.{_≡_}
 use mathlib.Core.List.{List, [], _∷_}
 use lib.IntN.{ℤ}
-use Rattle.scheme.specs.Book.{Call, Left, leaves, State, start, stateAfter}
+use Rattle.scheme.specs.Book.{Call, Outcome, Left, leaves, State, start, stateAfter}
 use Rattle.scheme.specs.Claims.{Near}
 
 -- a call that was made: its arguments but the two levels, and all that it left
@@ -23,6 +23,11 @@ AllKept (m ∷ ms) t = Kept (t .older) (t .newer) m × AllKept ms (stateAfter (m
 unfoldable pub afterAll : List Made → State → State
 afterAll [] t = t
 afterAll (m ∷ ms) t = afterAll ms (stateAfter (m .call) (m .left) t)
+
+-- a claim about each of its calls: about the state before it, its arguments and its outcome
+unfoldable pub EachMade : (State → Call → Outcome → Type 0) → List Made → State → Type 0
+EachMade P [] t = Unit {0}
+EachMade P (m ∷ ms) t = P t (m .call) (m .left .outcome) × EachMade P ms (stateAfter (m .call) (m .left) t)
 
 -- demand 3 of the levels that the program holds
 abbrev pub ProgramBound : Type 0

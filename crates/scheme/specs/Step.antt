@@ -1,19 +1,19 @@
 -- "One step".
+use mathlib.Core.Path.{_≡_}
 use mathlib.Core.Bool.{Bool, cond}
 use mathlib.Core.List.{List, _++_}
-use Prim.Native.Nat.{ℕ, suc, _+_, _-_, _*_, _/_, _^_}
+use Prim.Native.Nat.{ℕ, suc, _+_, _-_, _*_, _/_, _^_, _≤_}
 use lib.Dec.{ltb, eqb}
 use lib.Ieee.{Float, binary64, ofInt, div}
-use lib.IntN.{ℤ, pos, negsuc, negℤ, _+ℤ_, _-ℤ_, _*ℤ_}
+use lib.IntN.{ℤ, pos, negsuc, negℤ, natAbs, _+ℤ_, _-ℤ_, _*ℤ_}
 use lib.ListN.{length}
-use lib.Signed.{shrZ}
 use Rattle.integers.specs.Sum.{sumOver}
 use Rattle.types.specs.declared.Settings.{Settings}
 use Rattle.types.specs.declared.Grid.{Grid}
 use Rattle.types.specs.declared.Instrument.{Instrument}
 use Rattle.types.specs.declared.Hit.{Hit}
 use Rattle.types.specs.declared.Hit.the-variants.{Absent, At}
-use Rattle.types.specs.Numbers.{D}
+use Rattle.types.specs.Numbers.{D, ceiling}
 use Rattle.scheme.specs.Lists.{tabulate, point, someBelow, only}
 use Rattle.scheme.specs.Instruments.{beyond, points, column, row, moving, freeEnd}
 
@@ -78,10 +78,19 @@ nextLevel i h older newer = tabulate (points (i .grid)) (nextAt i h older newer)
 unfoldable pub someBeyond : List ℤ → Bool
 someBeyond xs = someBelow (length xs) (λ k. beyond (point xs k))
 
--- "The sample is newer at the pick-up point divided by 2²⁸ and rounded down, an i16": of that point's value.
--- Within the ceiling it lies in −32767..32767, so an i16 holds it (`sample-fits`).
+-- "The sample is newer at the pick-up point divided by 2²⁸", and "From now on the sample is the nearest whole number, halves away from zero":
+-- of that point's value, rounded as a step is.
 unfoldable pub sampleOf : ℤ → ℤ
-sampleOf z = shrZ z (2 ^ 28)
+sampleOf z = roundAway z (2 ^ 28)
+
+-- "an i16", "The ceiling still maps to 32767": within half a sample unit of the point; up and down alike; within the ceiling an i16 holds it,
+-- and both ends are reached. Proved as `sample-rule`.
+pub record SampleRule : Type 0 where
+  pub near : (z : ℤ) → 2 * natAbs (pos (2 ^ 28) *ℤ sampleOf z -ℤ z) ≤ 2 ^ 28
+  pub odd : (z : ℤ) → sampleOf (negℤ z) ≡ negℤ (sampleOf z)
+  pub fits : (z : ℤ) → natAbs z ≤ ceiling → natAbs (sampleOf z) ≤ 32767
+  pub highest : sampleOf (pos ceiling) ≡ pos 32767
+  pub lowest : sampleOf (negℤ (pos ceiling)) ≡ negℤ (pos 32767)
 
 -- "The same reading as a float is the point converted to f64 and divided once by 2⁴³."
 unfoldable pub floatOf : ℤ → Float

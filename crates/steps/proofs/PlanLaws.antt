@@ -16,7 +16,7 @@ use Rattle.scheme.specs.Step.{divisor}
 use Rattle.scheme.proofs.Laws.Kinds.{degree-within, Sized, sized, stable-means}
 use Rattle.scheme.proofs.Laws.Refusals.{coefficients-small}
 use Rattle.steps.specs.declared.plan.Plan.{Plan}
-use Rattle.steps.specs.Plan.{countOf, Planned}
+use Rattle.steps.specs.Plan.{countOf, Planned, Dividable}
 use Rattle.steps.proofs.KindLaws.{count-degree}
 
 module _ {p : Plan} (h : Planned p) where
@@ -89,11 +89,12 @@ module _ {p : Plan} (h : Planned p) where
   pub divisor-some : 0 < d
   divisor-some = omega arith
 
-  pub half-small : d / 2 ≤ 2 ^ 16
-  half-small = omega (arith, low .2)
+  pub half-small : p .half ≤ 2 ^ 16
+  half-small = omega (arith, h .half-is, low .2)
 
-  pub half-low : natAbs (p .half) ≤ 2 ^ 16
-  half-low = subst (λ (z : ℤ). natAbs z ≤ 2 ^ 16) (sym (h .half-is)) half-small
+  pub dividable : (n : ℤ) → natAbs n ≤ 2 ^ 62 → Dividable n (p .divisor) (p .half)
+  dividable n l =
+      (l, omega (arith, h .divisor-is), omega (arith, h .divisor-is, low .2), h .half-is ∙ ap (λ (x : ℕ). x / 2) (sym (h .divisor-is)))
 
   -- ---- the grid
 

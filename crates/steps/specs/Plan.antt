@@ -3,7 +3,7 @@ use mathlib.Core.Path.{_≡_}
 use mathlib.Core.Bool.{true, false, cond}
 use mathlib.Core.List.{List}
 use mathlib.Core.Logic.{_⊎_}
-use Prim.Native.Nat.{ℕ, _+_, _*_, _/_, _≤_}
+use Prim.Native.Nat.{ℕ, _+_, _*_, _/_, _^_, _≤_, _<_}
 use lib.Dec.{eqb}
 use lib.IntN.{ℤ, pos, negsuc, natAbs, _+ℤ_, _-ℤ_, _*ℤ_}
 use lib.ListN.{length}
@@ -52,8 +52,12 @@ pub record Planned (p : Plan) : Type 0 where
   pub m-is : p .m ≡ pos (p .instrument .settings .m)
   pub kept-is : p .kept ≡ pos D -ℤ pos (p .instrument .settings .s)
   pub divisor-is : p .divisor ≡ divisor (p .instrument .settings)
-  pub half-is : p .half ≡ pos (divisor (p .instrument .settings) / 2)
+  pub half-is : p .half ≡ divisor (p .instrument .settings) / 2
   pub limit-is : p .limit ≡ (ceiling + 1) * divisor (p .instrument .settings)
+
+-- n may be rounded over d by its size
+abbrev pub Dividable : ℤ → (d half : ℕ) → Type 0
+Dividable n d half = (natAbs n ≤ 2 ^ 62) × (0 < d) × (d ≤ 2 ^ 31) × (half ≡ d / 2)
 
 -- off a line there is no stiffness: every kind but a plate
 abbrev pub SoftGrid : Instrument → Type 0

@@ -6,9 +6,11 @@ ghost use lib.IntN.{pos, natAbs, _-ℤ_, _*ℤ_};
 ghost use Rattle.types.specs.Numbers.{ceiling};
 ghost use Rattle.scheme.specs.Instruments.{beyond};
 ghost use Rattle.scheme.specs.Step.{roundAway, sampleOf, numeratorOf, divisor};
-ghost use Rattle.steps.specs.Plan.{countOf, signOf, mirrorOf, bendingOf, Planned, Updatable};
+ghost use Rattle.steps.specs.Plan.{countOf, signOf, mirrorOf, bendingOf, Planned, Dividable, Updatable};
 use crate::plan::D;
 use crate::plan::Plan;
+
+const UNITS_PER_SAMPLE: u64 = 268435456;
 
 // −1 for a number below 0, else 0.
 fn sign(n: i64) -> i64
@@ -24,12 +26,12 @@ fn mirrored(x: i64, n: i64) -> i64
     x ^ sign(n)
 }
 
-// The size of n, and half of the divisor.
-fn raised(plan: Plan, n: i64) -> u64
-    requires { ⌜ Planned plan × (natAbs n ≤ 2 ^ 62) ⌝ }
-    ensures { λ r. ⌜ r ≡ natAbs n + divisor (plan .instrument .settings) / 2 ⌝ }
+// The size of n, and half.
+fn raised(n: i64, half: u64) -> u64
+    requires { ⌜ (natAbs n ≤ 2 ^ 62) × (half ≤ 2 ^ 30) ⌝ }
+    ensures { λ r. ⌜ r ≡ natAbs n + half ⌝ }
 {
-    mirrored(n + mirrored(plan.half, n), n) as u64
+    mirrored(n + mirrored(half as i64, n), n) as u64
 }
 
 // Whether a numerator is rounded to a value within the ceiling: no division is needed for it.
@@ -37,24 +39,24 @@ pub(crate) fn is_within(plan: Plan, n: i64) -> bool
     requires { ⌜ Planned plan × (natAbs n ≤ 2 ^ 62) ⌝ }
     ensures { λ r. ⌜ r ≡ not (beyond (roundAway n (divisor (plan .instrument .settings)))) ⌝ }
 {
-    raised(plan, n) < plan.limit
+    raised(n, plan.half) < plan.limit
 }
 
-// A numerator over the divisor to the nearest whole number, halves away from zero: the quotient of its size, with its sign.
-pub(crate) fn round_away(plan: Plan, n: i64) -> i64
-    requires { ⌜ Planned plan × (natAbs n ≤ 2 ^ 62) ⌝ }
-    ensures { λ r. ⌜ r ≡ roundAway n (divisor (plan .instrument .settings)) ⌝ }
+// n over d, of which half is the half, to the nearest whole number, halves away from zero: the quotient of its size, with its sign.
+pub(crate) fn round_away(n: i64, d: u64, half: u64) -> i64
+    requires { ⌜ Dividable n d half ⌝ }
+    ensures { λ r. ⌜ r ≡ roundAway n d ⌝ }
 {
-    let size = (raised(plan, n) / plan.divisor) as i64;
+    let size = (raised(n, half) / d) as i64;
     mirrored(size, n) - sign(n)
 }
 
-// The sample of a point: divided by 2²⁸ and rounded down.
+// The sample of a point: over 2²⁸, rounded as a step is.
 pub(crate) fn sample(v: i64) -> i16
     requires { ⌜ natAbs v ≤ ceiling ⌝ }
     ensures { λ r. ⌜ r ≡ sampleOf v ⌝ }
 {
-    (v >> 28) as i16
+    round_away(v, UNITS_PER_SAMPLE, UNITS_PER_SAMPLE / 2) as i16
 }
 
 // The numerator at a point, from its newer value u, the sum of its neighbours, the sum of their sums, its older value p and the force f.

@@ -21,7 +21,7 @@ pub(crate) struct Plan {
     pub(crate) m: i64,
     pub(crate) kept: i64,
     pub(crate) divisor: u64,
-    pub(crate) half: i64,
+    pub(crate) half: u64,
     pub(crate) limit: u64,
 }
 
@@ -48,7 +48,7 @@ pub(crate) fn make_plan(i: Instrument) -> Plan
         m,
         kept: D - s,
         divisor: divisor as u64,
-        half: divisor / 2,
+        half: (divisor / 2) as u64,
         limit: ((Settings::CEILING + 1) * divisor) as u64,
     }
 }

@@ -36,7 +36,7 @@ pub(crate) fn next_point(
         return false;
     }
     if s.write {
-        out[at - s.base] = round_away(plan, n);
+        out[at - s.base] = round_away(n, plan.divisor, plan.half);
     }
     true
 }

@@ -1,4 +1,4 @@
--- The bounds of specs/Claims of every list of calls: each from a form that the steps of an instrument do not raise.
+-- The bounds on Σ of every list of calls: each from a form that the steps of an instrument do not raise.
 use mathlib.Core.Path.{_≡_, refl, sym, ap, _∙_, subst, subst₂}
 use mathlib.Core.Bool.{true}
 use mathlib.Core.List.{List}
@@ -22,9 +22,9 @@ use Rattle.scheme.specs.Passing.{InstrumentPasses}
 use Rattle.scheme.proofs.Theorems.Forms.{weighed, weighed-form, weighed-nonneg, squares-are}
 use Rattle.scheme.proofs.Theorems.Instance.{freeStep, free-still}
 use Rattle.scheme.proofs.Theorems.Distance.{gap, OfErrors, StepsKeep, Beside, Invariant, agrees, stepping, list-invariant}
-use Rattle.tighter.specs.Claims.{edged, Holding, byTension, byStiffness, OfSteps, After, OfEveryList, SumBound, Linear, LinearBound}
-use Rattle.tighter.specs.Claims.{StiffLinearBound, LossLinear, LossLinearBound, ForEver, ForEverBound, StiffForEverBound, HeavyLoss}
-use Rattle.tighter.specs.Claims.{HeavyLossBound, StiffHeavyLossBound}
+use Rattle.tighter.specs.Bounds.{edged, Holding, byTension, byStiffness, linear, lossLinear, forEver, heavyLoss}
+use Rattle.tighter.specs.Claims.{OfSteps, After, OfEveryList, OfSums, LinearBound, StiffLinearBound, LossLinearBound, ForEverBound}
+use Rattle.tighter.specs.Claims.{StiffForEverBound, HeavyLossBound, StiffHeavyLossBound}
 use Rattle.tighter.proofs.Lyapunov.{Lyapunov, Fading, Grown, grow-start, grow-step, grow-bound, Faded, fade-start, fade-step}
 use Rattle.tighter.proofs.Lyapunov.{fade-bound}
 use Rattle.tighter.proofs.Loss.{by-energy, by-light-loss, light-fading, by-loss, heavy-fading}
@@ -133,19 +133,24 @@ module _ (Case : Instrument → Type 0) (form : (i : Instrument) → InstrumentP
       (fade-bound (weighed-form (i .grid)) (free-still i) (twoN i) L T (scale (i .settings) (b .n)) (v .X-still) (v .Y-still)
       (v .errors c))))
 
+pub distance-nonneg : (i : Instrument) (n : ℕ) (newer unrounded : List ℤ) → pos 0 ⩽ distance i n newer unrounded
+distance-nonneg i n newer unrounded =
+    ≤ℤ-≡ (weighed-nonneg (i .grid) _) (sym (squares-are (i .grid) (scale (i .settings) n ⊡ point newer) (point unrounded)))
+
+-- k × Σ ≤ y × N × r², as `OfSums` has it
+abbrev SumBound : Instrument → (n : ℕ) (newer unrounded : List ℤ) → (k y r : ℕ) → Type 0
+SumBound i n newer unrounded k y r =
+    pos k *ℤ distance i n newer unrounded ⩽ pos (y * (2 * points (i .grid))) *ℤ (square (pos r) *ℤ square (scale (i .settings) n))
+
 -- a bound with a smaller factor on the left, or larger ones on the right
 weaker : (i : Instrument) (n : ℕ) (newer unrounded : List ℤ) {k k′ y y′ r r′ : ℕ} → k ≤ k′ → y′ ≤ y → r′ ≤ r
     → SumBound i n newer unrounded k′ y′ r′ → SumBound i n newer unrounded k y r
 weaker i n newer unrounded {k} {k′} hk hy hr b =
-    ≤ℤ-trans (*ℤ-mono-r (distance i n newer unrounded) distance-nonneg (pos≤ hk))
+    ≤ℤ-trans (*ℤ-mono-r (distance i n newer unrounded) (distance-nonneg i n newer unrounded) (pos≤ hk))
     (≤ℤ-trans b (pos≤ (N.mul-le-mul (N.mul-le-mul-right (2 * points (i .grid)) hy) (N.mul-le-mul-right (p * p) (N.mul-le-mul hr hr)))))
   where
     p : ℕ
     p = divisor (i .settings) ^ n
-
-    distance-nonneg : pos 0 ⩽ distance i n newer unrounded
-    distance-nonneg =
-        ≤ℤ-≡ (weighed-nonneg (i .grid) _) (sym (squares-are (i .grid) (scale (i .settings) n ⊡ point newer) (point unrounded)))
 
 -- with the factor 0 a bound says nothing
 nothing-left : (i : Instrument) (n : ℕ) (newer unrounded : List ℤ) {k : ℕ} (y r : ℕ) → k ≡ 0 → SumBound i n newer unrounded k y r
@@ -161,7 +166,7 @@ as-sum i n newer unrounded k y r b =
 -- ---- linear
 
 pub loss-linear-bound : LossLinearBound
-loss-linear-bound = of-growth (λ i. Unit {0}) (λ i ok c. by-loss (lossy i ok)) LossLinear (λ i ok n newer unrounded bound.
+loss-linear-bound = of-growth (λ i. Unit {0}) (λ i ok c. by-loss (lossy i ok)) (OfSums lossLinear) (λ i ok n newer unrounded bound all.
     let s : ℕ = i .settings .s in
     weaker i n newer unrounded {k′ = 4 * (s * s)} {y′ = divisor (i .settings) * D + s * s} {r′ = n} (omega arith) (wide s) (omega arith)
     (as-sum i n newer unrounded (s * s) (divisor (i .settings) * D + s * s) n (bound tt)))
@@ -174,8 +179,9 @@ module _ (H : Holding) (holds : Holds H) where
   abbrev Edged : Instrument → Type 0
   Edged i = edged (kind (i .grid)) ≡ true
 
-  linear : OfEveryList (Linear H)
-  linear = of-growth Edged (λ i ok edge. by-energy (lossy i ok) (held i ok H holds edge)) (Linear H) (λ i ok n newer unrounded bound edge.
+  by-linear : OfEveryList (OfSums (linear H))
+  by-linear = of-growth Edged (λ i ok edge. by-energy (lossy i ok) (held i ok H holds edge)) (OfSums (linear H)) (λ i ok n newer unrounded
+      bound edge.
       weaker i n newer unrounded {k′ = 4 * H .hold i} {y′ = H .far i * D} {r′ = n} (omega arith) (omega arith) (omega arith)
       (as-sum i n newer unrounded (H .hold i) (H .far i * D) n (bound edge)))
 
@@ -186,12 +192,12 @@ module _ (H : Holding) (holds : Holds H) where
     loss : 0 < i .settings .s
     small : H .far i * (i .settings .s * i .settings .s) ≤ H .hold i * D
 
-  for-ever : OfEveryList (ForEver H)
-  for-ever = of-fading Light form fading (ForEver H) (λ i ok n newer unrounded bound edge small.
+  by-for-ever : OfEveryList (OfSums (forEver H))
+  by-for-ever = of-fading Light form fading (OfSums (forEver H)) (λ i ok n newer unrounded bound c.
       let s : ℕ = i .settings .s in
       weaker i n newer unrounded {k′ = 4 * (s * s * H .hold i)} {y′ = H .far i * D} {r′ = divisor (i .settings)} (omega arith) (omega arith)
       (omega arith)
-      (go i n newer unrounded edge (omega (arith, small)) bound s refl))
+      (go i n newer unrounded (c .0) (omega (arith, c .1)) bound s refl))
     where
       form : (i : Instrument) → InstrumentPasses i → Light i → FormOf i
       form i ok c = by-light-loss (lossy i ok) (held i ok H holds (c .edge)) (pos< (c .loss)) (pos≤ (c .small))
@@ -216,11 +222,11 @@ module _ (H : Holding) (holds : Holds H) where
     some-hold : 0 < H .hold i
     large : H .hold i * D ≤ H .far i * (i .settings .s * i .settings .s)
 
-  heavy-loss : OfEveryList (HeavyLoss H)
-  heavy-loss = of-fading Heavy form fading (HeavyLoss H) (λ i ok n newer unrounded bound edge large.
+  by-heavy-loss : OfEveryList (OfSums (heavyLoss H))
+  by-heavy-loss = of-fading Heavy form fading (OfSums (heavyLoss H)) (λ i ok n newer unrounded bound c.
       weaker i n newer unrounded {k′ = H .hold i * H .hold i} {y′ = 4 * (H .far i * H .far i)} {r′ = divisor (i .settings)} (omega arith)
       (omega arith) (omega arith)
-      (go i n newer unrounded edge (omega (arith, large)) bound (H .hold i) refl (i .settings .s) refl))
+      (go i n newer unrounded (c .0) (omega (arith, c .1)) bound (H .hold i) refl (i .settings .s) refl))
     where
       form : (i : Instrument) → InstrumentPasses i → Heavy i → FormOf i
       form i ok c = by-loss (lossy i ok)
@@ -250,19 +256,19 @@ module _ (H : Holding) (holds : Holds H) where
           (0≤pos _) (0≤pos (i .settings .s)))
 
 pub linear-bound : LinearBound
-linear-bound = linear byTension tension-holds
+linear-bound = by-linear byTension tension-holds
 
 pub stiff-linear-bound : StiffLinearBound
-stiff-linear-bound = linear byStiffness stiffness-holds
+stiff-linear-bound = by-linear byStiffness stiffness-holds
 
 pub for-ever-bound : ForEverBound
-for-ever-bound = for-ever byTension tension-holds
+for-ever-bound = by-for-ever byTension tension-holds
 
 pub stiff-for-ever-bound : StiffForEverBound
-stiff-for-ever-bound = for-ever byStiffness stiffness-holds
+stiff-for-ever-bound = by-for-ever byStiffness stiffness-holds
 
 pub heavy-loss-bound : HeavyLossBound
-heavy-loss-bound = heavy-loss byTension tension-holds
+heavy-loss-bound = by-heavy-loss byTension tension-holds
 
 pub stiff-heavy-loss-bound : StiffHeavyLossBound
-stiff-heavy-loss-bound = heavy-loss byStiffness stiffness-holds
+stiff-heavy-loss-bound = by-heavy-loss byStiffness stiffness-holds

@@ -27,7 +27,7 @@ use Rattle.scheme.proofs.Theorems.Balance.{beside-balance}
 use Rattle.scheme.proofs.Theorems.Forms.{weighed, weighed-form, weighed-nonneg, pair-form, pair-nonneg, laplacian-form, laplacian-nonneg}
 use Rattle.scheme.proofs.Theorems.Forms.{laplacian-parts, squares-are}
 use Rattle.scheme.proofs.Theorems.Bounds.{some-columns, some-rows, soft-or-held, few-beside, stiffness-bound}
-use Rattle.tighter.specs.Claims.{edged, reach}
+use Rattle.tighter.specs.Bounds.{edged, reach}
 use Rattle.tighter.proofs.Edge.{overPairs, by-differences, by-sums, reach-positive, edge-zero}
 
 -- Σ over the pairs of (sum)²

@@ -21,7 +21,7 @@ use Rattle.scheme.specs.Energy.{weight, later, pairSum}
 use Rattle.scheme.proofs.Laws.Step.{fixed-still}
 use Rattle.scheme.proofs.Theorems.Balance.{term, only-sum}
 use Rattle.scheme.proofs.Theorems.Forms.{weighed}
-use Rattle.tighter.specs.Claims.{edged, reach}
+use Rattle.tighter.specs.Bounds.{edged, reach}
 use Rattle.tighter.proofs.Line.{sum-zero, sum-suc, line-bound}
 
 -- ---- sums by rows

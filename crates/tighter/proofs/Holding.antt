@@ -22,7 +22,8 @@ use Rattle.scheme.proofs.Laws.Refusals.{instrument-passes, passes-still}
 use Rattle.scheme.proofs.Theorems.Forms.{weighed, weighed-form, weighed-nonneg, stepForm, step-form, energy-is}
 use Rattle.scheme.proofs.Theorems.Bounds.{some-columns, energy-nonneg}
 use Rattle.scheme.proofs.Theorems.Instance.{freeStep, free-still, step-law}
-use Rattle.tighter.specs.Claims.{edged, reach, Holding, byTension, byStiffness, LevelsHeld, HeldByTension, HeldByStiffness}
+use Rattle.tighter.specs.Bounds.{edged, reach, Holding, byTension, byStiffness}
+use Rattle.tighter.specs.Claims.{LevelsHeld, HeldByTension, HeldByStiffness}
 use Rattle.tighter.proofs.Edge.{reach-positive}
 use Rattle.tighter.proofs.Coercive.{by-tension, by-stiffness}
 use Rattle.tighter.proofs.Loss.{Lossy, Held}

@@ -6,4 +6,5 @@ pub mod Loss
 pub mod Holding
 pub mod Bounds
 pub mod Points
+pub mod Samples
 pub mod Programs

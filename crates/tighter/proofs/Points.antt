@@ -21,10 +21,11 @@ use Rattle.scheme.specs.Energy.{weight, squares}
 use Rattle.scheme.specs.Book.{LastStep, noStep, stepOf, scale, start, calls}
 use Rattle.scheme.specs.Claims.{distance, bound, Near}
 use Rattle.scheme.proofs.Theorems.Distance.{distance-bound}
-use Rattle.tighter.specs.Claims.{edged, reach, byTension, OfSteps, After, ForEver, difference, OnePoint, PointWithin}
-use Rattle.tighter.specs.Claims.{AtOnePoint, voice, VoiceWithin, VoiceForEver}
+use Rattle.tighter.specs.Bounds.{edged, reach, byTension, Bound, limit, demanded, forEver}
+use Rattle.tighter.specs.Claims.{OfSteps, After, OfEveryList, OfSums, difference, OnePoint, OfPoints, AtOnePoint, voice, VoiceWithin}
+use Rattle.tighter.specs.Claims.{VoiceForEver}
 use Rattle.tighter.proofs.Line.{sum-suc}
-use Rattle.tighter.proofs.Bounds.{for-ever-bound}
+use Rattle.tighter.proofs.Bounds.{distance-nonneg, for-ever-bound}
 
 -- one term of a sum of terms that are not negative
 one-of : (n : ℕ) (f : ℕ → ℤ) → ((k : ℕ) → k < n → pos 0 ⩽ f k) → (k : ℕ) → k < n → f k ⩽ sum n f
@@ -42,36 +43,55 @@ one-point i n newer unrounded k l =
     one-of (points (i .grid)) (λ j. pos (weight (i .grid) j) *ℤ square (difference i n newer unrounded j))
     (λ j m. nonneg-mul (0≤pos (weight (i .grid) j)) (square-nonneg (difference i n newer unrounded j))) k l
 
--- ---- demand 3's bound
-
-at-most : {c k : ℕ} (x : ℤ) {y : ℤ} → c ≤ k → pos 0 ⩽ x → pos k *ℤ x ⩽ y → pos c *ℤ x ⩽ y
-at-most x l h b = ≤ℤ-trans (*ℤ-mono-r x h (pos≤ l)) b
-
-near-at : (newer : List ℤ) (n : ℕ) (unrounded : List ℤ) (last : LastStep) → Near newer n unrounded last
-    → After PointWithin newer n unrounded last
-near-at newer zero unrounded last h = h
-near-at newer (suc m) unrounded noStep h = h
-near-at newer (suc m) unrounded (stepOf i) h = (
-  h .all-points,
-  λ k l. let x : ℤ = square (difference i (suc m) newer unrounded k) in
-      at-most {k = 16 * weight (i .grid) k} x (N.mul-le-mul (omega arith) (N.le-refl (weight (i .grid) k)))
-      (square-nonneg (difference i (suc m) newer unrounded k))
-      (lin 4 (λ w x s B. 16 *≤ w ⊗ x ⊴ s ⇒ 1 *≤ # 16 ⊗ s ⊴ B ⇒ ⊩ (# 16 ⊗ w) ⊗ x ⊴ B) refl
-      (pos (weight (i .grid) k)) x (distance i (suc m) newer unrounded) (bound i (suc m)) (one-point i (suc m) newer unrounded k l)
-      (h .near)),
-)
-
-pub at-one-point : AtOnePoint
-at-one-point older newer ks = let t = (calls ks (start older newer)) .state in
-    near-at (t .newer) (t .book .n) (t .book .newer) (t .book .last) (distance-bound older newer ks)
-
--- ---- the voice
+-- ---- a bound at one point
 
 after-each : (P Q : OfSteps) → ((i : Instrument) (n : ℕ) (newer unrounded : List ℤ) → P i n newer unrounded → Q i n newer unrounded)
     → (newer : List ℤ) (n : ℕ) (unrounded : List ℤ) (last : LastStep) → After P newer n unrounded last → After Q newer n unrounded last
 after-each P Q f newer zero unrounded last h = h
 after-each P Q f newer (suc m) unrounded noStep h = h
 after-each P Q f newer (suc m) unrounded (stepOf i) h = (h .0, f i (suc m) newer unrounded (h .1))
+
+-- what follows from a claim follows of every list
+each-list : (P Q : OfSteps) → ((i : Instrument) (n : ℕ) (newer unrounded : List ℤ) → P i n newer unrounded → Q i n newer unrounded)
+    → OfEveryList P → OfEveryList Q
+each-list P Q f all older newer ks = let t = (calls ks (start older newer)) .state in
+    after-each P Q f (t .newer) (t .book .n) (t .book .newer) (t .book .last) (all older newer ks)
+
+at-points : (b : Bound) (i : Instrument) (n : ℕ) (newer unrounded : List ℤ) → OfSums b i n newer unrounded → OfPoints b i n newer unrounded
+at-points b i n newer unrounded h c j l =
+    lin 5 (λ k w x s B. k *⊴ w ⊗ x ⊴ s ⇒ 1 *≤ k ⊗ s ⊴ B ⇒ ⊩ (k ⊗ w) ⊗ x ⊴ B) refl
+    (pos (b .k i n)) (pos (weight (i .grid) j)) (square (difference i n newer unrounded j)) (distance i n newer unrounded) (limit b i n)
+    (0≤pos (b .k i n)) (one-point i n newer unrounded j l) (h c)
+
+pub of-points : (b : Bound) → OfEveryList (OfSums b) → OfEveryList (OfPoints b)
+of-points b = each-list (OfSums b) (OfPoints b) (at-points b)
+
+-- ---- demand 3's bound
+
+near-sums : (newer : List ℤ) (n : ℕ) (unrounded : List ℤ) (last : LastStep) → Near newer n unrounded last
+    → After (OfSums demanded) newer n unrounded last
+near-sums newer zero unrounded last h = h
+near-sums newer (suc m) unrounded noStep h = h
+near-sums newer (suc m) unrounded (stepOf i) h = (
+  h .all-points,
+  λ c. ≤ℤ-trans (*ℤ-mono-r (distance i (suc m) newer unrounded) (distance-nonneg i (suc m) newer unrounded) (pos≤ few))
+      (≤ℤ-≡ (h .near) (ap (λ (x : ℕ). pos x *ℤ (square (pos (suc m * suc (suc m))) *ℤ square (scale (i .settings) (suc m)))) one)),
+)
+  where
+    few : demanded .k i (suc m) ≤ 16
+    few = omega arith
+
+    one : 2 * points (i .grid) ≡ 1 * (2 * points (i .grid))
+    one = sym (N.one-mul (2 * points (i .grid)))
+
+pub demanded-bound : OfEveryList (OfSums demanded)
+demanded-bound older newer ks = let t = (calls ks (start older newer)) .state in
+    near-sums (t .newer) (t .book .n) (t .book .newer) (t .book .last) (distance-bound older newer ks)
+
+pub at-one-point : AtOnePoint
+at-one-point = of-points demanded demanded-bound
+
+-- ---- the voice
 
 voice-edged : edged (kind (voice .grid)) ≡ true
 unfolding edged kindOf
@@ -89,19 +109,18 @@ by-numbers a b k y r x e p some p-nonneg part all numbers = *ℤ-cancel {a = pos
     ⊩ (# 2 ⊗ k) ⊗ (a ⊗ x) ⊴ (# 2 ⊗ k) ⊗ (b ⊗ p)) refl
     (pos a) (pos b) (pos k) (pos y) (pos r) x e p (0≤pos (a * k)) part (0≤pos a) all p-nonneg (pos≤ numbers))
 
-voice-at : (n : ℕ) (newer unrounded : List ℤ) → ForEver byTension voice n newer unrounded → (k : ℕ) → k < points (voice .grid)
+voice-at : (n : ℕ) (newer unrounded : List ℤ) → OfSums (forEver byTension) voice n newer unrounded → (k : ℕ) → k < points (voice .grid)
     → pos 625 *ℤ square (difference voice n newer unrounded k) ⩽ pos (2 ^ 56) *ℤ square (scale (voice .settings) n)
 voice-at n newer unrounded h k l =
     let x : ℤ = square (difference voice n newer unrounded k) in
     by-numbers 625 (2 ^ 56) (4 * (8 * 8 * 11378)) (reach (voice .grid) * D * (2 * points (voice .grid))) 65544
     x (distance voice n newer unrounded) (square (scale (voice .settings) n)) (omega arith) (square-nonneg (scale (voice .settings) n))
     (≡-≤ℤ (ap (λ (w : ℕ). pos w *ℤ x) (sym (voice-weight k))) (one-point voice n newer unrounded k l))
-    (h voice-edged (omega arith)) (omega arith)
+    (h (voice-edged, omega arith)) (omega arith)
 
 pub voice-for-ever : VoiceForEver
-voice-for-ever older newer ks = let t = (calls ks (start older newer)) .state in
-    after-each (ForEver byTension) VoiceWithin
-    (λ i n newer unrounded h e. subst (λ (j : Instrument). ForEver byTension j n newer unrounded → (k : ℕ) → k < points (j .grid)
+voice-for-ever = each-list (OfSums (forEver byTension)) VoiceWithin
+    (λ i n newer unrounded h e. subst (λ (j : Instrument). OfSums (forEver byTension) j n newer unrounded → (k : ℕ) → k < points (j .grid)
     → pos 625 *ℤ square (difference j n newer unrounded k) ⩽ pos (2 ^ 56) *ℤ square (scale (j .settings) n)) (sym e)
     (voice-at n newer unrounded) h)
-    (t .newer) (t .book .n) (t .book .newer) (t .book .last) (for-ever-bound older newer ks)
+    for-ever-bound

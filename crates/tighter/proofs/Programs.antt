@@ -10,13 +10,13 @@ carried C of-list = of-program (λ (t : State). After C (t .newer) (t .book .n) 
 
 pub program-bounds : ProgramBounds
 program-bounds = record {
-  linear = carried _ B.linear-bound;
-  stiff-linear = carried _ B.stiff-linear-bound;
-  loss-linear = carried _ B.loss-linear-bound;
-  for-ever = carried _ B.for-ever-bound;
-  stiff-for-ever = carried _ B.stiff-for-ever-bound;
-  heavy-loss = carried _ B.heavy-loss-bound;
-  stiff-heavy-loss = carried _ B.stiff-heavy-loss-bound;
+  linear-bound = carried _ B.linear-bound;
+  stiff-linear-bound = carried _ B.stiff-linear-bound;
+  loss-linear-bound = carried _ B.loss-linear-bound;
+  for-ever-bound = carried _ B.for-ever-bound;
+  stiff-for-ever-bound = carried _ B.stiff-for-ever-bound;
+  heavy-loss-bound = carried _ B.heavy-loss-bound;
+  stiff-heavy-loss-bound = carried _ B.stiff-heavy-loss-bound;
   at-one-point = carried _ P.at-one-point;
   voice-for-ever = carried _ P.voice-for-ever;
 }

@@ -1,56 +1,24 @@
--- Bounds on the distance that hold for a whole cue, of the run that `DistanceBound` speaks of: any list of calls with the book beside it.
--- Σ stands for the squared distances summed, a free end counted half; C for the columns.
+-- What the bounds of specs/Bounds say of the run that `DistanceBound` speaks of: any list of calls with the book beside it.
 -- Proofs: `linear-bound`, `for-ever-bound`, `heavy-loss-bound`, each with `stiff-` too, and `loss-linear-bound` in proofs/Bounds;
 -- `one-point`, `at-one-point`, `voice-for-ever` in proofs/Points; `held-by-tension`, `held-by-stiffness` in proofs/Holding;
 -- `program-bounds` in proofs/Programs.
 use mathlib.Core.Path.{_≡_}
-use mathlib.Core.Bool.{Bool, true, false}
+use mathlib.Core.Bool.{true}
 use mathlib.Core.List.{List}
-use Prim.Native.Nat.{ℕ, zero, suc, _*_, _^_, _≤_, _<_}
+use Prim.Native.Nat.{ℕ, zero, suc, _*_, _^_, _<_}
 use lib.IntN.{ℤ, pos, _+ℤ_, _-ℤ_, _*ℤ_}
 use lib.ListN.{length}
 use lib.Signed.{_≤ℤ_}
-use Rattle.types.specs.declared.Grid.{Grid}
 use Rattle.types.specs.declared.Instrument.{Instrument}
-use Rattle.types.specs.Numbers.{D}
 use Rattle.scheme.specs.Lists.{point, square}
-use Rattle.scheme.specs.Instruments.{Kind, unknown, fixedString, halfFreeString, freeString, bar, membrane, roundMembrane, plate}
 use Rattle.scheme.specs.Instruments.{kind, points}
-use Rattle.scheme.specs.Step.{divisor}
 use Rattle.scheme.specs.Energy.{weight, squares, energy}
 use Rattle.scheme.specs.Book.{LastStep, noStep, stepOf, scale, Call, start, calls}
-use Rattle.scheme.specs.Claims.{Passes, distance, bound}
+use Rattle.scheme.specs.Claims.{Passes, distance}
 use Rattle.scheme.specs.Program.{Made, AllKept, afterAll}
+use Rattle.tighter.specs.Bounds.{edged, Holding, byTension, byStiffness, Bound, limit, demanded, linear, lossLinear, forEver, heavyLoss}
 
--- ---- what holds a level: the energy bounds the levels themselves where an edge is fixed
-
--- the kinds with a fixed edge
-unfoldable pub edged : Kind → Bool
-edged unknown = false
-edged fixedString = true
-edged halfFreeString = true
-edged freeString = false
-edged bar = true
-edged membrane = true
-edged roundMembrane = true
-edged plate = true
-
--- C², C the columns: how far a fixed edge reaches (the constant of Poincaré's inequality, Σ c² ≤ C² × Σ over pairs of (difference)²)
-abbrev pub reach : Grid → ℕ
-reach g = g .columns * g .columns
-
--- two numbers of an instrument: hold × the squares of its levels ≤ far × D × their energy
-pub record Holding : Type 0 where
-  pub hold : Instrument → ℕ
-  pub far : Instrument → ℕ
-
--- q with C²
-abbrev pub byTension : Holding
-byTension = record { hold = λ i. i .settings .q; far = λ i. reach (i .grid) }
-
--- 2m with C⁴
-abbrev pub byStiffness : Holding
-byStiffness = record { hold = λ i. 2 * i .settings .m; far = λ i. reach (i .grid) * reach (i .grid) }
+-- ---- the energy bounds the levels themselves where an edge is fixed
 
 -- both sides doubled: `squares` has 2, `energy` 2D
 abbrev pub LevelsHeld : Holding → Type 0
@@ -87,77 +55,51 @@ abbrev pub OfEveryProgram : OfSteps → Type 0
 OfEveryProgram P = (older newer : List ℤ) (ms : List Made) → AllKept ms (start older newer) →
     let t = afterAll ms (start older newer) in After P (t .newer) (t .book .n) (t .book .newer) (t .book .last)
 
--- k × Σ ≤ y × N × r²: both sides doubled and times (D+s)²ⁿ, as `distance` is
-abbrev pub SumBound : Instrument → (n : ℕ) (newer unrounded : List ℤ) → (k y r : ℕ) → Type 0
-SumBound i n newer unrounded k y r =
-    (pos k *ℤ distance i n newer unrounded) ≤ℤ (pos (y * (2 * points (i .grid))) *ℤ (square (pos r) *ℤ square (scale (i .settings) n)))
+-- ---- the bounds on Σ
 
--- ---- linear: the distance itself grows no faster than n
+abbrev pub OfSums : Bound → OfSteps
+OfSums b i n newer unrounded = b .Covers i → (pos (b .k i n) *ℤ distance i n newer unrounded) ≤ℤ limit b i n
 
--- 4 × hold × Σ ≤ far × D × N × n²
-abbrev pub Linear : Holding → OfSteps
-Linear H i n newer unrounded = edged (kind (i .grid)) ≡ true → SumBound i n newer unrounded (4 * H .hold i) (H .far i * D) n
-
--- 4 × q × Σ ≤ C² × D × N × n²
 abbrev pub LinearBound : Type 0
-LinearBound = OfEveryList (Linear byTension)
+LinearBound = OfEveryList (OfSums (linear byTension))
 
--- 4 × 2m × Σ ≤ C⁴ × D × N × n²
 abbrev pub StiffLinearBound : Type 0
-StiffLinearBound = OfEveryList (Linear byStiffness)
-
--- by the loss alone, for every kind: 4 × s² × Σ ≤ N × (D+s)² × n²
-abbrev pub LossLinear : OfSteps
-LossLinear i n newer unrounded = let s : ℕ = i .settings .s in
-    SumBound i n newer unrounded (4 * (s * s)) (divisor (i .settings) * divisor (i .settings)) n
+StiffLinearBound = OfEveryList (OfSums (linear byStiffness))
 
 abbrev pub LossLinearBound : Type 0
-LossLinearBound = OfEveryList LossLinear
-
--- ---- for ever: with loss and a fixed edge no number of steps takes the distance further; one of the two conditions always holds
-
--- 4 × s² × hold × Σ ≤ far × D × N × (D+s)², where far × s² ≤ hold × D
-abbrev pub ForEver : Holding → OfSteps
-ForEver H i n newer unrounded = let s : ℕ = i .settings .s in
-    edged (kind (i .grid)) ≡ true → H .far i * (s * s) ≤ H .hold i * D →
-    SumBound i n newer unrounded (4 * (s * s * H .hold i)) (H .far i * D) (divisor (i .settings))
-
--- hold² × Σ ≤ 4 × far² × N × (D+s)², where hold × D ≤ far × s²
-abbrev pub HeavyLoss : Holding → OfSteps
-HeavyLoss H i n newer unrounded = let s : ℕ = i .settings .s in
-    edged (kind (i .grid)) ≡ true → H .hold i * D ≤ H .far i * (s * s) →
-    SumBound i n newer unrounded (H .hold i * H .hold i) (4 * (H .far i * H .far i)) (divisor (i .settings))
+LossLinearBound = OfEveryList (OfSums lossLinear)
 
 abbrev pub ForEverBound : Type 0
-ForEverBound = OfEveryList (ForEver byTension)
+ForEverBound = OfEveryList (OfSums (forEver byTension))
 
 abbrev pub StiffForEverBound : Type 0
-StiffForEverBound = OfEveryList (ForEver byStiffness)
+StiffForEverBound = OfEveryList (OfSums (forEver byStiffness))
 
 abbrev pub HeavyLossBound : Type 0
-HeavyLossBound = OfEveryList (HeavyLoss byTension)
+HeavyLossBound = OfEveryList (OfSums (heavyLoss byTension))
 
 abbrev pub StiffHeavyLossBound : Type 0
-StiffHeavyLossBound = OfEveryList (HeavyLoss byStiffness)
+StiffHeavyLossBound = OfEveryList (OfSums (heavyLoss byStiffness))
 
 -- ---- at one point
 
--- (D+s)ⁿ × (newer − the book's newer) at point k
+-- (D+s)ⁿ × (newer − the book's newer) at point j
 abbrev pub difference : Instrument → (n : ℕ) (newer unrounded : List ℤ) → ℕ → ℤ
-difference i n newer unrounded k = scale (i .settings) n *ℤ point newer k -ℤ point unrounded k
+difference i n newer unrounded j = scale (i .settings) n *ℤ point newer j -ℤ point unrounded j
 
--- difference² at a point is at most Σ, at a free end at most 2 × Σ: so every bound on Σ is one at each point
+-- difference² at a point is at most Σ, at a free end at most 2 × Σ
 abbrev pub OnePoint : Type 0
-OnePoint = (i : Instrument) (n : ℕ) (newer unrounded : List ℤ) (k : ℕ) → k < points (i .grid) →
-    (pos (weight (i .grid) k) *ℤ square (difference i n newer unrounded k)) ≤ℤ distance i n newer unrounded
+OnePoint = (i : Instrument) (n : ℕ) (newer unrounded : List ℤ) (j : ℕ) → j < points (i .grid) →
+    (pos (weight (i .grid) j) *ℤ square (difference i n newer unrounded j)) ≤ℤ distance i n newer unrounded
 
--- demand 3's bound: 16 × difference² ≤ N × n² × (n+1)², at a free end twice that
-abbrev pub PointWithin : OfSteps
-PointWithin i n newer unrounded = (k : ℕ) → k < points (i .grid) →
-    (pos (16 * weight (i .grid) k) *ℤ square (difference i n newer unrounded k)) ≤ℤ bound i n
+-- so every bound on Σ is one at each point
+abbrev pub OfPoints : Bound → OfSteps
+OfPoints b i n newer unrounded = b .Covers i → (j : ℕ) → j < points (i .grid) →
+    (pos (b .k i n * weight (i .grid) j) *ℤ square (difference i n newer unrounded j)) ≤ℤ limit b i n
 
+-- demand 3's: 16 × difference² ≤ N × n² × (n+1)², at a free end twice that
 abbrev pub AtOnePoint : Type 0
-AtOnePoint = OfEveryList PointWithin
+AtOnePoint = OfEveryList (OfPoints demanded)
 
 -- the paper's example of a sheet: kind 1, 101 columns, q 11378, m 0, s 8
 abbrev pub voice : Instrument
@@ -165,8 +107,8 @@ voice = record { grid = record { kind = 1; columns = 101; rows = 1 }; settings =
 
 -- 25 × difference ≤ 2²⁸, squared: at every point within a 25th of a sample unit of the unrounded scheme
 abbrev pub VoiceWithin : OfSteps
-VoiceWithin i n newer unrounded = i ≡ voice → (k : ℕ) → k < points (i .grid) →
-    (pos 625 *ℤ square (difference i n newer unrounded k)) ≤ℤ (pos (2 ^ 56) *ℤ square (scale (i .settings) n))
+VoiceWithin i n newer unrounded = i ≡ voice → (j : ℕ) → j < points (i .grid) →
+    (pos 625 *ℤ square (difference i n newer unrounded j)) ≤ℤ (pos (2 ^ 56) *ℤ square (scale (i .settings) n))
 
 abbrev pub VoiceForEver : Type 0
 VoiceForEver = OfEveryList VoiceWithin
@@ -174,12 +116,12 @@ VoiceForEver = OfEveryList VoiceWithin
 -- ---- of programs
 
 pub record ProgramBounds : Type 0 where
-  pub linear : OfEveryProgram (Linear byTension)
-  pub stiff-linear : OfEveryProgram (Linear byStiffness)
-  pub loss-linear : OfEveryProgram LossLinear
-  pub for-ever : OfEveryProgram (ForEver byTension)
-  pub stiff-for-ever : OfEveryProgram (ForEver byStiffness)
-  pub heavy-loss : OfEveryProgram (HeavyLoss byTension)
-  pub stiff-heavy-loss : OfEveryProgram (HeavyLoss byStiffness)
-  pub at-one-point : OfEveryProgram PointWithin
+  pub linear-bound : OfEveryProgram (OfSums (linear byTension))
+  pub stiff-linear-bound : OfEveryProgram (OfSums (linear byStiffness))
+  pub loss-linear-bound : OfEveryProgram (OfSums lossLinear)
+  pub for-ever-bound : OfEveryProgram (OfSums (forEver byTension))
+  pub stiff-for-ever-bound : OfEveryProgram (OfSums (forEver byStiffness))
+  pub heavy-loss-bound : OfEveryProgram (OfSums (heavyLoss byTension))
+  pub stiff-heavy-loss-bound : OfEveryProgram (OfSums (heavyLoss byStiffness))
+  pub at-one-point : OfEveryProgram (OfPoints demanded)
   pub voice-for-ever : OfEveryProgram VoiceWithin

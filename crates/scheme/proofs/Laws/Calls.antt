@@ -126,6 +126,16 @@ stands-behind i pick h older newer (x ∷ xs) = go (someBeyond (nextLevel i h ol
           ap (λ (h : Hit). someBeyond (nextLevel i h (rest .older) (rest .newer))) (sym (same (rest .answer .steps))) ∙ u .2,
         )
 
+-- where no step would pass the ceiling, as many are done as there are places
+pub all-done : (i : Instrument) (pick : ℕ) (h : Hit) (older newer places : List ℤ)
+    → ((j : ℕ) → j < length places → someBeyond (levelsAfter i h (suc j) older newer .newer) ≡ false)
+    → play i pick h older newer places .answer .steps ≡ length places
+unfolding play levelsAfter
+all-done i pick h older newer [] low = refl
+all-done i pick h older newer (x ∷ xs) low =
+    ap (λ (p : AfterSteps). p .answer .steps) (play-goes i pick h older newer x xs (low zero (omega arith))) ∙
+    ap suc (all-done i pick Absent newer (nextLevel i h older newer) xs (λ j p. low (suc j) (omega arith)))
+
 -- levels that passed before k steps within the ceiling pass after them
 pub after-passes : (i : Instrument) (h : Hit) (k : ℕ) (older newer : List ℤ)
     → ((j : ℕ) → j < k → someBeyond (levelsAfter i h (suc j) older newer .newer) ≡ false)

@@ -1,8 +1,9 @@
 -- Laws of `roundAway` and `sampleOf`.
 use mathlib.Core.Path.{_≡_, refl, sym, ap, _∙_, subst}
-use mathlib.Core.Bool.{Bool, true, false, cond, not}
+use mathlib.Core.Bool.{Bool, true, false, cond, not, true≢false}
 use Prim.Native.Nat.{ℕ, zero, suc, _+_, _-_, _*_, _/_, _^_, _≤_, _<_, zero-le}
 use native.Mathlib.Nat.{div-eq-of-lt, div-eq-of-lt-le, div-mul-le-self, lt-div-mul-add, div-lt-iff-lt-mul, le-div-iff-mul-le}
+use native.Mathlib.Nat as N
 use native.Mathlib.Omega.{arith}
 use borrow.Author.Tests.{ltb-true, ltb-false, lt-ltb, le-ltb}
 use lib.Dec.{ltb, ltb→lt, nltb→le}
@@ -10,7 +11,7 @@ use lib.IntN.{ℤ, pos, negsuc, negℤ, natAbs, subℕ, _+ℤ_, _-ℤ_, _*ℤ_, 
 use lib.Signed.{ltZ}
 use Rattle.integers.proofs.Size.{cond-ind, size-neg}
 use Rattle.types.specs.Numbers.{ceiling}
-use Rattle.scheme.specs.Step.{nearest, roundAway, sampleOf}
+use Rattle.scheme.specs.Step.{nearest, roundAway, sampleOf, SampleRule}
 
 near : (m k q : ℕ) → 0 < k → (2 * m + k) / (2 * k) ≡ q → (2 * (k * q) ≤ 2 * m + k) × (2 * m ≤ 2 * (k * q) + k)
 near m k q h e =
@@ -84,8 +85,23 @@ round-odd (pos zero) d h =
 round-odd (pos (suc n)) d h = refl
 round-odd (negsuc n) d h = sym (negℤ-negℤ (pos (nearest (suc n) d)))
 
--- within the ceiling a sample lies in −32767..32767: an i16 holds it
-pub sample-fits : (z : ℤ) → natAbs z ≤ ceiling → natAbs (sampleOf z) ≤ 32767
-unfolding sampleOf
-sample-fits (pos a) h = omega (arith, div-lt-iff-lt-mul {k = 2 ^ 28} {x = a} {y = 32768} (omega arith) .1 (omega arith))
-sample-fits (negsuc a) h = div-lt-iff-lt-mul {k = 2 ^ 28} {x = a} {y = 32767} (omega arith) .1 h
+-- within C times the divisor the quotient lies within C
+round-fits : (n : ℤ) (d C : ℕ) → 0 < d → natAbs n ≤ C * d → natAbs (roundAway n d) ≤ C
+round-fits n d C h l =
+    ltb-false C (natAbs (roundAway n d)) (not-true _ (sym (round-limit n d C h) ∙ lt-ltb (natAbs n + d / 2) ((C + 1) * d) (omega (arith, l, N.add-mul C 1 d))))
+  where
+    not-true : (t : Bool) → not t ≡ true → t ≡ false
+    not-true true e = absurd (true≢false (sym e))
+    not-true false e = refl
+
+-- ---- the sample: rounding by 2²⁸
+
+pub sample-rule : SampleRule
+unfolding roundAway sampleOf
+sample-rule = record {
+  near = λ z. round-near z (2 ^ 28) (omega arith);
+  odd = λ z. round-odd z (2 ^ 28) (omega arith);
+  fits = λ z h. round-fits z (2 ^ 28) 32767 (omega arith) h;
+  highest = refl;
+  lowest = refl;
+}

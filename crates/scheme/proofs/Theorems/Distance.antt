@@ -203,12 +203,12 @@ same-is i l e =
       };
     }
 
-steps-last : (i : Instrument) (h : Hit) (k : ℕ) (b : Book) → unroundedSteps i h (suc k) b .last ≡ stepOf i
+pub steps-last : (i : Instrument) (h : Hit) (k : ℕ) (b : Book) → unroundedSteps i h (suc k) b .last ≡ stepOf i
 unfolding unroundedSteps unroundedStep
 steps-last i h zero b = refl
 steps-last i h (suc k) b = steps-last i Absent k (unroundedStep i h b)
 
-steps-count : (i : Instrument) (h : Hit) (k : ℕ) (b : Book) → (m : ℕ) × (unroundedSteps i h (suc k) b .n ≡ suc m)
+pub steps-count : (i : Instrument) (h : Hit) (k : ℕ) (b : Book) → (m : ℕ) × (unroundedSteps i h (suc k) b .n ≡ suc m)
 unfolding unroundedSteps unroundedStep
 steps-count i h zero b = (b .n, refl)
 steps-count i h (suc k) b = steps-count i Absent k (unroundedStep i h b)

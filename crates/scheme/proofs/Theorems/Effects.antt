@@ -3,21 +3,24 @@
 use mathlib.Core.Path.{_≡_, refl, ap, _∙_}
 use mathlib.Core.Bool.{Bool, true, false}
 use mathlib.Core.List.{List, [], _∷_}
-use Prim.Native.Nat.{ℕ}
-use lib.IntN.{ℤ}
-use lib.ListN.{length}
+use Prim.Native.Nat.{ℕ, suc, _<_}
+use native.Mathlib.Omega.{arith}
+use lib.IntN.{ℤ, pos}
+use lib.ListN.{length, replicate, length-replicate}
 use Rattle.types.specs.declared.Grid.{Grid}
 use Rattle.types.specs.declared.Instrument.{Instrument}
 use Rattle.types.specs.declared.Hit.{Hit}
+use Rattle.types.specs.declared.Refusal.{Refusal}
+use Rattle.types.specs.declared.Refusal.the-variants.{Nothing}
 use Rattle.pluck_table.specs.Table.{table}
 use Rattle.scheme.specs.Pluck.{pluckLevel}
 use Rattle.scheme.specs.Refusals.{wrongLength, blockRefusal, pluckRefusal}
 use Rattle.scheme.specs.Calls.{accepted, AfterSteps, play, levelsAfter, AfterBlock, AfterPluck, block, pluck}
 use Rattle.scheme.specs.Book.{fresh, bookBlock, bookPluck, Call, blockCall, pluckCall, leaves, bookCall, State, stateAfter, called}
-use Rattle.scheme.specs.Book.{calls}
+use Rattle.scheme.specs.Book.{calls, Outcome, EachCall}
 use Rattle.scheme.specs.Passing.{InstrumentPasses}
 use Rattle.scheme.proofs.Laws.Refusals.{accepted-is, instrument-passes, block-passes}
-use Rattle.scheme.proofs.Laws.Calls.{stands-behind, block-done, block-refused, pluck-done, pluck-refused}
+use Rattle.scheme.proofs.Laws.Calls.{stands-behind, all-done, block-done, block-refused, pluck-done, pluck-refused}
 
 -- k steps of an instrument, the hit in the first, of the levels and in the book
 abbrev pub stepped : Instrument → Hit → ℕ → State → State
@@ -37,32 +40,54 @@ pub data Effect (t t′ : State) : Type 0 where
 abbrev pub afterCall : Call → State → State
 afterCall k t = stateAfter k (called k t) t
 
-block-effect : (i : Instrument) (work samples : List ℤ) (pick : ℕ) (h : Hit) (t : State)
-    → Effect t (afterCall (blockCall i work samples pick h) t)
-unfolding leaves bookCall bookBlock
-block-effect i work samples pick h t = go (accepted (blockRefusal i (t .older) (t .newer) (wrongLength (i .grid) (length work)) pick h))
-    refl
+module _ (i : Instrument) (work samples : List ℤ) (pick : ℕ) (h : Hit) (t : State) where
+  abbrev refused : Refusal
+  refused = blockRefusal i (t .older) (t .newer) (wrongLength (i .grid) (length work)) pick h
+
+  abbrev after : AfterSteps
+  after = play i pick h (t .older) (t .newer) samples
+
+  left : AfterBlock → State
+  left r = record { older = r .older; newer = r .newer; book = bookBlock i h (t .older) (t .newer) (r .answer .steps) (t .book) }
+
+  -- an accepted block: the steps that it has done
+  pub block-stepped : refused ≡ Nothing → afterCall (blockCall i work samples pick h) t ≡ stepped i h (after .answer .steps) t
+  unfolding leaves bookCall left
+  block-stepped e =
+      let s = stands-behind i pick h (t .older) (t .newer) samples in
+      ap left (block-done i (t .older) (t .newer) work samples pick h e) ∙
+      (λ x. record {
+        older = s .older-is x;
+        newer = s .newer-is x;
+        book = bookBlock i h (t .older) (t .newer) (after .answer .steps) (t .book);
+      })
+
+  block-effect : Effect t (afterCall (blockCall i work samples pick h) t)
+  unfolding leaves bookCall bookBlock left
+  block-effect = go (accepted refused) refl
+    where
+      go : (x : Bool) → accepted refused ≡ x → Effect t (left (block i (t .older) (t .newer) work samples pick h))
+      go true e =
+          let z = accepted-is _ e in
+          steps i h (after .answer .steps)
+          (instrument-passes i (block-passes i (t .older) (t .newer) (wrongLength (i .grid) (length work)) pick h z .instrument))
+          (block-stepped z)
+      go false e = nothing (ap left (block-refused i (t .older) (t .newer) work samples pick h e))
+
+-- a block cut after j + 1 of its steps is a block
+pub block-cut : (i : Instrument) (work samples : List ℤ) (pick : ℕ) (h : Hit) (t : State) → refused i work samples pick h t ≡ Nothing
+    → (j : ℕ) → j < after i work samples pick h t .answer .steps
+    → afterCall (blockCall i work (replicate (suc j) (pos 0)) pick h) t ≡ stepped i h (suc j) t
+block-cut i work samples pick h t e j l =
+    block-stepped i work places pick h t e ∙ ap (λ (k : ℕ). stepped i h k t) (
+    all-done i pick h (t .older) (t .newer) places
+    (λ m p. stands-behind i pick h (t .older) (t .newer) samples .low m (omega (arith, l, p, long))) ∙ long)
   where
-    left : AfterBlock → State
-    left r = record { older = r .older; newer = r .newer; book = bookBlock i h (t .older) (t .newer) (r .answer .steps) (t .book) }
+    places : List ℤ
+    places = replicate (suc j) (pos 0)
 
-    after : AfterSteps
-    after = play i pick h (t .older) (t .newer) samples
-
-    go : (x : Bool) → accepted (blockRefusal i (t .older) (t .newer) (wrongLength (i .grid) (length work)) pick h) ≡ x
-        → Effect t (left (block i (t .older) (t .newer) work samples pick h))
-    go true e =
-        let z = accepted-is _ e in
-        let s = stands-behind i pick h (t .older) (t .newer) samples in
-        steps i h (after .answer .steps) (instrument-passes i
-        (block-passes i (t .older) (t .newer) (wrongLength (i .grid) (length work)) pick h z .instrument))
-        (ap left (block-done i (t .older) (t .newer) work samples pick h z) ∙
-        (λ x. record {
-          older = s .older-is x;
-          newer = s .newer-is x;
-          book = bookBlock i h (t .older) (t .newer) (after .answer .steps) (t .book);
-        }))
-    go false e = nothing (ap left (block-refused i (t .older) (t .newer) work samples pick h e))
+    long : length places ≡ suc j
+    long = length-replicate (suc j) (pos 0)
 
 pluck-effect : (g : Grid) (c w : ℕ) (a : ℤ) (t : State) → Effect t (afterCall (pluckCall g c w a) t)
 unfolding leaves bookCall bookPluck
@@ -88,3 +113,10 @@ pub list-keeps : (P : State → Type 0) → ((t t′ : State) → Effect t t′ 
 unfolding calls
 list-keeps P kept [] t p = p
 list-keeps P kept (k ∷ ks) t p = list-keeps P kept ks (afterCall k t) (kept t (afterCall k t) (effect-of k t) p)
+
+-- what holds of every call that a list reaches holds of each call of it
+pub each-call : (R : State → Type 0) (P : State → Call → Outcome → Type 0) → ((k : Call) (t : State) → R t → R (afterCall k t))
+    → ((k : Call) (t : State) → R t → P t k (called k t .outcome)) → (ks : List Call) (t : State) → R t → EachCall P ks t
+unfolding EachCall
+each-call R P kept here [] t r = tt
+each-call R P kept here (k ∷ ks) t r = (here k t r, each-call R P kept here ks (afterCall k t) (kept k t r))

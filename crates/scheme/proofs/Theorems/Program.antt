@@ -2,15 +2,15 @@
 use mathlib.Core.Path.{_≡_, refl, sym, ap, _∙_, subst}
 use mathlib.Core.List.{List, [], _∷_, map}
 use lib.IntN.{ℤ}
-use Rattle.scheme.specs.Book.{Call, Outcome, Left, State, start, stateAfter, AfterCalls, calls}
+use Rattle.scheme.specs.Book.{Call, Outcome, Left, State, start, stateAfter, AfterCalls, calls, EachCall}
 use Rattle.scheme.specs.Claims.{Near}
-use Rattle.scheme.specs.Program.{Made, AllKept, afterAll, ProgramBound}
+use Rattle.scheme.specs.Program.{Made, AllKept, afterAll, EachMade, ProgramBound}
 use Rattle.scheme.proofs.Theorems.Distance.{distance-bound}
 
 abbrev outcomesOf : List Made → List Outcome
 outcomesOf ms = map (λ (m : Made). m .left .outcome) ms
 
-abbrev callsOf : List Made → List Call
+abbrev pub callsOf : List Made → List Call
 callsOf ms = map (λ (m : Made). m .call) ms
 
 -- the levels that the program holds, and what its calls answered and left, are the definitions'
@@ -23,6 +23,15 @@ program-run (m ∷ ms) t k =
     record { outcomes = l .outcome ∷ rest .outcomes; state = rest .state }) (sym (k .0)) ∙
     ap (λ (rest : AfterCalls). record { outcomes = m .left .outcome ∷ rest .outcomes; state = rest .state })
     (program-run ms (stateAfter (m .call) (m .left) t) (k .1))
+
+-- a claim about each call of the list is one about each call of the program
+pub each-made : (P : State → Call → Outcome → Type 0) (ms : List Made) (t : State) → AllKept ms t → EachCall P (callsOf ms) t
+    → EachMade P ms t
+unfolding AllKept EachCall EachMade
+each-made P [] t k e = tt
+each-made P (m ∷ ms) t k e =
+    let on = subst (λ (l : Left). P t (m .call) (l .outcome) × EachCall P (callsOf ms) (stateAfter (m .call) l t)) (sym (k .0)) e in
+    (on .0, each-made P ms (stateAfter (m .call) (m .left) t) (k .1) (on .1))
 
 -- what holds of every list of calls holds of every program
 pub of-program : (P : State → Type 0) → ((older newer : List ℤ) (ks : List Call) → P (calls ks (start older newer) .state))

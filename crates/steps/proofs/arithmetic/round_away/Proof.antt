@@ -1,4 +1,4 @@
--- `round_away` meets its contract: the quotient of the raised size, with the sign of the numerator.
+-- `round_away` meets its contract: the quotient of the raised size, with the sign of n.
 use mathlib.Core.Path.{_≡_, ap, _∙_}
 use mathlib.Core.Bool.{cond}
 use Prim.Native.Nat.{ℕ, _+_, _/_, _^_, _≤_}
@@ -11,45 +11,42 @@ use mir.Syntax.{w64}
 use mir.Val.{toZ, ofZ}
 use Rattle.bounded.proofs.Num.{back}
 use Rattle.bounded.proofs.Expr.{E, at, via, _⊟_, fits, is, said}
-use Rattle.scheme.specs.Step.{divisor}
 use Rattle.scheme.proofs.Laws.Rounding.{round-signed}
 use Rattle.steps.specs.Plan.{signOf, mirrorOf}
 use Rattle.steps.proofs.RoundLaws.{sign-size, mirror-size, mirror-signed}
-use Rattle.steps.proofs.PlanLaws.{divisor-some, half-small}
 use Rattle.steps.proofs.arithmetic.round_away.Statement.{statement}
 use Rattle.steps.proofs.arithmetic.round_away.Tie as tie
 
 -- the number as it was passed
 abbrev n# : tie.Start → E
-n# s = at (s .args .n) (2 ^ 62) (s .pre .1)
+n# s = at (s .args .n) (2 ^ 62) (s .pre .0)
 
 -- the quotient
-module _ (c : tie.After-struct-known) where
+module _ (c : tie.After-raised) where
   abbrev start : tie.Start
-  start = c .before .before
+  start = c .before
 
   abbrev d : ℕ
-  d = divisor (start .args .plan .instrument .settings)
+  d = start .args .d
 
   abbrev quotient : ℕ
-  quotient = c .before .raised .result / start .args .plan .divisor
+  quotient = c .raised .result / d
 
-  raised-is : c .before .raised .result ≡ natAbs (start .args .n) + d / 2
-  raised-is = c .before .raised .ensures ∙ (λ j. natAbs (is (n# start) tt j) + d / 2)
+  raised-is : c .raised .result ≡ natAbs (start .args .n) + d / 2
+  raised-is = c .raised .ensures ∙ (λ j. natAbs (is (n# start) tt j) + start .pre .3 j)
 
   quotient-is : quotient ≡ (natAbs (start .args .n) + d / 2) / d
-  quotient-is = λ j. raised-is j / start .pre .0 .divisor-is j
+  quotient-is = ap (λ (m : ℕ). m / d) raised-is
 
-  quotient-low : quotient ≤ 2 ^ 62 + 2 ^ 16
-  quotient-low = le-trans (div-le-self (c .before .raised .result) (start .args .plan .divisor))
-      (omega (arith, raised-is, start .pre .1, half-small (start .pre .0)))
+  quotient-low : quotient ≤ 2 ^ 62 + 2 ^ 30
+  quotient-low = le-trans (div-le-self (c .raised .result) d) (omega (arith, raised-is, start .pre .0, start .pre .2))
 
   abbrev quotient# : E
-  quotient# = at (pos quotient) (2 ^ 62 + 2 ^ 16) quotient-low
+  quotient# = at (pos quotient) (2 ^ 62 + 2 ^ 30) quotient-low
 
 -- with its sign
 module _ (c : tie.After-sign) where
-  abbrev divided : tie.After-struct-known
+  abbrev divided : tie.After-raised
   divided = c .before .before
 
   abbrev n : ℤ
@@ -65,15 +62,15 @@ module _ (c : tie.After-sign) where
 
   abbrev signed# : E
   signed# =
-      via {B = 2 ^ 62 + 2 ^ 17}
+      via {B = 2 ^ 62 + 2 ^ 31}
       (record { is = mirrored-is; size = le-trans (mirror-size n (pos (quotient divided))) (omega (arith, quotient-low divided)) })
       ⊟ via {B = 1} (record { is = sign-is; size = sign-size n })
 
 raised-requires : tie.Need-raised-requires
-raised-requires c κs = (c .pre .0, said (λ (z : ℤ). natAbs z ≤ 2 ^ 62) (n# c) tt (c .pre .1))
+raised-requires c κs = (said (λ (z : ℤ). natAbs z ≤ 2 ^ 62) (n# c) tt (c .pre .0), omega (arith, c .pre .2, c .pre .3))
 
 div-size : tie.Need-div-size
-div-size c = let s = start c in omega (arith, s .pre .0 .divisor-is)
+div-size c = search needs
 
 cast-size : tie.Need-cast-size
 cast-size c = fits (quotient# c) tt
@@ -91,7 +88,7 @@ returns : tie.Need-returns
 returns c =
     let p = divided c in
     is (signed# c) tt ∙ mirror-signed (n c) (quotient p) ∙ ap (λ (q : ℕ). cond (ltZ (n c) (pos 0)) (negℤ (pos q)) (pos q)) (quotient-is p) ∙
-    round-signed (n c) (d p) (divisor-some (start p .pre .0))
+    round-signed (n c) (d p) (start p .pre .1)
 
 pub round-away-spec : {M : Type 1} → statement M
 round-away-spec =

@@ -112,14 +112,19 @@ cast-t17 c =
 div-t18 : tie.Need-div-t18
 div-t18 c = (omega arith, fits (divisor# (at-s c) ÷ num 2) tt)
 
-add-t19 : tie.Need-add-t19
-add-t19 c = search needs
+cast-t19 : tie.Need-cast-t19
+cast-t19 c =
+    let p = at-s c in
+    said (λ (z : ℤ). T (nonNeg z) × Fits w64 (natAbs z)) (divisor# p ÷ num 2) tt (tt, record { fits = omega (arith, s-low p) })
 
-mul-t20 : tie.Need-mul-t20
-mul-t20 c = fits (limit# (at-s c)) tt
+add-t20 : tie.Need-add-t20
+add-t20 c = search needs
 
-cast-t21 : tie.Need-cast-t21
-cast-t21 c =
+mul-t21 : tie.Need-mul-t21
+mul-t21 c = fits (limit# (at-s c)) tt
+
+cast-t22 : tie.Need-cast-t22
+cast-t22 c =
     let p = at-s c in
     said (λ (z : ℤ). T (nonNeg z) × Fits w64 (natAbs z)) (limit# p) tt (tt, record { fits = omega (arith, s-low p) })
 
@@ -134,7 +139,7 @@ returns c =
         m-is = is (m# p) tt;
         kept-is = is (num 65536 ⊟ s# p) tt;
         divisor-is = ap natAbs (is (divisor# p) tt);
-        half-is = is (divisor# p ÷ num 2) tt;
+        half-is = ap natAbs (is (divisor# p ÷ num 2) tt);
         limit-is = ap natAbs (is (limit# p) tt);
       },
     )
@@ -160,7 +165,8 @@ make-plan-spec =
     sub-t16
     cast-t17
     div-t18
-    add-t19
-    mul-t20
-    cast-t21
+    cast-t19
+    add-t20
+    mul-t21
+    cast-t22
     returns)

@@ -21,6 +21,7 @@ use Rattle.steps.proofs.Held.{held, held-below}
 use Rattle.steps.proofs.FillLaws.{point-beyond, point-written, point-tested}
 use Rattle.steps.proofs.NumeratorLaws.{numerator-below}
 use Rattle.steps.proofs.PointLaws.{updatable, value-is}
+use Rattle.steps.proofs.PlanLaws.{dividable}
 use Rattle.steps.proofs.points.next_point.Statement.{statement}
 use Rattle.steps.proofs.points.next_point.Tie as tie
 
@@ -137,13 +138,17 @@ returns : tie.Need-returns
 returns c = point-beyond _ _ (beyond-is (c .before) ∙ c .if1 .taken)
 
 round-away-requires : tie.Need-round-away-requires
-round-away-requires c κs = let n = c .before .before .before in (ready (start n) .planned, numerator-low n)
+round-away-requires c κs = let n = c .before .before .before in dividable (ready (start n) .planned) (stored n) (numerator-low n)
 
 sub-t19 : tie.Need-sub-t19
 sub-t19 c = search needs
 
 mul-t20 : tie.Need-mul-t20
-mul-t20 c = search needs
+mul-t20 c =
+    let s = start (c .before .before .before .before .before) in
+    let out-good = s .good .1 .1 .1 .1 .1 .1 .1 .0 in
+    let placed = s .pre .1 in
+    search needs
 
 slice-set-from-out : tie.Need-slice-set-from-out
 slice-set-from-out c = search needs
@@ -157,7 +162,8 @@ returns-2 c =
     let n = w .before in
     let s = start n in
     point-written _ _ _ (c .before .before .if2 .taken) (omega (arith, s .pre .1)) (omega (arith, s .pre .1))
-    (back (c .before .round-away .result) (c .before .round-away .ok) ∙ c .before .round-away .ensures ∙ rounded n)
+    (back (c .before .round-away .result) (c .before .round-away .ok) ∙ c .before .round-away .ensures ∙
+    ap (roundAway (stored n)) (ready s .planned .divisor-is) ∙ rounded n)
     (beyond-is w ∙ c .before .before .before .if1 .left)
 
 returns-3 : tie.Need-returns-3
