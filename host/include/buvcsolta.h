@@ -29,9 +29,10 @@
 extern "C" {
 #endif
 
-/* The version of this header: a new major number where a program must be changed, a new minor one where a call takes more. */
+/* The version of this header: a new major number where a program must be changed, a new minor one where a call takes more or gives
+ * another number: since 1.2 samples are rounded to the nearest. */
 #define BUVCSOLTA_VERSION_MAJOR 1
-#define BUVCSOLTA_VERSION_MINOR 1
+#define BUVCSOLTA_VERSION_MINOR 2
 #define BUVCSOLTA_VERSION_PATCH 0
 #define BUVCSOLTA_VERSION (BUVCSOLTA_VERSION_MAJOR * 10000 + BUVCSOLTA_VERSION_MINOR * 100 + BUVCSOLTA_VERSION_PATCH)
 
@@ -73,7 +74,7 @@ enum buvcsolta_refusal {
 /* A block: as many steps as samples has places.
  *
  * older, newer, work: levels of columns x rows points. The old content of work plays no part.
- * pick_up:            the point whose value, over 2^28 and rounded down, is a step's sample.
+ * pick_up:            the point whose value over 2^28, to the nearest whole number, halves away from zero, is a step's sample.
  * hit:                0 for none; any other number: force units at point, in the first step.
  * steps:              becomes the number of steps done.
  *

@@ -53,7 +53,7 @@ class Book:
             grid, settings, self.older, self.newer, self.scale, hit)
         self.n += 1
 
-    def block(self, kind, columns, rows, q, m, s, older, newer, hit, steps):
+    def block(self, kind, columns, rows, q, m, s, older, newer, hit, steps, each_step=lambda number: None):
         """A block's arguments, the two levels lent to it and its answered count of steps."""
         if steps == 0:
             # "A block with no step done, refused or not, changes nothing in the book".
@@ -65,6 +65,7 @@ class Book:
         for number in range(steps):
             # "the block's hit in the first of them".
             self.step(hit if number == 0 else None)
+            each_step(number)
 
     def pluck(self, kind, columns, rows, older, newer, centre, half_width, height):
         """"An accepted pluck puts the levels its rule gives into the book, with n 0."""

@@ -1,11 +1,11 @@
-"""The proved bounds on the squared distances summed, as fractions: demand 3's and those of crates/tighter.
+"""The proved bounds on the squared distances summed, as fractions: demand 3's and those of crates/tighter. Each is one on every sample too.
 
 Each takes a grid (kind, columns, rows), settings (q, m, s) and the steps n, and answers None where it says nothing.
 """
 
 from fractions import Fraction
 
-from instrument import D
+from instrument import D, free_ends
 
 # "edged" of crates/tighter/specs/Claims.antt: the kinds with a fixed edge.
 EDGED = (1, 2, 4, 5, 6, 7)
@@ -70,6 +70,20 @@ def all_bounds(grid, settings, n):
         "StiffHeavyLossBound": heavy_loss(by_stiffness, grid, settings),
     }
     return {name: bound for name, bound in found.items() if bound is not None}
+
+
+def sample_passed(book, pick_up, sample):
+    """SampleBounds: the names of the bounds that a sample passes, half a sample unit being the read-out's, the book's n above 0.
+
+    With weight w (1 at a free end, else 2): w x beyond^2 <= 2 x bound x scale^2.
+    """
+    beyond = abs(2**28 * book.scale * sample - book.newer[pick_up]) - 2**27 * book.scale
+    if beyond <= 0:
+        return []
+    (kind, columns, _), _ = book.last
+    weight = 1 if pick_up in free_ends(kind, columns) else 2
+    return [name for name, bound in all_bounds(*book.last, book.n).items()
+            if weight * beyond**2 * bound.denominator > 2 * bound.numerator * book.scale**2]
 
 
 def passed(book, newer):

@@ -116,7 +116,8 @@ def summary(counts, seconds, jobs):
     kinds = sorted(key for key in counts if isinstance(key, str) and key.startswith("kind "))
     print("blocks carried out:", "; ".join(f"{kind}: {counts[kind]}" for kind in kinds))
     print(f"{counts['lists']} lists, {counts['calls in lists']} calls in lists "
-          f"({counts['far']} with the book at a distance), energy watched at {counts['energy watched']} steps")
+          f"({counts['far']} with the book at a distance), {counts['samples beside the book']} samples beside the book, "
+          f"energy watched at {counts['energy watched']} steps")
 
 
 def each_wrong_edit(seed, jobs, calls, seconds):

@@ -91,6 +91,9 @@ EDITS = (
     ("free end counts whole in the distance", "book.py", "2 * sum(squares) - sum(", "2 * sum(squares) - 0 * sum("),
     ("bound of n + 1 steps", "book.py", "(self.n * (self.n + 1) * self.scale)",
      "((self.n + 1) * (self.n + 2) * self.scale)"),
+    ("half of the half of a sample unit", "bounds.py", "2**27 * book.scale", "2**26 * book.scale"),
+    ("a sample allowed half a unit alone", "bounds.py", "> 2 * bound.numerator", "> 0 * bound.numerator"),
+    ("free end counts whole at a sample", "bounds.py", "weight = 1 if", "weight = 2 if"),
     ("256 bytes taken", "ring.py", "len(line) > 255", "len(line) > 256"),
     ("two spaces taken", "ring.py", "[0-9]+ )", "[0-9]+ +)"),
     ("minus on every number", "ring.py", "(?:[0-9]+ )", "(?:-?[0-9]+ )"),
@@ -107,7 +110,7 @@ EDITS = (
 )
 
 # The files that a library has no part in.
-BESIDE = ("book.py", "ring.py")
+BESIDE = ("book.py", "bounds.py", "ring.py")
 
 
 def wrong_copy(edit, folder):
@@ -123,7 +126,7 @@ def wrong_copy(edit, folder):
 
 
 def tests_of(file):
-    return "test_ring.py" if file == "ring.py" else "test_reference.py"
+    return {"ring.py": "test_ring.py", "bounds.py": "test_bounds.py"}.get(file, "test_reference.py")
 
 
 def tests_pass(folder, tests):
@@ -136,7 +139,7 @@ def tests_pass(folder, tests):
 
 
 def main():
-    for tests in ("test_reference.py", "test_ring.py"):
+    for tests in ("test_reference.py", "test_ring.py", "test_bounds.py"):
         if not tests_pass(HERE, tests):
             raise SystemExit(f"{tests} fails without any edit")
     survived = []

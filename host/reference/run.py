@@ -66,7 +66,7 @@ class Run:
         return expected
 
     def block(self, grid, settings, older, newer):
-        """A block with drawn work, samples, pick-up and hit; the hit and the outcome."""
+        """A block with drawn work, samples, pick-up and hit; the hit, the pick-up and the outcome."""
         draw = self.draw
         size = len(newer)
         work = [draw.randint(-9, 9)] * size
@@ -75,9 +75,9 @@ class Run:
         hit, point, force = 0, draw.wild(), draw.wild_signed()
         if draw.rarely(0.6):
             hit, point, force = draw.choice((1, 1, draw.wild() or 1)), draw.point(grid, True), draw.force()
-        outcome = self.call("block", *grid, *settings, older, newer, work, self.samples(size),
-                            draw.point(grid), hit, point, force)
-        return (point, force) if hit else None, outcome
+        samples, pick_up = self.samples(size), draw.point(grid)
+        outcome = self.call("block", *grid, *settings, older, newer, work, samples, pick_up, hit, point, force)
+        return (point, force) if hit else None, pick_up, outcome
 
     def samples(self, size):
         """Few on large grids; now and then very many on the smallest."""
@@ -90,8 +90,23 @@ class Run:
         draw = self.draw
         return (*grid, older, newer, draw.point(grid, True), draw.half_width(grid[1]), draw.force())
 
+    def block_beside(self, book, grid, settings, older, newer):
+        """A block with its book, every sample beside the book after as many steps; the outcome."""
+        hit, pick_up, outcome = self.block(grid, settings, older, newer)
+
+        def heard(number):
+            sample = outcome[5][number]
+            passed = bounds.sample_passed(book, pick_up, sample)
+            if passed:
+                raise Difference(f"sample beyond {passed[0]}: n {book.n}, last step {book.last}\n"
+                                 f"sample {sample}\nbook {book.newer[pick_up]}\nscale {book.scale}")
+            self.counts["samples beside the book"] += 1
+
+        book.block(*grid, *settings, older, newer, hit, outcome[1], heard)
+        return outcome
+
     def one_list(self):
-        """A list of calls with its book; the bound is checked at every call."""
+        """A list of calls with its book; the bound is checked at every call, and at every sample."""
         draw = self.draw
         kind = draw.kind()
         grid = (kind, *draw.size(kind))
@@ -111,8 +126,7 @@ class Run:
                 book.pluck(*arguments)
                 older, newer = outcome[1:3]
             else:
-                hit, outcome = self.block(grid, settings, older, newer)
-                book.block(*grid, *settings, older, newer, hit, outcome[1])
+                outcome = self.block_beside(book, grid, settings, older, newer)
                 older, newer = outcome[2:4]
             passed = [] if book.within_bound(newer) else ["the bound"]
             if book.n and not passed:

@@ -10,7 +10,7 @@ from fractions import Fraction
 import bounds
 from book import Book, energy
 from instrument import D, moving_set
-from step import next_level, round_half_away
+from step import next_level, round_half_away, sample
 
 
 def run(grid, settings, older, newer, steps, hits=lambda book, older, newer: None):
@@ -91,10 +91,46 @@ class Bounds(unittest.TestCase):
         self.assertLess(found["StiffLinearBound"], found["DistanceBound"])
 
     def test_example_voice(self):
-        """VoiceForEver: a 25th of a sample unit."""
+        """VoiceForEver: a 25th of a sample unit; VoiceSamples: with the read-out 27/50."""
         bound = bounds.for_ever(bounds.by_tension, (1, 101, 1), (11378, 0, 8))
         self.assertLessEqual(bound, Fraction(2**56, 25**2))
         self.assertGreater(bound, Fraction(2**56, 27**2))
+        self.assertEqual(Fraction(1, 2) + Fraction(1, 25), Fraction(27, 50))
+
+    def error(self, found, pick_up):
+        """How far the sample of a run lies from the unrounded scheme, in sample units; all its bounds hold."""
+        _, book, newer = found
+        self.assertEqual(bounds.sample_passed(book, pick_up, sample(newer[pick_up])), [])
+        return abs(sample(newer[pick_up]) - Fraction(book.newer[pick_up], 2**28 * book.scale))
+
+    def test_half_of_a_sample_unit(self):
+        """A level at a half, exact: the read-out alone takes half a sample unit, so half of that is too little."""
+        for value in (2**27, -(2**27), 3 * 2**27):
+            level = [0, value, 0]
+            self.assertEqual(self.error(run((1, 3, 1), (0, 0, 0), level, level, 1), 1), Fraction(1, 2))
+
+    def test_sample_beyond_half(self):
+        """2^27 - 1/2 becomes 2^27, and that reads 1: half a unit more than half a sample unit."""
+        u = (2**28 - 1) // 3
+        error = self.error(run((1, 3, 1), (D // 4, 0, 0), [0] * 3, [0, u, 0], 1), 1)
+        self.assertEqual(error, Fraction(1, 2) + Fraction(1, 2**29))
+
+    def test_wrong_sample_passes(self):
+        """The next sample, or the one before, passes every bound; at a free end more is allowed."""
+        for grid, pick_up in (((1, 3, 1), 1), ((3, 3, 1), 0)):
+            _, book, newer = run(grid, (D // 4, 0, D // 8), [0] * 3, [0, 5 * 2**28, 0], 4)
+            right = sample(newer[pick_up])
+            for wrong in (right - 1, right + 1):
+                self.assertEqual(bounds.sample_passed(book, pick_up, wrong), list(bounds.all_bounds(*book.last, 4)))
+
+    def test_free_end_counts_half(self):
+        """A sample whose square beyond half lies between the bound and twice it passes away from a free end only."""
+        for grid, expected in (((1, 3, 1), ["DistanceBound"]), ((3, 3, 1), [])):
+            book = Book([0] * 3, [0] * 3)
+            book.last, book.n = (grid, (0, 0, 0)), 1
+            # One unit beyond half: its square lies between the bound, 3/4, and twice it.
+            book.newer[0] = 2**27 + 1
+            self.assertEqual(bounds.sample_passed(book, 0, 0), expected)
 
 
 if __name__ == "__main__":

@@ -1,5 +1,5 @@
-/* The header's calls: the paper's sheet, a pluck, a block with a hit, a reading, a struck plate, refused calls, and a block by the
- * exported function itself, for writers of bindings. Prints what differs. Compiled as C99 and as C++11. */
+/* The header's calls: the paper's sheet, a pluck, a block with a hit, a reading, a fading string, a struck plate, refused calls, and a
+ * block by the exported function itself, for writers of bindings. Prints what differs. Compiled as C99 and as C++11. */
 #include "buvcsolta.h"
 #include <stdio.h>
 #include <string.h>
@@ -75,6 +75,22 @@ static void plucked_string(void)
     expect("steps", (int64_t)steps, PLACES);
 }
 
+/* A string that fades to 3 units below zero and stays there: its samples end in zeros. */
+static void fading_string(void)
+{
+    struct buvcsolta_instrument i = {BUVCSOLTA_STRING_FIXED, 5, 1, 8192, 0, 10000};
+    int64_t a[5] = {0}, b[5] = {0}, c[5];
+    struct buvcsolta_levels lent = {a, b, c, 5};
+    struct buvcsolta_hit hit = {2, 100 * BUVCSOLTA_UNITS_PER_SAMPLE};
+    int16_t heard[200];
+    int differ = 0;
+    expect_refusal("a fading string", buvcsolta_instrument_block(&i, &lent, heard, 200, 1, &hit, &steps), BUVCSOLTA_NOTHING);
+    expect("where it stays", b[1], -3);
+    for (int n = 100; n < 200; n++)
+        differ += heard[n] != 0;
+    expect("samples of silence that are not 0", differ, 0);
+}
+
 /* A plate of 5 x 5 points, one apart and with one step a second, so that m is 65536 times the bending; hit in its middle. */
 static void struck_plate(void)
 {
@@ -114,6 +130,7 @@ int main(void)
     sheet_of_the_paper();
     listing_of_the_paper();
     plucked_string();
+    fading_string();
     struck_plate();
     refused_calls();
     if (failures)

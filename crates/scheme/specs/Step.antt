@@ -2,7 +2,7 @@
 use mathlib.Core.Path.{_≡_}
 use mathlib.Core.Bool.{Bool, cond}
 use mathlib.Core.List.{List, _++_}
-use Prim.Native.Nat.{ℕ, suc, _+_, _-_, _*_, _/_, _^_, _≤_}
+use Prim.Native.Nat.{ℕ, suc, _+_, _-_, _*_, _/_, _^_, _≤_, _<_}
 use lib.Dec.{ltb, eqb}
 use lib.Ieee.{Float, binary64, ofInt, div}
 use lib.IntN.{ℤ, pos, negsuc, negℤ, natAbs, _+ℤ_, _-ℤ_, _*ℤ_}
@@ -83,11 +83,12 @@ someBeyond xs = someBelow (length xs) (λ k. beyond (point xs k))
 unfoldable pub sampleOf : ℤ → ℤ
 sampleOf z = roundAway z (2 ^ 28)
 
--- "an i16", "The ceiling still maps to 32767": within half a sample unit of the point; up and down alike; within the ceiling an i16 holds it,
--- and both ends are reached. Proved as `sample-rule`.
+-- A sample lies within half a sample unit of the point; up and down are alike; "a few units" above or below zero are silent; within the
+-- ceiling "an i16" holds it, and "The ceiling still maps to 32767". Proved as `sample-rule`.
 pub record SampleRule : Type 0 where
   pub near : (z : ℤ) → 2 * natAbs (pos (2 ^ 28) *ℤ sampleOf z -ℤ z) ≤ 2 ^ 28
   pub odd : (z : ℤ) → sampleOf (negℤ z) ≡ negℤ (sampleOf z)
+  pub silent : (z : ℤ) → natAbs z < 2 ^ 27 → sampleOf z ≡ pos 0
   pub fits : (z : ℤ) → natAbs z ≤ ceiling → natAbs (sampleOf z) ≤ 32767
   pub highest : sampleOf (pos ceiling) ≡ pos 32767
   pub lowest : sampleOf (negℤ (pos ceiling)) ≡ negℤ (pos 32767)

@@ -79,7 +79,7 @@ at-step C i newer unrounded n last (m, e) l a =
 
 module _ (C : OfSteps) (S : OfSamples)
     (each : (i : Instrument) (n : ℕ) (newer unrounded : List ℤ) (pick : ℕ) → pick < points (i .grid) → C i n newer unrounded
-        → S i n pick (sampleOf (point newer pick)) (point unrounded pick)) where
+    → S i n pick (sampleOf (point newer pick)) (point unrounded pick)) where
   abbrev AfterHere : State → Type 0
   AfterHere t = After C (t .newer) (t .book .n) (t .book .newer) (t .book .last)
 
@@ -163,8 +163,11 @@ voice-samples = every-sample VoiceWithin VoiceSampleWithin within P.voice-for-ev
     within : (i : Instrument) (n : ℕ) (newer unrounded : List ℤ) (pick : ℕ) → pick < points (i .grid) → VoiceWithin i n newer unrounded
         → VoiceSampleWithin i n pick (sampleOf (point newer pick)) (point unrounded pick)
     within i n newer unrounded pick l h e =
-        omega (arith, sample-near i n (point newer pick) (point unrounded pick),
-        fraction (difference i n newer unrounded pick) (divisor (i .settings) ^ n) (h e pick l))
+        omega (
+          arith,
+          sample-near i n (point newer pick) (point unrounded pick),
+          fraction (difference i n newer unrounded pick) (divisor (i .settings) ^ n) (h e pick l),
+        )
 
 -- ---- all of them, of lists and of programs
 

@@ -94,6 +94,12 @@ round-fits n d C h l =
     not-true true e = absurd (true≢false (sym e))
     not-true false e = refl
 
+-- less than half of the divisor is rounded to 0
+round-small : (n : ℤ) (d : ℕ) → 2 * natAbs n < d → roundAway n d ≡ pos 0
+unfolding roundAway
+round-small (pos n) d l = ap pos (div-eq-of-lt {n = 2 * n + d} {m = 2 * d} (omega arith))
+round-small (negsuc n) d l = ap (λ (q : ℕ). negℤ (pos q)) (div-eq-of-lt {n = 2 * suc n + d} {m = 2 * d} (omega arith))
+
 -- ---- the sample: rounding by 2²⁸
 
 pub sample-rule : SampleRule
@@ -101,6 +107,7 @@ unfolding roundAway sampleOf
 sample-rule = record {
   near = λ z. round-near z (2 ^ 28) (omega arith);
   odd = λ z. round-odd z (2 ^ 28) (omega arith);
+  silent = λ z l. round-small z (2 ^ 28) (omega arith);
   fits = λ z h. round-fits z (2 ^ 28) 32767 (omega arith) h;
   highest = refl;
   lowest = refl;
