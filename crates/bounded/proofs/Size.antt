@@ -1,7 +1,7 @@
 -- The magnitude of a whole number, natAbs z, under the quotient of signed code, and as a signed width bounds it.
 use mathlib.Core.Path.{_≡_, refl}
-use Prim.Native.Nat.{ℕ, suc, _/_, _≤_}
-use native.Mathlib.Nat.{le-refl, div-le-self}
+use Prim.Native.Nat.{suc, _/_, _≤_}
+use native.Mathlib.Nat.{le-refl}
 use native.Mathlib.Omega.{arith}
 use lib.IntN.{ℤ, pos, negsuc, natAbs}
 use lib.Signed.{mag, quotZ}

@@ -134,6 +134,15 @@ pub ≤-totalℕ : (a b : ℕ) → (a ≤ b) ⊎ (b ≤ a)
     both (inl h) = inl (omega arith)
     both (inr h) = inr (omega arith)
 
+-- squares are in the order of what is squared
+pub root-mono : (a b : ℕ) → a * a ≤ b * b → a ≤ b
+root-mono zero b h = zero-le
+root-mono (suc a) b h = go (≤-totalℕ (suc a) b)
+  where
+    go : (suc a ≤ b) ⊎ (b ≤ suc a) → suc a ≤ b
+    go (inl l) = l
+    go (inr l) = N.le-of-mul-le-mul-right {k = suc a} (N.le-trans h (N.mul-le-mul-left b l)) (omega arith)
+
 pub ≤ℤ-total : (a b : ℤ) → (a ⩽ b) ⊎ (b ⩽ a)
 ≤ℤ-total (pos a) (pos b) = go (≤-totalℕ a b)
   where

@@ -41,6 +41,10 @@ size-mul (pos a) (negsuc b) = size-neg (pos (a * suc b))
 size-mul (negsuc a) (pos b) = size-neg (pos (suc a * b))
 size-mul (negsuc a) (negsuc b) = refl
 
+pub square-size : (z : ℤ) → z *ℤ z ≡ pos (natAbs z * natAbs z)
+square-size (pos n) = refl
+square-size (negsuc n) = refl
+
 -- a whole number taken from one that is at least as large
 pub pos-less : (n k : ℕ) → k ≤ n → pos n -ℤ pos k ≡ pos (n - k)
 pos-less n zero h = ap pos (omega arith)

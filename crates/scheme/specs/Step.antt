@@ -78,7 +78,7 @@ nextLevel i h older newer = tabulate (points (i .grid)) (nextAt i h older newer)
 unfoldable pub someBeyond : List ℤ → Bool
 someBeyond xs = someBelow (length xs) (λ k. beyond (point xs k))
 
--- "The sample is newer at the pick-up point divided by 2²⁸", and "From now on the sample is the nearest whole number, halves away from zero":
+-- "The sample is newer at the pick-up point divided by 2²⁸"; "From now on the sample is the nearest whole number, halves away from zero":
 -- of that point's value, rounded as a step is.
 unfoldable pub sampleOf : ℤ → ℤ
 sampleOf z = roundAway z (2 ^ 28)

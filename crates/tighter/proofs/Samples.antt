@@ -2,34 +2,31 @@
 use mathlib.Core.Path.{_≡_, refl, sym, ap, _∙_, subst, subst₂}
 use mathlib.Core.Bool.{Bool, true, false, cond}
 use mathlib.Core.List.{List, [], _∷_}
-use mathlib.Core.Logic.{_⊎_, inl, inr}
-use Prim.Native.Nat.{ℕ, zero, suc, _+_, _*_, _^_, _≤_, _<_, zero-le}
+use Prim.Native.Nat.{ℕ, suc, _+_, _*_, _^_, _≤_, _<_}
 use native.Mathlib.Nat as N
 use native.Mathlib.Omega.{arith}
-use lib.Dec.{ltb}
-use lib.IntN.{ℤ, pos, negsuc, natAbs, _+ℤ_, _-ℤ_, _*ℤ_}
+use lib.IntN.{ℤ, pos, natAbs, _+ℤ_, _-ℤ_, _*ℤ_}
 use lib.ListN.{length, replicate}
 use Rattle.integers.proofs.Ring.{#_, _⊕_, _⊖_, _⊗_, _≈_, ring}
-use Rattle.integers.proofs.Order.{_⩽_, 0≤pos, pos≤, ≤pos, *ℤ-mono-l, ≡-≤ℤ, ≤ℤ-≡, ≤ℤ-trans, ≤-totalℕ}
-use Rattle.integers.proofs.Size.{size-add, size-mul}
+use Rattle.integers.proofs.Order.{_⩽_, 0≤pos, pos≤, ≤pos, *ℤ-mono-l, ≡-≤ℤ, ≤ℤ-≡, ≤ℤ-trans, root-mono}
+use Rattle.integers.proofs.Size.{size-add, size-mul, square-size}
 use Rattle.types.specs.declared.Instrument.{Instrument}
 use Rattle.types.specs.declared.Hit.{Hit}
 use Rattle.types.specs.declared.Refusal.{Refusal}
-use Rattle.types.specs.declared.Refusal.the-variants.{Nothing}
 use Rattle.scheme.specs.Lists.{point, square}
 use Rattle.scheme.specs.Instruments.{points}
 use Rattle.scheme.specs.Step.{sampleOf, divisor}
 use Rattle.scheme.specs.Refusals.{wrongLength, blockRefusal}
-use Rattle.scheme.specs.Calls.{accepted, AfterBlock, play, levelsAfter, block}
-use Rattle.scheme.specs.Book.{LastStep, stepOf, Book, fresh, scale, goesOn, bookBlock, Call, blockCall, pluckCall, leaves, stepsOf, samplesOf, State, start}
-use Rattle.scheme.specs.Book.{called, calls, EachCall}
+use Rattle.scheme.specs.Calls.{accepted, AfterBlock, play, block}
+use Rattle.scheme.specs.Book.{LastStep, stepOf, Book, fresh, scale, goesOn, bookBlock, Call, blockCall, pluckCall, leaves, State, start}
+use Rattle.scheme.specs.Book.{called, calls}
 use Rattle.scheme.proofs.Laws.Rounding.{sample-rule}
 use Rattle.scheme.proofs.Laws.Refusals.{accepted-is, block-passes}
 use Rattle.scheme.proofs.Laws.Calls.{stands-behind, block-done, block-refused}
 use Rattle.scheme.proofs.Theorems.Distance.{steps-last, steps-count}
 use Rattle.scheme.proofs.Theorems.Effects.{stepped, afterCall, block-cut, each-call}
 use Rattle.scheme.proofs.Theorems.Program.{each-made, callsOf}
-use Rattle.tighter.specs.Bounds.{Bound, limit, demanded}
+use Rattle.tighter.specs.Bounds.{Bound, demanded}
 use Rattle.tighter.specs.Claims.{OfSteps, After, OfEveryList, difference, OfSums, OfPoints, voice, VoiceWithin}
 use Rattle.tighter.specs.Samples.{OfSamples, EachSample, OfEverySample, OfProgramSamples, sampleError, beyondHalf, SampleWithin}
 use Rattle.tighter.specs.Samples.{SampleBound, VoiceSampleWithin, VoiceSamples, SampleBounds}
@@ -58,15 +55,11 @@ module _ (i : Instrument) (n : ℕ) (z v : ℤ) where
   sample-near = subst (λ (x : ℤ). natAbs x ≤ 2 ^ 27 * p + natAbs (pos p *ℤ z -ℤ v)) (sym parts)
       (omega (arith, size-add (pos p *ℤ off) (pos p *ℤ z -ℤ v), half))
 
-square-is : (z : ℤ) → z *ℤ z ≡ pos (natAbs z * natAbs z)
-square-is (pos n) = refl
-square-is (negsuc n) = refl
-
 beyond-square : (i : Instrument) (n : ℕ) (z v : ℤ)
     → square (pos (beyondHalf i n (sampleOf z) v)) ⩽ square (scale (i .settings) n *ℤ z -ℤ v)
 beyond-square i n z v =
     let l : beyondHalf i n (sampleOf z) v ≤ natAbs (scale (i .settings) n *ℤ z -ℤ v) = omega (arith, sample-near i n z v) in
-    ≤ℤ-≡ (pos≤ (N.mul-le-mul l l)) (sym (square-is (scale (i .settings) n *ℤ z -ℤ v)))
+    ≤ℤ-≡ (pos≤ (N.mul-le-mul l l)) (sym (square-size (scale (i .settings) n *ℤ z -ℤ v)))
 
 -- ---- from what holds of the levels of every list to what holds of every sample
 
@@ -143,18 +136,11 @@ sample-bound = by-bound demanded P.demanded-bound
 
 -- ---- the voice
 
-root : (a b : ℕ) → a * a ≤ b * b → a ≤ b
-root zero b h = zero-le
-root (suc a) b h = go (≤-totalℕ (suc a) b)
-  where
-    go : (suc a ≤ b) ⊎ (b ≤ suc a) → suc a ≤ b
-    go (inl l) = l
-    go (inr l) = N.le-of-mul-le-mul-right {k = suc a} (N.le-trans h (N.mul-le-mul-left b l)) (omega arith)
-
 -- from 25·|x| ≤ 2²⁸·p, squared
 fraction : (x : ℤ) (p : ℕ) → pos 625 *ℤ square x ⩽ pos (2 ^ 56) *ℤ square (pos p) → 25 * natAbs x ≤ 2 ^ 28 * p
-fraction x p h = root (25 * natAbs x) (2 ^ 28 * p) (≤pos (
-    ≡-≤ℤ (ring 1 (λ a. (# 25 ⊗ a) ⊗ (# 25 ⊗ a) ≈ # 625 ⊗ (a ⊗ a)) refl (pos (natAbs x)) ∙ ap (λ (s : ℤ). pos 625 *ℤ s) (sym (square-is x)))
+fraction x p h = root-mono (25 * natAbs x) (2 ^ 28 * p) (≤pos (
+    ≡-≤ℤ (ring 1 (λ a. (# 25 ⊗ a) ⊗ (# 25 ⊗ a) ≈ # 625 ⊗ (a ⊗ a)) refl (pos (natAbs x)) ∙
+    ap (λ (s : ℤ). pos 625 *ℤ s) (sym (square-size x)))
     (≤ℤ-≡ h (ring 1 (λ b. # (2 ^ 56) ⊗ (b ⊗ b) ≈ (# (2 ^ 28) ⊗ b) ⊗ (# (2 ^ 28) ⊗ b)) refl (pos p)))))
 
 pub voice-samples : VoiceSamples

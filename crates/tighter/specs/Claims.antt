@@ -16,7 +16,8 @@ use Rattle.scheme.specs.Energy.{weight, squares, energy}
 use Rattle.scheme.specs.Book.{LastStep, noStep, stepOf, scale, Call, start, calls}
 use Rattle.scheme.specs.Claims.{Passes, distance}
 use Rattle.scheme.specs.Program.{Made, AllKept, afterAll}
-use Rattle.tighter.specs.Bounds.{edged, Holding, byTension, byStiffness, Bound, limit, demanded, linear, lossLinear, forEver, heavyLoss}
+use Rattle.tighter.specs.Bounds.{edged, Holding, byTension, byStiffness, Bound, limit, demanded, linear, lossLinear, forEver}
+use Rattle.tighter.specs.Bounds.{heavyLoss}
 
 -- ---- the energy bounds the levels themselves where an edge is fixed
 

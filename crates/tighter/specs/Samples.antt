@@ -32,7 +32,8 @@ OfEverySample P = (older newer : List ℤ) (ks : List Call) → EachCall (EachSa
 
 -- the same of the samples that a program was given
 abbrev pub OfProgramSamples : OfSamples → Type 0
-OfProgramSamples P = (older newer : List ℤ) (ms : List Made) → AllKept ms (start older newer) → EachMade (EachSample P) ms (start older newer)
+OfProgramSamples P = (older newer : List ℤ) (ms : List Made) → AllKept ms (start older newer) →
+    EachMade (EachSample P) ms (start older newer)
 
 -- ---- how far a sample lies from the unrounded scheme
 

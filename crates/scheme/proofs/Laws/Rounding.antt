@@ -10,7 +10,6 @@ use lib.Dec.{ltb, ltb→lt, nltb→le}
 use lib.IntN.{ℤ, pos, negsuc, negℤ, natAbs, subℕ, _+ℤ_, _-ℤ_, _*ℤ_, negℤ-negℤ}
 use lib.Signed.{ltZ}
 use Rattle.integers.proofs.Size.{cond-ind, size-neg}
-use Rattle.types.specs.Numbers.{ceiling}
 use Rattle.scheme.specs.Step.{nearest, roundAway, sampleOf, SampleRule}
 
 near : (m k q : ℕ) → 0 < k → (2 * m + k) / (2 * k) ≡ q → (2 * (k * q) ≤ 2 * m + k) × (2 * m ≤ 2 * (k * q) + k)
@@ -88,7 +87,8 @@ round-odd (negsuc n) d h = sym (negℤ-negℤ (pos (nearest (suc n) d)))
 -- within C times the divisor the quotient lies within C
 round-fits : (n : ℤ) (d C : ℕ) → 0 < d → natAbs n ≤ C * d → natAbs (roundAway n d) ≤ C
 round-fits n d C h l =
-    ltb-false C (natAbs (roundAway n d)) (not-true _ (sym (round-limit n d C h) ∙ lt-ltb (natAbs n + d / 2) ((C + 1) * d) (omega (arith, l, N.add-mul C 1 d))))
+    ltb-false C (natAbs (roundAway n d)) (not-true _ (sym (round-limit n d C h) ∙
+    lt-ltb (natAbs n + d / 2) ((C + 1) * d) (omega (arith, l, N.add-mul C 1 d))))
   where
     not-true : (t : Bool) → not t ≡ true → t ≡ false
     not-true true e = absurd (true≢false (sym e))

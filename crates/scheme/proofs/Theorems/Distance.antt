@@ -12,6 +12,7 @@ use Rattle.integers.specs.Sum.{sum}
 use Rattle.integers.proofs.Ring.{#_, con, _⊕_, _⊖_, _⊗_, _≈_, ring}
 use Rattle.integers.proofs.Order.{_⩽_, 0≤pos, 0<pos, pos≤, square-nonneg, nonneg-mul, *ℤ-cancel, +ℤ-mono, ≡-≤ℤ, ≤ℤ-≡}
 use Rattle.integers.proofs.Lin.{_⊴_, _*≤_, _*⊴_, _⇒_, ⊩_, lin}
+use Rattle.integers.proofs.Size.{square-size}
 use Rattle.integers.proofs.Sum.{sum-mono, sum-scale}
 use Rattle.forms.proofs.Level.{Level, _⊞_, _⊡_, zeros, Still}
 use Rattle.forms.proofs.Distance as Forms
@@ -58,12 +59,8 @@ module _ (i : Instrument) (h : Hit) (older newer : List ℤ) where
   unfolding off
   off-half k = go (moving (i .grid) k)
     where
-      square-is : (z : ℤ) → z *ℤ z ≡ pos (natAbs z * natAbs z)
-      square-is (pos n) = refl
-      square-is (negsuc n) = refl
-
       small : (z : ℤ) (n : ℕ) → 2 * natAbs z ≤ n → pos 4 *ℤ (z *ℤ z) ⩽ pos n *ℤ pos n
-      small z n p = ≡-≤ℤ (ap (λ x. pos 4 *ℤ x) (square-is z) ∙ ring 1 (λ a. # 4 ⊗ (a ⊗ a) ≈ (# 2 ⊗ a) ⊗ (# 2 ⊗ a)) refl (pos (natAbs z)))
+      small z n p = ≡-≤ℤ (ap (λ x. pos 4 *ℤ x) (square-size z) ∙ ring 1 (λ a. # 4 ⊗ (a ⊗ a) ≈ (# 2 ⊗ a) ⊗ (# 2 ⊗ a)) refl (pos (natAbs z)))
           (pos≤ (N.mul-le-mul p p))
 
       go : (t : Bool) → let z : ℤ = cond t (pos d *ℤ roundAway (num k) d -ℤ num k) (pos 0) in pos 4 *ℤ (z *ℤ z) ⩽ pos d *ℤ pos d
