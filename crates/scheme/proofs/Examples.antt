@@ -17,7 +17,7 @@ use Rattle.scheme.specs.FurtherExamples.{freeEndTwice, halfFree, barWith
 use Rattle.scheme.specs.FurtherExamples.{numbers, kinds, lineSizes, membraneSizes, roundSizes, coefficients, stability, stiffness}
 use Rattle.scheme.specs.FurtherExamples.{lengths, hits, forces, pickUps, highPoints, fixedPoints, pluckKinds, pluckLengths}
 use Rattle.scheme.specs.FurtherExamples.{pluckCentres, pluckHeights, widths, readingRefusals, lowestFirst, samples, readings, plucked}
-use Rattle.scheme.specs.FurtherExamples.{pluckedDown, pluckedFree, pluckedBoth, ringListing, endedBlock, atOnce, blockTurnedDown}
+use Rattle.scheme.specs.FurtherExamples.{pluckedDown, pluckedFree, pluckedBoth, ringListing, silence, endedBlock, atOnce, blockTurnedDown}
 use Rattle.scheme.specs.FurtherExamples.{emptyBlock, energies, bookGoesOn, bookStartsAnew, pluckedBook, pluckThenStep, outcomes}
 use Rattle.scheme.specs.FurtherExamples.{distances, halfOff, FurtherHold}
 use Rattle.scheme.specs.PlateExamples as Plates
@@ -77,6 +77,7 @@ further-hold pluckedDown = refl
 further-hold pluckedFree = (refl, refl)
 further-hold pluckedBoth = (refl, refl)
 further-hold ringListing = refl
+further-hold silence = (refl, refl)
 further-hold endedBlock = refl
 further-hold atOnce = (refl, refl)
 further-hold blockTurnedDown = refl

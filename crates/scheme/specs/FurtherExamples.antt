@@ -20,7 +20,7 @@ use Rattle.scheme.specs.Lists.{point}
 use Rattle.scheme.specs.Step.{nextLevel, sampleOf}
 use Rattle.scheme.specs.Pluck.{pluckLevel}
 use Rattle.scheme.specs.Refusals.{wrongLength, instrumentRefusal, blockRefusal, pluckRefusal, readingRefusal}
-use Rattle.scheme.specs.Calls.{block, pluck, reading}
+use Rattle.scheme.specs.Calls.{AfterBlock, block, pluck, reading}
 use Rattle.scheme.specs.Energy.{energy}
 use Rattle.scheme.specs.Book.{stepOf, Call, blockCall, pluckCall, blockOutcome, pluckOutcome, AfterCalls, State, start, calls}
 use Rattle.scheme.specs.Claims.{distance, bound, Near}
@@ -104,6 +104,16 @@ zigzag20 = level (0 ∷ 1 ∷ 0 ∷ 1 ∷ 0 ∷ 1 ∷ 0 ∷ 1 ∷ 0 ∷ 1 ∷ 0 
 abbrev afterHalves : State
 afterHalves = calls (blockCall halves still20 (level (0 ∷ [])) 0 Absent ∷ []) (start still20 zigzag20) .state
 
+-- two steps that leave a string where it is
+abbrev faded : ℤ → AfterBlock
+faded x = record {
+  answer = record { steps = 2; refusal = Nothing };
+  older = middle3 x;
+  newer = middle3 x;
+  work = middle3 (pos 0);
+  samples = level (0 ∷ 0 ∷ []);
+}
+
 pub data Further : Type 0 where
   -- one step
   freeEndTwice halfFree barWithLoss freeWithHit fixedRing roundRing membraneStep : Further
@@ -113,7 +123,7 @@ pub data Further : Type 0 where
   lengths hits forces pickUps highPoints fixedPoints pluckKinds pluckLengths pluckCentres pluckHeights widths readingRefusals
       lowestFirst : Further
   -- samples, readings, plucks, blocks
-  samples readings plucked pluckedDown pluckedFree pluckedBoth ringListing endedBlock atOnce blockTurnedDown emptyBlock : Further
+  samples readings plucked pluckedDown pluckedFree pluckedBoth ringListing silence endedBlock atOnce blockTurnedDown emptyBlock : Further
   -- energy, distance and book
   energies bookGoesOn bookStartsAnew pluckedBook pluckThenStep outcomes distances halfOff : Further
 
@@ -259,6 +269,12 @@ shows ringListing =
       work = middle3 (pos 0);
       samples = pos 1 ∷ pos 0 ∷ minus 1 ∷ pos 0 ∷ [];
     }
+-- "A fading voice sits a few units below zero", or above, and reads 0
+shows silence =
+    (block (instrument 1 3 1 8192 0 12000) (middle3 (minus 2)) (middle3 (minus 2)) (middle3 (pos 5)) (level (7 ∷ 8 ∷ [])) 1 Absent
+    ≡ faded (minus 2)) ×
+    (block (instrument 1 3 1 8192 0 12000) (middle3 (pos 2)) (middle3 (pos 2)) (middle3 (pos 5)) (level (7 ∷ 8 ∷ [])) 1 Absent
+    ≡ faded (pos 2))
 -- 13 at the second step: point 1 would have become 5, point 2 would have passed the ceiling
 shows endedBlock =
     block (instrument 1 4 1 0 0 0) (pos 0 ∷ minus 1 ∷ pos 6000000000000 ∷ pos 0 ∷ []) (level (0 ∷ 1 ∷ 7000000000000 ∷ 0 ∷ []))
