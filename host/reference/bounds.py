@@ -7,7 +7,7 @@ from fractions import Fraction
 
 from instrument import D, free_ends
 
-# "edged" of crates/tighter/specs/Claims.antt: the kinds with a fixed edge.
+# "edged" of crates/tighter/specs/Bounds.antt: the kinds with a fixed edge.
 EDGED = (1, 2, 4, 5, 6, 7)
 
 

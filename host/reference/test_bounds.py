@@ -95,7 +95,7 @@ class Bounds(unittest.TestCase):
         bound = bounds.for_ever(bounds.by_tension, (1, 101, 1), (11378, 0, 8))
         self.assertLessEqual(bound, Fraction(2**56, 25**2))
         self.assertGreater(bound, Fraction(2**56, 27**2))
-        self.assertEqual(Fraction(1, 2) + Fraction(1, 25), Fraction(27, 50))
+        self.assertLessEqual(bound, ((Fraction(27, 50) - Fraction(1, 2)) * 2**28) ** 2)
 
     def error(self, found, pick_up):
         """How far the sample of a run lies from the unrounded scheme, in sample units; all its bounds hold."""
@@ -114,6 +114,23 @@ class Bounds(unittest.TestCase):
         u = (2**28 - 1) // 3
         error = self.error(run((1, 3, 1), (D // 4, 0, 0), [0] * 3, [0, u, 0], 1), 1)
         self.assertEqual(error, Fraction(1, 2) + Fraction(1, 2**29))
+
+    def test_voice_within_24_of_50(self):
+        """The read-out alone takes a sample of the example voice further."""
+        level = [0] * 101
+        level[50] = 81217611
+        error = self.error(run((1, 101, 1), (11378, 0, 8), [0] * 101, level, 1), 50)
+        self.assertGreater(error, Fraction(24, 50))
+        self.assertLess(error, Fraction(27, 50))
+
+    def test_sample_beside_the_last_step(self):
+        """Two steps of the paper's listing, 0 and -1: the first sample passes every bound beside the book of the second."""
+        run_of = (1, 3, 1), (D, 0, 0), [0] * 3, [0, 2**28, 0]
+        _, book, newer = run(*run_of, 1)
+        _, later, _ = run(*run_of, 2)
+        self.assertEqual(sample(newer[1]), 0)
+        self.assertEqual(bounds.sample_passed(book, 1, 0), [])
+        self.assertEqual(bounds.sample_passed(later, 1, 0), list(bounds.all_bounds(*later.last, 2)))
 
     def test_wrong_sample_passes(self):
         """The next sample, or the one before, passes every bound; at a free end more is allowed."""

@@ -90,9 +90,10 @@ def differences(header, c_api, scheme, names):
     last = re.search(r"const LAST: u64 = (\d+);", scheme)
     if not last or list(enumerators(header, "buvcsolta_kind").values()) != list(range(1, int(last[1]) + 1)):
         wrong.append("kinds are not 1 to the last of the source")
-    ceiling = re.search(r"const CEILING: i64 = (\d+) \* (\d+);", scheme)
+    unit = re.search(r"const UNITS_PER_SAMPLE: i64 = (\d+);", scheme)
+    ceiling = re.search(r"const CEILING: i64 = (\d+) \* Settings::UNITS_PER_SAMPLE;", scheme)
     units, most = (constant(header, name) for name in ("UNITS_PER_SAMPLE", "CEILING"))
-    if not ceiling or (units, most) != (int(ceiling[2]), int(ceiling[1]) * int(ceiling[2])):
+    if not unit or not ceiling or (units, most) != (int(unit[1]), int(ceiling[1]) * int(unit[1])):
         wrong.append(f"the ceiling {most} and the units per sample {units} are not those of the source")
     return wrong if ours and numbers else ["the sources have no exported function or no refusal"]
 

@@ -9,7 +9,7 @@ use lib.Dec.{ltb, leb, ltb→lt, nltb→le}
 use lib.IntN.{ℤ, pos, negsuc, natAbs, _+ℤ_, _-ℤ_}
 use lib.Signed.{leZ}
 use Rattle.integers.proofs.Ring.{_⊕_, _⊖_, _⊗_, #_, _², _≈_, ring}
-use Rattle.integers.proofs.Size.{cond-ind}
+use Rattle.integers.proofs.Size.{cond-ind, square-size}
 use Rattle.scheme.specs.Lists.{square}
 use Rattle.scheme.specs.Instruments.{offCentre, roundEdge}
 use Rattle.scheme.proofs.Laws.Bools.{and-both, and-yes, not-so, same}
@@ -26,10 +26,6 @@ gap x (suc y) =
     cond-ind (ltb x (suc y)) (negsuc (suc y - suc x)) (pos (x - suc y)) (λ (z : ℤ). natAbs z ≡ apart x (suc y))
     (λ t. omega (arith, ltb→lt x (suc y) t)) (λ t. omega (arith, nltb→le x (suc y) t))
 
-square-is : (z : ℤ) → square z ≡ pos (natAbs z * natAbs z)
-square-is (pos n) = refl
-square-is (negsuc n) = refl
-
 -- twice the distance of column a from the middle of G columns
 abbrev pub offset : ℕ → ℕ → ℕ
 offset G a = apart (2 * a + 1) G
@@ -37,10 +33,10 @@ offset G a = apart (2 * a + 1) G
 offset-is : (G a : ℕ) → square (offCentre G a) ≡ pos (offset G a * offset G a)
 offset-is G a =
     ap square (ring 2 (λ x g. x ⊖ g ⊕ # 1 ≈ (x ⊕ # 1) ⊖ g) refl (pos (2 * a)) (pos G)) ∙
-    square-is (pos (2 * a + 1) -ℤ pos G) ∙ ap (λ (n : ℕ). pos (n * n)) (gap (2 * a + 1) G)
+    square-size (pos (2 * a + 1) -ℤ pos G) ∙ ap (λ (n : ℕ). pos (n * n)) (gap (2 * a + 1) G)
 
 less-one : (G : ℕ) → 1 ≤ G → square (pos G -ℤ pos 1) ≡ pos ((G - 1) * (G - 1))
-less-one G h = square-is (pos G -ℤ pos 1) ∙ ap (λ (n : ℕ). pos (n * n)) (gap G 1 ∙ omega arith)
+less-one G h = square-size (pos G -ℤ pos 1) ∙ ap (λ (n : ℕ). pos (n * n)) (gap G 1 ∙ omega arith)
 
 -- two columns as far from either end
 pub offset-mirror : (G a c : ℕ) → a + c + 1 ≡ G → offset G a ≤ offset G c

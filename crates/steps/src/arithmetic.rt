@@ -9,8 +9,9 @@ ghost use Rattle.scheme.specs.Step.{roundAway, sampleOf, numeratorOf, divisor};
 ghost use Rattle.steps.specs.Plan.{countOf, signOf, mirrorOf, bendingOf, Planned, Dividable, Updatable};
 use crate::plan::D;
 use crate::plan::Plan;
+use types::Settings;
 
-const UNITS_PER_SAMPLE: u64 = 268435456;
+const UNITS_PER_SAMPLE: u64 = Settings::UNITS_PER_SAMPLE as u64;
 
 // −1 for a number below 0, else 0.
 fn sign(n: i64) -> i64
@@ -26,7 +27,7 @@ fn mirrored(x: i64, n: i64) -> i64
     x ^ sign(n)
 }
 
-// The size of n, and half.
+// |n| + half.
 fn raised(n: i64, half: u64) -> u64
     requires { ⌜ (natAbs n ≤ 2 ^ 62) × (half ≤ 2 ^ 30) ⌝ }
     ensures { λ r. ⌜ r ≡ natAbs n + half ⌝ }
@@ -42,7 +43,7 @@ pub(crate) fn is_within(plan: Plan, n: i64) -> bool
     raised(n, plan.half) < plan.limit
 }
 
-// n over d, of which half is the half, to the nearest whole number, halves away from zero: the quotient of its size, with its sign.
+// n over d to the nearest whole number, halves away from zero, half being d / 2: the quotient of its size, with its sign.
 pub(crate) fn round_away(n: i64, d: u64, half: u64) -> i64
     requires { ⌜ Dividable n d half ⌝ }
     ensures { λ r. ⌜ r ≡ roundAway n d ⌝ }

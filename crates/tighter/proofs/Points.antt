@@ -19,7 +19,7 @@ use Rattle.scheme.specs.Lists.{square}
 use Rattle.scheme.specs.Instruments.{kindOf, kind, points, freeIn}
 use Rattle.scheme.specs.Energy.{weight, squares}
 use Rattle.scheme.specs.Book.{LastStep, noStep, stepOf, scale, start, calls}
-use Rattle.scheme.specs.Claims.{distance, bound, Near}
+use Rattle.scheme.specs.Claims.{distance, Near}
 use Rattle.scheme.proofs.Theorems.Distance.{distance-bound}
 use Rattle.tighter.specs.Bounds.{edged, reach, byTension, Bound, limit, demanded, forEver}
 use Rattle.tighter.specs.Claims.{OfSteps, After, OfEveryList, OfSums, difference, OnePoint, OfPoints, AtOnePoint, voice, VoiceWithin}

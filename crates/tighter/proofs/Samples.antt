@@ -27,7 +27,7 @@ use Rattle.scheme.proofs.Theorems.Distance.{steps-last, steps-count}
 use Rattle.scheme.proofs.Theorems.Effects.{stepped, afterCall, block-cut, each-call}
 use Rattle.scheme.proofs.Theorems.Program.{each-made, callsOf}
 use Rattle.tighter.specs.Bounds.{Bound, demanded}
-use Rattle.tighter.specs.Claims.{OfSteps, After, OfEveryList, difference, OfSums, OfPoints, voice, VoiceWithin}
+use Rattle.tighter.specs.Claims.{OfSteps, After, OfEveryList, difference, OfSums, OfPoints, VoiceWithin}
 use Rattle.tighter.specs.Samples.{OfSamples, EachSample, OfEverySample, OfProgramSamples, sampleError, beyondHalf, SampleWithin}
 use Rattle.tighter.specs.Samples.{SampleBound, VoiceSampleWithin, VoiceSamples, SampleBounds}
 use Rattle.tighter.proofs.Bounds as B

@@ -45,7 +45,7 @@ sampleError i n x v = natAbs (pos (2 ^ 28) *ℤ (scale (i .settings) n *ℤ x) -
 abbrev pub beyondHalf : Instrument → (n : ℕ) (x v : ℤ) → ℕ
 beyondHalf i n x v = sampleError i n x v - 2 ^ 27 * divisor (i .settings) ^ n
 
--- within half a sample unit and what a bound allows at one point, at a free end twice its square
+-- within half a sample unit and what a bound allows at one point: there its square, at a free end twice that
 abbrev pub SampleWithin : Bound → OfSamples
 SampleWithin b i n pick x v = b .Covers i →
     (pos (b .k i n * weight (i .grid) pick) *ℤ square (pos (beyondHalf i n x v))) ≤ℤ limit b i n

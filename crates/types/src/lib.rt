@@ -13,7 +13,9 @@ pub struct Settings {
 impl Settings {
     pub const D: u64 = 65536;
 
-    pub const CEILING: i64 = 32767 * 268435456;
+    pub const UNITS_PER_SAMPLE: i64 = 268435456;
+
+    pub const CEILING: i64 = 32767 * Settings::UNITS_PER_SAMPLE;
 
     // Ruled out: q and m exchanged; the loss left at 0.
     pub fn new(q: u64, m: u64, s: u64) -> Settings
