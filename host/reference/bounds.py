@@ -30,44 +30,44 @@ def demanded(grid, settings, n):
 
 
 def linear(holding, grid, settings, n):
-    """LinearBound, StiffLinearBound: 4 hold S <= far D N n^2."""
+    """linear, stiffLinear: 4 hold S <= far D N n^2."""
     hold, far = holding(grid, settings)
     if grid[0] in EDGED and hold:
         return Fraction(far * D * size(grid) * n**2, 4 * hold)
 
 
 def loss_linear(grid, settings, n):
-    """LossLinearBound: 4 s^2 S <= N (D+s)^2 n^2."""
+    """lossLinear: 4 s^2 S <= N (D+s)^2 n^2."""
     s = settings[2]
     if s:
         return Fraction(size(grid) * ((D + s) * n) ** 2, 4 * s**2)
 
 
 def for_ever(holding, grid, settings):
-    """ForEverBound, StiffForEverBound: 4 s^2 hold S <= far D N (D+s)^2 where far s^2 <= hold D."""
+    """forEver, stiffForEver: 4 s^2 hold S <= far D N (D+s)^2 where far s^2 <= hold D."""
     (hold, far), s = holding(grid, settings), settings[2]
     if grid[0] in EDGED and s and hold and far * s**2 <= hold * D:
         return Fraction(far * D * size(grid) * (D + s) ** 2, 4 * s**2 * hold)
 
 
 def heavy_loss(holding, grid, settings):
-    """HeavyLossBound, StiffHeavyLossBound: hold^2 S <= 4 far^2 N (D+s)^2 where hold D <= far s^2."""
+    """heavyLoss, stiffHeavyLoss: hold^2 S <= 4 far^2 N (D+s)^2 where hold D <= far s^2."""
     (hold, far), s = holding(grid, settings), settings[2]
     if grid[0] in EDGED and hold and hold * D <= far * s**2:
         return Fraction(4 * far**2 * size(grid) * (D + s) ** 2, hold**2)
 
 
 def all_bounds(grid, settings, n):
-    """Every bound that says something, by the name of its proposition."""
+    """Every bound that says something, by its row in crates/tighter/specs/Bounds.antt."""
     found = {
-        "DistanceBound": demanded(grid, settings, n),
-        "LinearBound": linear(by_tension, grid, settings, n),
-        "StiffLinearBound": linear(by_stiffness, grid, settings, n),
-        "LossLinearBound": loss_linear(grid, settings, n),
-        "ForEverBound": for_ever(by_tension, grid, settings),
-        "StiffForEverBound": for_ever(by_stiffness, grid, settings),
-        "HeavyLossBound": heavy_loss(by_tension, grid, settings),
-        "StiffHeavyLossBound": heavy_loss(by_stiffness, grid, settings),
+        "demanded": demanded(grid, settings, n),
+        "linear": linear(by_tension, grid, settings, n),
+        "stiffLinear": linear(by_stiffness, grid, settings, n),
+        "lossLinear": loss_linear(grid, settings, n),
+        "forEver": for_ever(by_tension, grid, settings),
+        "stiffForEver": for_ever(by_stiffness, grid, settings),
+        "heavyLoss": heavy_loss(by_tension, grid, settings),
+        "stiffHeavyLoss": heavy_loss(by_stiffness, grid, settings),
     }
     return {name: bound for name, bound in found.items() if bound is not None}
 

@@ -87,8 +87,8 @@ class Bounds(unittest.TestCase):
         level = [1000 * (point % 7) if point in moving_set(*grid) else 0 for point in range(48)]
         self.held(run(grid, settings, level, level, 300))
         found = bounds.all_bounds(grid, settings, 300)
-        self.assertLess(found["LinearBound"], found["DistanceBound"])
-        self.assertLess(found["StiffLinearBound"], found["DistanceBound"])
+        self.assertLess(found["linear"], found["demanded"])
+        self.assertLess(found["stiffLinear"], found["demanded"])
 
     def test_example_voice(self):
         """VoiceForEver: a 25th of a sample unit; VoiceSamples: with the read-out 27/50."""
@@ -142,7 +142,7 @@ class Bounds(unittest.TestCase):
 
     def test_free_end_counts_half(self):
         """A sample whose square beyond half lies between the bound and twice it passes away from a free end only."""
-        for grid, expected in (((1, 3, 1), ["DistanceBound"]), ((3, 3, 1), [])):
+        for grid, expected in (((1, 3, 1), ["demanded"]), ((3, 3, 1), [])):
             book = Book([0] * 3, [0] * 3)
             book.last, book.n = (grid, (0, 0, 0)), 1
             # One unit beyond half: its square lies between the bound, 3/4, and twice it.

@@ -18,8 +18,8 @@ use Rattle.scheme.specs.FurtherExamples.{numbers, kinds, lineSizes, memb
 use Rattle.scheme.specs.FurtherExamples.{lengths, hits, forces, pickUps, highPoints, fixedPoints, pluckKinds, pluckLengths}
 use Rattle.scheme.specs.FurtherExamples.{pluckCentres, pluckHeights, widths, readingRefusals, lowestFirst, samples, readings, plucked}
 use Rattle.scheme.specs.FurtherExamples.{pluckedDown, pluckedFree, pluckedBoth, ringListing, silence, endedBlock, atOnce}
-use Rattle.scheme.specs.FurtherExamples.{blockTurnedDown, emptyBlock, energies, bookGoesOn, bookStartsAnew, pluckedBook, pluckThenStep}
-use Rattle.scheme.specs.FurtherExamples.{outcomes, distances, halfOff, FurtherHold}
+use Rattle.scheme.specs.FurtherExamples.{blockTurnedDown, emptyBlock, energies, bookGoesOn, bookStartsAnew, pluckedBook}
+use Rattle.scheme.specs.FurtherExamples.{pluckThenStep, outcomes, distances, halfOff, FurtherHold}
 use Rattle.scheme.specs.PlateExamples as Plates
 use Rattle.scheme.specs.PlateExamples.{PlatesHold}
 

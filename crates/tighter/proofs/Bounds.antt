@@ -22,13 +22,12 @@ use Rattle.scheme.specs.Passing.{InstrumentPasses}
 use Rattle.scheme.proofs.Theorems.Forms.{weighed, weighed-form, weighed-nonneg, squares-are}
 use Rattle.scheme.proofs.Theorems.Instance.{freeStep, free-still}
 use Rattle.scheme.proofs.Theorems.Distance.{gap, OfErrors, StepsKeep, Beside, Invariant, agrees, stepping, list-invariant}
-use Rattle.tighter.specs.Bounds.{edged, Holding, byTension, byStiffness, linear, lossLinear, forEver, heavyLoss}
-use Rattle.tighter.specs.Claims.{OfSteps, After, OfEveryList, OfSums, LinearBound, StiffLinearBound, LossLinearBound, ForEverBound}
-use Rattle.tighter.specs.Claims.{StiffForEverBound, HeavyLossBound, StiffHeavyLossBound}
+use Rattle.tighter.specs.Bounds.{edged, Holding, linearBy, forEverBy, heavyLossBy, lossLinear, numbers}
+use Rattle.tighter.specs.Claims.{OfSteps, After, OfEveryList, OfSums}
 use Rattle.tighter.proofs.Lyapunov.{Lyapunov, Fading, Grown, grow-start, grow-step, grow-bound, Faded, fade-start, fade-step}
 use Rattle.tighter.proofs.Lyapunov.{fade-bound}
 use Rattle.tighter.proofs.Loss.{by-energy, by-light-loss, light-fading, by-loss, heavy-fading}
-use Rattle.tighter.proofs.Holding.{Holds, tension-holds, stiffness-holds, lossy, held}
+use Rattle.tighter.proofs.Holding.{Holds, lossy, held}
 
 -- ---- from what the steps keep to every list of calls
 
@@ -165,8 +164,9 @@ as-sum i n newer unrounded k y r b =
 
 -- ---- linear
 
-pub loss-linear-bound : LossLinearBound
-loss-linear-bound = of-growth (λ i. Unit {0}) (λ i ok c. by-loss (lossy i ok)) (OfSums lossLinear) (λ i ok n newer unrounded bound all.
+pub by-loss-linear : OfEveryList (OfSums (numbers lossLinear))
+by-loss-linear = of-growth (λ i. Unit {0}) (λ i ok c. by-loss (lossy i ok)) (OfSums (numbers lossLinear))
+    (λ i ok n newer unrounded bound all.
     let s : ℕ = i .settings .s in
     weaker i n newer unrounded {k′ = 4 * (s * s)} {y′ = divisor (i .settings) * D + s * s} {r′ = n} (omega arith) (wide s) (omega arith)
     (as-sum i n newer unrounded (s * s) (divisor (i .settings) * D + s * s) n (bound tt)))
@@ -179,8 +179,8 @@ module _ (H : Holding) (holds : Holds H) where
   abbrev Edged : Instrument → Type 0
   Edged i = edged (kind (i .grid)) ≡ true
 
-  by-linear : OfEveryList (OfSums (linear H))
-  by-linear = of-growth Edged (λ i ok edge. by-energy (lossy i ok) (held i ok H holds edge)) (OfSums (linear H)) (λ i ok n newer unrounded
+  pub by-linear : OfEveryList (OfSums (linearBy H))
+  by-linear = of-growth Edged (λ i ok edge. by-energy (lossy i ok) (held i ok H holds edge)) (OfSums (linearBy H)) (λ i ok n newer unrounded
       bound edge.
       weaker i n newer unrounded {k′ = 4 * H .hold i} {y′ = H .far i * D} {r′ = n} (omega arith) (omega arith) (omega arith)
       (as-sum i n newer unrounded (H .hold i) (H .far i * D) n (bound edge)))
@@ -192,8 +192,8 @@ module _ (H : Holding) (holds : Holds H) where
     loss : 0 < i .settings .s
     small : H .far i * (i .settings .s * i .settings .s) ≤ H .hold i * D
 
-  by-for-ever : OfEveryList (OfSums (forEver H))
-  by-for-ever = of-fading Light form fading (OfSums (forEver H)) (λ i ok n newer unrounded bound c.
+  pub by-for-ever : OfEveryList (OfSums (forEverBy H))
+  by-for-ever = of-fading Light form fading (OfSums (forEverBy H)) (λ i ok n newer unrounded bound c.
       let s : ℕ = i .settings .s in
       weaker i n newer unrounded {k′ = 4 * (s * s * H .hold i)} {y′ = H .far i * D} {r′ = divisor (i .settings)} (omega arith) (omega arith)
       (omega arith)
@@ -222,8 +222,8 @@ module _ (H : Holding) (holds : Holds H) where
     some-hold : 0 < H .hold i
     large : H .hold i * D ≤ H .far i * (i .settings .s * i .settings .s)
 
-  by-heavy-loss : OfEveryList (OfSums (heavyLoss H))
-  by-heavy-loss = of-fading Heavy form fading (OfSums (heavyLoss H)) (λ i ok n newer unrounded bound c.
+  pub by-heavy-loss : OfEveryList (OfSums (heavyLossBy H))
+  by-heavy-loss = of-fading Heavy form fading (OfSums (heavyLossBy H)) (λ i ok n newer unrounded bound c.
       weaker i n newer unrounded {k′ = H .hold i * H .hold i} {y′ = 4 * (H .far i * H .far i)} {r′ = divisor (i .settings)} (omega arith)
       (omega arith) (omega arith)
       (go i n newer unrounded (c .0) (omega (arith, c .1)) bound (H .hold i) refl (i .settings .s) refl))
@@ -254,21 +254,3 @@ module _ (H : Holding) (holds : Holds H) where
           (pos D) (pos (i .settings .s)) (pos (H .hold i)) (pos (H .far i)) (twoN i) (distance i n newer unrounded) (scale (i .settings) n)
           (bound (record { edge = edge; loss = loss; some-hold = omega (arith, e); large = large }))
           (0≤pos _) (0≤pos (i .settings .s)))
-
-pub linear-bound : LinearBound
-linear-bound = by-linear byTension tension-holds
-
-pub stiff-linear-bound : StiffLinearBound
-stiff-linear-bound = by-linear byStiffness stiffness-holds
-
-pub for-ever-bound : ForEverBound
-for-ever-bound = by-for-ever byTension tension-holds
-
-pub stiff-for-ever-bound : StiffForEverBound
-stiff-for-ever-bound = by-for-ever byStiffness stiffness-holds
-
-pub heavy-loss-bound : HeavyLossBound
-heavy-loss-bound = by-heavy-loss byTension tension-holds
-
-pub stiff-heavy-loss-bound : StiffHeavyLossBound
-stiff-heavy-loss-bound = by-heavy-loss byStiffness stiffness-holds

@@ -21,11 +21,13 @@ use Rattle.scheme.specs.Energy.{weight, squares}
 use Rattle.scheme.specs.Book.{LastStep, noStep, stepOf, scale, start, calls}
 use Rattle.scheme.specs.Claims.{distance, Near}
 use Rattle.scheme.proofs.Theorems.Distance.{distance-bound}
-use Rattle.tighter.specs.Bounds.{edged, reach, byTension, Bound, limit, demanded, forEver}
-use Rattle.tighter.specs.Claims.{OfSteps, After, OfEveryList, OfSums, difference, OnePoint, OfPoints, AtOnePoint, voice, VoiceWithin}
-use Rattle.tighter.specs.Claims.{VoiceForEver}
+use Rattle.tighter.specs.Bounds.{edged, reach, byTension, byStiffness, Bound, limit, demanded, linear, stiffLinear, lossLinear}
+use Rattle.tighter.specs.Bounds.{forEver, stiffForEver, heavyLoss, stiffHeavyLoss, numbers}
+use Rattle.tighter.specs.Claims.{OfSteps, After, OfEveryList, OfSums, SumBounds, difference, OnePoint, OfPoints, PointBounds}
+use Rattle.tighter.specs.Claims.{AtOnePoint, voice, VoiceWithin, VoiceForEver}
 use Rattle.tighter.proofs.Line.{sum-suc}
-use Rattle.tighter.proofs.Bounds.{distance-nonneg, for-ever-bound}
+use Rattle.tighter.proofs.Holding.{tension-holds, stiffness-holds}
+use Rattle.tighter.proofs.Bounds as B
 
 -- one term of a sum of terms that are not negative
 one-of : (n : ℕ) (f : ℕ → ℤ) → ((k : ℕ) → k < n → pos 0 ⩽ f k) → (k : ℕ) → k < n → f k ⩽ sum n f
@@ -63,33 +65,45 @@ at-points b i n newer unrounded h c j l =
     (pos (b .k i n)) (pos (weight (i .grid) j)) (square (difference i n newer unrounded j)) (distance i n newer unrounded) (limit b i n)
     (0≤pos (b .k i n)) (one-point i n newer unrounded j l) (h c)
 
-pub of-points : (b : Bound) → OfEveryList (OfSums b) → OfEveryList (OfPoints b)
-of-points b = each-list (OfSums b) (OfPoints b) (at-points b)
-
 -- ---- demand 3's bound
 
 near-sums : (newer : List ℤ) (n : ℕ) (unrounded : List ℤ) (last : LastStep) → Near newer n unrounded last
-    → After (OfSums demanded) newer n unrounded last
+    → After (OfSums (numbers demanded)) newer n unrounded last
 near-sums newer zero unrounded last h = h
 near-sums newer (suc m) unrounded noStep h = h
 near-sums newer (suc m) unrounded (stepOf i) h = (
   h .all-points,
-  λ c. ≤ℤ-trans (*ℤ-mono-r (distance i (suc m) newer unrounded) (distance-nonneg i (suc m) newer unrounded) (pos≤ few))
+  λ c. ≤ℤ-trans (*ℤ-mono-r (distance i (suc m) newer unrounded) (B.distance-nonneg i (suc m) newer unrounded) (pos≤ few))
       (≤ℤ-≡ (h .near) (ap (λ (x : ℕ). pos x *ℤ (square (pos (suc m * suc (suc m))) *ℤ square (scale (i .settings) (suc m)))) one)),
 )
   where
-    few : demanded .k i (suc m) ≤ 16
+    few : numbers demanded .k i (suc m) ≤ 16
     few = omega arith
 
     one : 2 * points (i .grid) ≡ 1 * (2 * points (i .grid))
     one = sym (N.one-mul (2 * points (i .grid)))
 
-pub demanded-bound : OfEveryList (OfSums demanded)
+demanded-bound : OfEveryList (OfSums (numbers demanded))
 demanded-bound older newer ks = let t = (calls ks (start older newer)) .state in
     near-sums (t .newer) (t .book .n) (t .book .newer) (t .book .last) (distance-bound older newer ks)
 
+-- ---- every bound
+
+pub sum-bounds : SumBounds
+sum-bounds demanded = demanded-bound
+sum-bounds linear = B.by-linear byTension tension-holds
+sum-bounds stiffLinear = B.by-linear byStiffness stiffness-holds
+sum-bounds lossLinear = B.by-loss-linear
+sum-bounds forEver = B.by-for-ever byTension tension-holds
+sum-bounds stiffForEver = B.by-for-ever byStiffness stiffness-holds
+sum-bounds heavyLoss = B.by-heavy-loss byTension tension-holds
+sum-bounds stiffHeavyLoss = B.by-heavy-loss byStiffness stiffness-holds
+
+pub point-bounds : PointBounds
+point-bounds b = each-list (OfSums (numbers b)) (OfPoints (numbers b)) (at-points (numbers b)) (sum-bounds b)
+
 pub at-one-point : AtOnePoint
-at-one-point = of-points demanded demanded-bound
+at-one-point = point-bounds demanded
 
 -- ---- the voice
 
@@ -109,7 +123,7 @@ by-numbers a b k y r x e p some p-nonneg part all numbers = *ℤ-cancel {a = pos
     ⊩ (# 2 ⊗ k) ⊗ (a ⊗ x) ⊴ (# 2 ⊗ k) ⊗ (b ⊗ p)) refl
     (pos a) (pos b) (pos k) (pos y) (pos r) x e p (0≤pos (a * k)) part (0≤pos a) all p-nonneg (pos≤ numbers))
 
-voice-at : (n : ℕ) (newer unrounded : List ℤ) → OfSums (forEver byTension) voice n newer unrounded → (k : ℕ) → k < points (voice .grid)
+voice-at : (n : ℕ) (newer unrounded : List ℤ) → OfSums (numbers forEver) voice n newer unrounded → (k : ℕ) → k < points (voice .grid)
     → pos 625 *ℤ square (difference voice n newer unrounded k) ⩽ pos (2 ^ 56) *ℤ square (scale (voice .settings) n)
 voice-at n newer unrounded h k l =
     let x : ℤ = square (difference voice n newer unrounded k) in
@@ -119,8 +133,8 @@ voice-at n newer unrounded h k l =
     (h (voice-edged, omega arith)) (omega arith)
 
 pub voice-for-ever : VoiceForEver
-voice-for-ever = each-list (OfSums (forEver byTension)) VoiceWithin
-    (λ i n newer unrounded h e. subst (λ (j : Instrument). OfSums (forEver byTension) j n newer unrounded → (k : ℕ) → k < points (j .grid)
+voice-for-ever = each-list (OfSums (numbers forEver)) VoiceWithin
+    (λ i n newer unrounded h e. subst (λ (j : Instrument). OfSums (numbers forEver) j n newer unrounded → (k : ℕ) → k < points (j .grid)
     → pos 625 *ℤ square (difference j n newer unrounded k) ⩽ pos (2 ^ 56) *ℤ square (scale (j .settings) n)) (sym e)
     (voice-at n newer unrounded) h)
-    for-ever-bound
+    (sum-bounds forEver)

@@ -2,7 +2,6 @@
 use Rattle.scheme.specs.Book.{State}
 use Rattle.scheme.proofs.Theorems.Program.{of-program}
 use Rattle.tighter.specs.Claims.{OfSteps, After, OfEveryList, OfEveryProgram, ProgramBounds}
-use Rattle.tighter.proofs.Bounds as B
 use Rattle.tighter.proofs.Points as P
 
 carried : (C : OfSteps) → OfEveryList C → OfEveryProgram C
@@ -10,13 +9,7 @@ carried C of-list = of-program (λ (t : State). After C (t .newer) (t .book .n) 
 
 pub program-bounds : ProgramBounds
 program-bounds = record {
-  linear-bound = carried _ B.linear-bound;
-  stiff-linear-bound = carried _ B.stiff-linear-bound;
-  loss-linear-bound = carried _ B.loss-linear-bound;
-  for-ever-bound = carried _ B.for-ever-bound;
-  stiff-for-ever-bound = carried _ B.stiff-for-ever-bound;
-  heavy-loss-bound = carried _ B.heavy-loss-bound;
-  stiff-heavy-loss-bound = carried _ B.stiff-heavy-loss-bound;
-  at-one-point = carried _ P.at-one-point;
+  sums = λ b. carried _ (P.sum-bounds b);
+  points = λ b. carried _ (P.point-bounds b);
   voice-for-ever = carried _ P.voice-for-ever;
 }

@@ -26,11 +26,10 @@ use Rattle.scheme.proofs.Laws.Calls.{stands-behind, block-done, block-refused}
 use Rattle.scheme.proofs.Theorems.Distance.{steps-last, steps-count}
 use Rattle.scheme.proofs.Theorems.Effects.{stepped, afterCall, block-cut, each-call}
 use Rattle.scheme.proofs.Theorems.Program.{each-made, callsOf}
-use Rattle.tighter.specs.Bounds.{Bound, demanded}
-use Rattle.tighter.specs.Claims.{OfSteps, After, OfEveryList, difference, OfSums, OfPoints, VoiceWithin}
+use Rattle.tighter.specs.Bounds.{demanded, numbers}
+use Rattle.tighter.specs.Claims.{OfSteps, After, OfEveryList, difference, OfPoints, VoiceWithin}
 use Rattle.tighter.specs.Samples.{OfSamples, EachSample, OfEverySample, OfProgramSamples, sampleError, beyondHalf, SampleWithin}
-use Rattle.tighter.specs.Samples.{SampleBound, VoiceSampleWithin, VoiceSamples, SampleBounds}
-use Rattle.tighter.proofs.Bounds as B
+use Rattle.tighter.specs.Samples.{SampleBound, VoiceSampleWithin, VoiceSamples, SampleBounds, ProgramSamples}
 use Rattle.tighter.proofs.Points as P
 
 -- ---- the read-out: half a sample unit
@@ -123,16 +122,16 @@ module _ (C : OfSteps) (S : OfSamples)
 
 -- ---- the bounds
 
-by-bound : (b : Bound) → OfEveryList (OfSums b) → OfEverySample (SampleWithin b)
-by-bound b all = every-sample (OfPoints b) (SampleWithin b) within (P.of-points b all)
+pub sample-bounds : SampleBounds OfEverySample
+sample-bounds b = every-sample (OfPoints (numbers b)) (SampleWithin (numbers b)) within (P.point-bounds b)
   where
-    within : (i : Instrument) (n : ℕ) (newer unrounded : List ℤ) (pick : ℕ) → pick < points (i .grid) → OfPoints b i n newer unrounded
-        → SampleWithin b i n pick (sampleOf (point newer pick)) (point unrounded pick)
+    within : (i : Instrument) (n : ℕ) (newer unrounded : List ℤ) (pick : ℕ) → pick < points (i .grid)
+        → OfPoints (numbers b) i n newer unrounded → SampleWithin (numbers b) i n pick (sampleOf (point newer pick)) (point unrounded pick)
     within i n newer unrounded pick l h c =
         ≤ℤ-trans (*ℤ-mono-l _ (0≤pos _) (beyond-square i n (point newer pick) (point unrounded pick))) (h c pick l)
 
 pub sample-bound : SampleBound
-sample-bound = by-bound demanded P.demanded-bound
+sample-bound = sample-bounds demanded
 
 -- ---- the voice
 
@@ -155,33 +154,10 @@ voice-samples = every-sample VoiceWithin VoiceSampleWithin within P.voice-for-ev
           fraction (difference i n newer unrounded pick) (divisor (i .settings) ^ n) (h e pick l),
         )
 
--- ---- all of them, of lists and of programs
-
-pub sample-bounds : SampleBounds OfEverySample
-sample-bounds = record {
-  demanded-bound = sample-bound;
-  linear-bound = by-bound _ B.linear-bound;
-  stiff-linear-bound = by-bound _ B.stiff-linear-bound;
-  loss-linear-bound = by-bound _ B.loss-linear-bound;
-  for-ever-bound = by-bound _ B.for-ever-bound;
-  stiff-for-ever-bound = by-bound _ B.stiff-for-ever-bound;
-  heavy-loss-bound = by-bound _ B.heavy-loss-bound;
-  stiff-heavy-loss-bound = by-bound _ B.stiff-heavy-loss-bound;
-  voice-samples = voice-samples;
-}
+-- ---- of programs
 
 carried : (S : OfSamples) → OfEverySample S → OfProgramSamples S
 carried S all older newer ms kept = each-made (EachSample S) ms (start older newer) kept (all older newer (callsOf ms))
 
-pub program-sample-bounds : SampleBounds OfProgramSamples
-program-sample-bounds = record {
-  demanded-bound = carried _ (sample-bounds .demanded-bound);
-  linear-bound = carried _ (sample-bounds .linear-bound);
-  stiff-linear-bound = carried _ (sample-bounds .stiff-linear-bound);
-  loss-linear-bound = carried _ (sample-bounds .loss-linear-bound);
-  for-ever-bound = carried _ (sample-bounds .for-ever-bound);
-  stiff-for-ever-bound = carried _ (sample-bounds .stiff-for-ever-bound);
-  heavy-loss-bound = carried _ (sample-bounds .heavy-loss-bound);
-  stiff-heavy-loss-bound = carried _ (sample-bounds .stiff-heavy-loss-bound);
-  voice-samples = carried _ (sample-bounds .voice-samples);
-}
+pub program-samples : ProgramSamples
+program-samples = record { sample-bounds = λ b. carried _ (sample-bounds b); voice-samples = carried _ voice-samples }

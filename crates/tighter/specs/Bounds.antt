@@ -56,27 +56,14 @@ pub record Bound : Type 1 where
 abbrev pub limit : Bound → Instrument → (n : ℕ) → ℤ
 limit b i n = pos (b .y i n * (2 * points (i .grid))) *ℤ (square (pos (b .r i n)) *ℤ square (scale (i .settings) n))
 
--- `DistanceBound`: 16 × Σ ≤ N × n² × (n+1)²
-abbrev pub demanded : Bound
-demanded = record { Covers = λ i. Unit {0}; k = λ i n. 16; y = λ i n. 1; r = λ i n. n * suc n }
-
 -- the distance itself grows no faster than n: 4 × hold × Σ ≤ far × D × N × n²
-abbrev pub linear : Holding → Bound
-linear H = record { Covers = λ i. edged (kind (i .grid)) ≡ true; k = λ i n. 4 * H .hold i; y = λ i n. H .far i * D; r = λ i n. n }
-
--- the same by the loss alone, for every kind: 4 × s² × Σ ≤ (D+s)² × N × n²
-abbrev pub lossLinear : Bound
-lossLinear = record {
-  Covers = λ i. Unit {0};
-  k = λ i n. 4 * (i .settings .s * i .settings .s);
-  y = λ i n. divisor (i .settings) * divisor (i .settings);
-  r = λ i n. n;
-}
+abbrev pub linearBy : Holding → Bound
+linearBy H = record { Covers = λ i. edged (kind (i .grid)) ≡ true; k = λ i n. 4 * H .hold i; y = λ i n. H .far i * D; r = λ i n. n }
 
 -- with loss and a fixed edge no number of steps takes the distance further; one of the next two always covers such an instrument.
 -- 4 × s² × hold × Σ ≤ far × D × N × (D+s)², where far × s² ≤ hold × D
-abbrev pub forEver : Holding → Bound
-forEver H = record {
+abbrev pub forEverBy : Holding → Bound
+forEverBy H = record {
   Covers = λ i. (edged (kind (i .grid)) ≡ true) × (H .far i * (i .settings .s * i .settings .s) ≤ H .hold i * D);
   k = λ i n. 4 * (i .settings .s * i .settings .s * H .hold i);
   y = λ i n. H .far i * D;
@@ -84,10 +71,31 @@ forEver H = record {
 }
 
 -- hold² × Σ ≤ 4 × far² × N × (D+s)², where hold × D ≤ far × s²
-abbrev pub heavyLoss : Holding → Bound
-heavyLoss H = record {
+abbrev pub heavyLossBy : Holding → Bound
+heavyLossBy H = record {
   Covers = λ i. (edged (kind (i .grid)) ≡ true) × (H .hold i * D ≤ H .far i * (i .settings .s * i .settings .s));
   k = λ i n. H .hold i * H .hold i;
   y = λ i n. 4 * (H .far i * H .far i);
   r = λ i n. divisor (i .settings);
 }
+
+-- the bounds that are proved
+pub data Row : Type 0 where
+  demanded linear stiffLinear lossLinear forEver stiffForEver heavyLoss stiffHeavyLoss : Row
+
+abbrev pub numbers : Row → Bound
+-- `DistanceBound`: 16 × Σ ≤ N × n² × (n+1)²
+numbers demanded = record { Covers = λ i. Unit {0}; k = λ i n. 16; y = λ i n. 1; r = λ i n. n * suc n }
+numbers linear = linearBy byTension
+numbers stiffLinear = linearBy byStiffness
+-- linear by the loss alone, for every kind: 4 × s² × Σ ≤ (D+s)² × N × n²
+numbers lossLinear = record {
+  Covers = λ i. Unit {0};
+  k = λ i n. 4 * (i .settings .s * i .settings .s);
+  y = λ i n. divisor (i .settings) * divisor (i .settings);
+  r = λ i n. n;
+}
+numbers forEver = forEverBy byTension
+numbers stiffForEver = forEverBy byStiffness
+numbers heavyLoss = heavyLossBy byTension
+numbers stiffHeavyLoss = heavyLossBy byStiffness

@@ -1,7 +1,6 @@
 -- What the bounds of specs/Bounds say of the run that `DistanceBound` speaks of: any list of calls with the book beside it.
--- Proofs: `linear-bound`, `for-ever-bound`, `heavy-loss-bound`, each with `stiff-` too, and `loss-linear-bound` in proofs/Bounds;
--- `one-point`, `at-one-point`, `voice-for-ever` in proofs/Points; `held-by-tension`, `held-by-stiffness` in proofs/Holding;
--- `program-bounds` in proofs/Programs.
+-- Proofs: `sum-bounds`, `one-point`, `point-bounds`, `at-one-point`, `voice-for-ever` in proofs/Points;
+-- `held-by-tension`, `held-by-stiffness` in proofs/Holding; `program-bounds` in proofs/Programs.
 use mathlib.Core.Path.{_≡_}
 use mathlib.Core.Bool.{true}
 use mathlib.Core.List.{List}
@@ -16,8 +15,7 @@ use Rattle.scheme.specs.Energy.{weight, squares, energy}
 use Rattle.scheme.specs.Book.{LastStep, noStep, stepOf, scale, Call, start, calls}
 use Rattle.scheme.specs.Claims.{Passes, distance}
 use Rattle.scheme.specs.Program.{Made, AllKept, afterAll}
-use Rattle.tighter.specs.Bounds.{edged, Holding, byTension, byStiffness, Bound, limit, demanded, linear, lossLinear, forEver}
-use Rattle.tighter.specs.Bounds.{heavyLoss}
+use Rattle.tighter.specs.Bounds.{edged, Holding, byTension, byStiffness, Bound, limit, Row, demanded, numbers}
 
 -- ---- the energy bounds the levels themselves where an edge is fixed
 
@@ -61,26 +59,9 @@ OfEveryProgram P = (older newer : List ℤ) (ms : List Made) → AllKept ms (sta
 abbrev pub OfSums : Bound → OfSteps
 OfSums b i n newer unrounded = b .Covers i → (pos (b .k i n) *ℤ distance i n newer unrounded) ≤ℤ limit b i n
 
-abbrev pub LinearBound : Type 0
-LinearBound = OfEveryList (OfSums (linear byTension))
-
-abbrev pub StiffLinearBound : Type 0
-StiffLinearBound = OfEveryList (OfSums (linear byStiffness))
-
-abbrev pub LossLinearBound : Type 0
-LossLinearBound = OfEveryList (OfSums lossLinear)
-
-abbrev pub ForEverBound : Type 0
-ForEverBound = OfEveryList (OfSums (forEver byTension))
-
-abbrev pub StiffForEverBound : Type 0
-StiffForEverBound = OfEveryList (OfSums (forEver byStiffness))
-
-abbrev pub HeavyLossBound : Type 0
-HeavyLossBound = OfEveryList (OfSums (heavyLoss byTension))
-
-abbrev pub StiffHeavyLossBound : Type 0
-StiffHeavyLossBound = OfEveryList (OfSums (heavyLoss byStiffness))
+-- every row, of every list
+abbrev pub SumBounds : Type 0
+SumBounds = (b : Row) → OfEveryList (OfSums (numbers b))
 
 -- ---- at one point
 
@@ -98,9 +79,12 @@ abbrev pub OfPoints : Bound → OfSteps
 OfPoints b i n newer unrounded = b .Covers i → (j : ℕ) → j < points (i .grid) →
     (pos (b .k i n * weight (i .grid) j) *ℤ square (difference i n newer unrounded j)) ≤ℤ limit b i n
 
+abbrev pub PointBounds : Type 0
+PointBounds = (b : Row) → OfEveryList (OfPoints (numbers b))
+
 -- demand 3's: 16 × difference² ≤ N × n² × (n+1)², at a free end twice that
 abbrev pub AtOnePoint : Type 0
-AtOnePoint = OfEveryList (OfPoints demanded)
+AtOnePoint = OfEveryList (OfPoints (numbers demanded))
 
 -- the paper's example of a sheet: kind 1, 101 columns, q 11378, m 0, s 8
 abbrev pub voice : Instrument
@@ -117,12 +101,6 @@ VoiceForEver = OfEveryList VoiceWithin
 -- ---- of programs
 
 pub record ProgramBounds : Type 0 where
-  pub linear-bound : OfEveryProgram (OfSums (linear byTension))
-  pub stiff-linear-bound : OfEveryProgram (OfSums (linear byStiffness))
-  pub loss-linear-bound : OfEveryProgram (OfSums lossLinear)
-  pub for-ever-bound : OfEveryProgram (OfSums (forEver byTension))
-  pub stiff-for-ever-bound : OfEveryProgram (OfSums (forEver byStiffness))
-  pub heavy-loss-bound : OfEveryProgram (OfSums (heavyLoss byTension))
-  pub stiff-heavy-loss-bound : OfEveryProgram (OfSums (heavyLoss byStiffness))
-  pub at-one-point : OfEveryProgram (OfPoints demanded)
+  pub sums : (b : Row) → OfEveryProgram (OfSums (numbers b))
+  pub points : (b : Row) → OfEveryProgram (OfPoints (numbers b))
   pub voice-for-ever : OfEveryProgram VoiceWithin

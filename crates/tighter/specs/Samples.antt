@@ -1,5 +1,5 @@
 -- What is heard: every sample that a block writes, beside the unrounded scheme after as many steps.
--- Proofs: `sample-bound`, `voice-samples`, `sample-bounds`, `program-sample-bounds` in proofs/Samples.
+-- Proofs: `sample-bound`, `voice-samples`, `sample-bounds`, `program-samples` in proofs/Samples.
 use mathlib.Core.Path.{_≡_}
 use mathlib.Core.List.{List}
 use Prim.Native.Nat.{ℕ, suc, _-_, _*_, _^_, _≤_, _<_}
@@ -11,7 +11,7 @@ use Rattle.scheme.specs.Step.{divisor}
 use Rattle.scheme.specs.Energy.{weight}
 use Rattle.scheme.specs.Book.{scale, bookBlock, Call, blockCall, pluckCall, Outcome, stepsOf, samplesOf, State, start, EachCall}
 use Rattle.scheme.specs.Program.{Made, AllKept, EachMade}
-use Rattle.tighter.specs.Bounds.{byTension, byStiffness, Bound, limit, demanded, linear, lossLinear, forEver, heavyLoss}
+use Rattle.tighter.specs.Bounds.{Bound, limit, Row, demanded, numbers}
 use Rattle.tighter.specs.Claims.{voice}
 
 -- ---- claims about samples
@@ -52,7 +52,7 @@ SampleWithin b i n pick x v = b .Covers i →
 
 -- demand 3's: 16 × beyondHalf² ≤ N × n² × (n+1)², at a free end twice that
 abbrev pub SampleBound : Type 0
-SampleBound = OfEverySample (SampleWithin demanded)
+SampleBound = OfEverySample (SampleWithin (numbers demanded))
 
 -- the paper's example voice: within 27/50 of a sample unit
 abbrev pub VoiceSampleWithin : OfSamples
@@ -61,14 +61,11 @@ VoiceSampleWithin i n pick x v = i ≡ voice → 50 * sampleError i n x v ≤ 27
 abbrev pub VoiceSamples : Type 0
 VoiceSamples = OfEverySample VoiceSampleWithin
 
--- by every bound
-pub record SampleBounds (Every : OfSamples → Type 0) : Type 0 where
-  pub demanded-bound : Every (SampleWithin demanded)
-  pub linear-bound : Every (SampleWithin (linear byTension))
-  pub stiff-linear-bound : Every (SampleWithin (linear byStiffness))
-  pub loss-linear-bound : Every (SampleWithin lossLinear)
-  pub for-ever-bound : Every (SampleWithin (forEver byTension))
-  pub stiff-for-ever-bound : Every (SampleWithin (forEver byStiffness))
-  pub heavy-loss-bound : Every (SampleWithin (heavyLoss byTension))
-  pub stiff-heavy-loss-bound : Every (SampleWithin (heavyLoss byStiffness))
-  pub voice-samples : Every VoiceSampleWithin
+-- ---- by every bound, of lists and of programs
+
+abbrev pub SampleBounds : (OfSamples → Type 0) → Type 0
+SampleBounds Every = (b : Row) → Every (SampleWithin (numbers b))
+
+pub record ProgramSamples : Type 0 where
+  pub sample-bounds : SampleBounds OfProgramSamples
+  pub voice-samples : OfProgramSamples VoiceSampleWithin
