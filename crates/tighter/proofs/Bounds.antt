@@ -182,7 +182,8 @@ module _ (H : Holding) (holds : Holds H) where
   pub by-linear : OfEveryList (OfSums (linearBy H))
   by-linear = of-growth Edged (λ i ok edge. by-energy (lossy i ok) (held i ok H holds edge)) (OfSums (linearBy H)) (λ i ok n newer unrounded
       bound edge.
-      weaker i n newer unrounded {k′ = 4 * H .hold i} {y′ = H .far i * D} {r′ = n} (omega arith) (omega arith) (omega arith)
+      weaker i n newer unrounded {k′ = 4 * H .hold i} {y′ = H .far i * D} {r = linearBy H .r i n} {r′ = n}
+      (omega arith) (omega arith) (omega arith)
       (as-sum i n newer unrounded (H .hold i) (H .far i * D) n (bound edge)))
 
   -- ---- for ever
