@@ -5,15 +5,17 @@ use Rattle.integers.specs.Sum.{sum, sumOver}
 use Rattle.pluck_table.specs.Table.{table}
 use Rattle.scheme.specs.Lists.{tabulate, someBelow, countBelow, only}
 use Rattle.scheme.specs.Instruments.{kindOf, sizeIn, stableIn, roundEdge, fixedIn, moving, freeIn}
-use Rattle.scheme.specs.Step.{beside, neighbours, laplacian, innerLaplacian, numerator, roundAway, nextAt, nextLevel, someBeyond}
-use Rattle.scheme.specs.Step.{sampleOf, floatOf}
+use Rattle.scheme.specs.Step.{beside, neighbours, laplacian, innerLaplacian, numerator, roundAway, nextAt, nextLevel, inexactAt}
+use Rattle.scheme.specs.Step.{inexactIn, someBeyond, sampleOf, floatOf}
 use Rattle.scheme.specs.Pluck.{pluckAt, pluckLevel}
 use Rattle.scheme.specs.Refusals.{fixedNotZero, blockRefusal, pluckRefusal, readingRefusal, instrumentRefusal}
-use Rattle.scheme.specs.Calls.{play, block, pluck, reading}
+use Rattle.scheme.specs.Calls.{play, capped, block, pluck, reading}
 use Rattle.scheme.specs.Energy.{weight, squares, later, pairSum, laplacianSum, energy}
-use Rattle.scheme.specs.Book.{unroundedAt, unroundedStep, unroundedSteps, goesOn, bookBlock, bookPluck, leaves, bookCall, calls}
+use Rattle.scheme.specs.Book.{unroundedAt, unroundedStep, unroundedSteps, goesOn, bookBlock, bookPluck, sumBlock, sumPluck}
+use Rattle.scheme.specs.Book.{leaves, bookCall, sumCall, calls}
 use Rattle.scheme.specs.Examples.{A, B, C, D, E, F, G, H, I, J, ExamplesHold}
 use Rattle.scheme.specs.FurtherExamples.{freeEndTwice, halfFree, barWithLoss, freeWithHit, fixedRing, roundRing, membraneStep}
+use Rattle.scheme.specs.FurtherExamples.{wholes, rests, countsOfExamples, fixedNotCounted, countOfSteps, countBeforeEnd, countHeld}
 use Rattle.scheme.specs.FurtherExamples.{numbers, kinds, lineSizes, membraneSizes, roundSizes, coefficients, stability, stiffness}
 use Rattle.scheme.specs.FurtherExamples.{lengths, hits, forces, pickUps, highPoints, fixedPoints, pluckKinds, pluckLengths}
 use Rattle.scheme.specs.FurtherExamples.{pluckCentres, pluckHeights, widths, readingRefusals, lowestFirst, samples, readings, plucked}
@@ -38,10 +40,10 @@ examples-hold I = (λ c r e. simp e, λ c r e. simp e)
 examples-hold J = (refl, refl)
 
 pub further-hold : FurtherHold
-unfolding sum sumOver tabulate someBelow only kindOf sizeIn stableIn roundEdge fixedIn moving freeIn beside neighbours laplacian
-    innerLaplacian numerator roundAway nextAt nextLevel someBeyond sampleOf floatOf table pluckAt pluckLevel fixedNotZero blockRefusal
-    pluckRefusal readingRefusal instrumentRefusal play block pluck reading weight squares later pairSum laplacianSum energy
-    unroundedAt unroundedStep unroundedSteps goesOn bookBlock bookPluck leaves bookCall calls ofBits div ofInt
+unfolding sum sumOver tabulate someBelow countBelow only kindOf sizeIn stableIn roundEdge fixedIn moving freeIn beside neighbours
+    laplacian innerLaplacian numerator roundAway nextAt nextLevel inexactAt inexactIn someBeyond sampleOf floatOf table pluckAt pluckLevel fixedNotZero blockRefusal
+    pluckRefusal readingRefusal instrumentRefusal play capped block pluck reading weight squares later pairSum laplacianSum energy
+    unroundedAt unroundedStep unroundedSteps goesOn bookBlock bookPluck sumBlock sumPluck leaves bookCall sumCall calls ofBits div ofInt
 further-hold freeEndTwice = refl
 further-hold halfFree = (refl, refl)
 further-hold barWithLoss = refl
@@ -49,6 +51,13 @@ further-hold freeWithHit = refl
 further-hold fixedRing = refl
 further-hold roundRing = refl
 further-hold membraneStep = refl
+further-hold wholes = (refl, refl)
+further-hold rests = (refl, refl)
+further-hold countsOfExamples = refl
+further-hold fixedNotCounted = refl
+further-hold countOfSteps = refl
+further-hold countBeforeEnd = refl
+further-hold countHeld = refl
 further-hold numbers = refl
 further-hold kinds = refl
 further-hold lineSizes = refl
@@ -93,9 +102,9 @@ further-hold halfOff = record { all-points = refl; near = record { le = tt } }
 
 pub plates-hold : PlatesHold
 unfolding sum sumOver tabulate someBelow only countBelow kindOf sizeIn stableIn roundEdge fixedIn moving freeIn beside neighbours laplacian
-    innerLaplacian numerator roundAway nextAt nextLevel someBeyond sampleOf fixedNotZero blockRefusal pluckRefusal readingRefusal
-    instrumentRefusal play block weight squares later pairSum laplacianSum energy unroundedAt unroundedStep unroundedSteps goesOn bookBlock
-    leaves bookCall calls
+    innerLaplacian numerator roundAway nextAt nextLevel inexactAt inexactIn someBeyond sampleOf fixedNotZero blockRefusal pluckRefusal readingRefusal
+    instrumentRefusal play capped block weight squares later pairSum laplacianSum energy unroundedAt unroundedStep unroundedSteps goesOn bookBlock
+    sumBlock leaves bookCall sumCall calls
 plates-hold Plates.middle = refl
 plates-hold Plates.corner = refl
 plates-hold Plates.smallest = refl
@@ -104,6 +113,7 @@ plates-hold Plates.flat = refl
 plates-hold Plates.withLoss = refl
 plates-hold Plates.withHit = refl
 plates-hold Plates.asMembrane = refl
+plates-hold Plates.counts = refl
 plates-hold Plates.sizes = refl
 plates-hold Plates.limits = refl
 plates-hold Plates.stiffKinds = refl

@@ -1,4 +1,4 @@
--- The proofs of the four propositions of demand 3, in the order of docs/PROOF.md.
+-- The proofs of the four propositions of demand 3, in the order of docs/PROOF.md, and of request 3's.
 pub mod Balance
 pub mod Forms
 pub mod Bounds
@@ -7,3 +7,4 @@ pub mod Energy
 pub mod Effects
 pub mod Distance
 pub mod Program
+pub mod Exact

@@ -1,7 +1,7 @@
 -- "Energy and distance": the book of the unrounded scheme, and a list of calls with the book beside it.
 use mathlib.Core.Bool.{Bool, false, _&&_, cond}
-use mathlib.Core.List.{List, [], _∷_, map}
-use Prim.Native.Nat.{ℕ, zero, suc, _^_}
+use mathlib.Core.List.{List, [], _∷_}
+use Prim.Native.Nat.{ℕ, zero, suc, _+_, _^_}
 use lib.Dec.{eqb}
 use lib.IntN.{ℤ, pos, _*ℤ_}
 use Rattle.types.specs.declared.Settings.{Settings}
@@ -12,7 +12,7 @@ use Rattle.types.specs.declared.Hit.the-variants.{Absent}
 use Rattle.types.specs.declared.BlockAnswer.{BlockAnswer}
 use Rattle.types.specs.declared.Refusal.{Refusal}
 use Rattle.pluck_table.specs.Table.{table}
-use Rattle.scheme.specs.Lists.{tabulate, point}
+use Rattle.scheme.specs.Lists.{tabulate, point, times}
 use Rattle.scheme.specs.Instruments.{points, moving}
 use Rattle.scheme.specs.Step.{numerator, forceOf, divisor}
 use Rattle.scheme.specs.Pluck.{pluckLevel}
@@ -49,7 +49,7 @@ unroundedAt i h b k = cond (moving (i .grid) k)
 unfoldable pub unroundedStep : Instrument → Hit → Book → Book
 unroundedStep i h b = record {
   n = suc (b .n);
-  older = map (λ z. pos (divisor (i .settings)) *ℤ z) (b .newer);
+  older = times (pos (divisor (i .settings))) (b .newer);
   newer = tabulate (points (i .grid)) (unroundedAt i h b);
   last = stepOf i;
 }
@@ -80,6 +80,17 @@ bookBlock i h older newer (suc k) b = unroundedSteps i h (suc k) (cond (goesOn i
 unfoldable pub bookPluck : Bool → List ℤ → Book → Book
 bookPluck done xs b = cond done (fresh (b .last) xs xs) b
 
+-- ---- "A user whose sum stays 0 from the start": the sum of the counts that blocks answered since the book last took its levels
+
+-- a block with k steps done and the count c: where the book takes the levels lent to it, the sum begins anew
+unfoldable pub sumBlock : Instrument → (k c : ℕ) → Book → ℕ → ℕ
+sumBlock i zero c b sum = sum
+sumBlock i (suc k) c b sum = cond (goesOn i (b .last)) sum 0 + c
+
+-- a pluck
+unfoldable pub sumPluck : Bool → ℕ → ℕ
+sumPluck done sum = cond done 0 sum
+
 -- ---- a call
 
 -- "Each block or pluck in it gets both levels as the last one left them": its other arguments
@@ -95,6 +106,10 @@ pub data Outcome : Type 0 where
 abbrev pub stepsOf : Outcome → ℕ
 stepsOf (blockOutcome a work samples) = a .steps
 stepsOf (pluckOutcome r) = 0
+
+abbrev pub inexactOf : Outcome → ℕ
+inexactOf (blockOutcome a work samples) = a .inexact
+inexactOf (pluckOutcome r) = 0
 
 abbrev pub samplesOf : Outcome → List ℤ
 samplesOf (blockOutcome a work samples) = samples
@@ -126,21 +141,31 @@ unfoldable pub bookCall : Call → Outcome → (older newer : List ℤ) → Book
 bookCall (blockCall i work samples pick h) o older newer b = bookBlock i h older newer (stepsOf o) b
 bookCall (pluckCall g c w a) o older newer b = bookPluck (accepted (refusalOf o)) (pluckLevel table g c w a) b
 
+unfoldable pub sumCall : Call → Outcome → Book → ℕ → ℕ
+sumCall (blockCall i work samples pick h) o b sum = sumBlock i (stepsOf o) (inexactOf o) b sum
+sumCall (pluckCall g c w a) o b sum = sumPluck (accepted (refusalOf o)) sum
+
 -- ---- a list of calls
 
--- the two levels, and the book beside them
+-- the two levels, the book beside them, and the sum of the counts since the book last took its levels
 pub record State : Type 0 where
   pub older : List ℤ
   pub newer : List ℤ
   pub book : Book
+  pub inexact : ℕ
 
 -- "It starts with n 0, no last step, and the two levels that the list starts from."
 abbrev pub start : (older newer : List ℤ) → State
-start older newer = record { older = older; newer = newer; book = fresh noStep older newer }
+start older newer = record { older = older; newer = newer; book = fresh noStep older newer; inexact = 0 }
 
--- the levels that a call left, and the book fed with it
+-- the levels that a call left, the book fed with it, and the sum with its count
 abbrev pub stateAfter : Call → Left → State → State
-stateAfter k l t = record { older = l .older; newer = l .newer; book = bookCall k (l .outcome) (t .older) (t .newer) (t .book) }
+stateAfter k l t = record {
+  older = l .older;
+  newer = l .newer;
+  book = bookCall k (l .outcome) (t .older) (t .newer) (t .book);
+  inexact = sumCall k (l .outcome) (t .book) (t .inexact);
+}
 
 abbrev pub called : Call → State → Left
 called k t = leaves k (t .older) (t .newer)

@@ -3,8 +3,8 @@ use mathlib.Core.Path.{_≡_}
 use mathlib.Core.Bool.{Bool, true, false, cond}
 use mathlib.Core.List.{List, [], _∷_}
 use mathlib.Core.Logic.{_⊎_}
-use Prim.Native.Nat.{ℕ, zero, suc, _≤_, _<_}
-use lib.Dec.{eqb}
+use Prim.Native.Nat.{ℕ, zero, suc, _+_, _-_, _^_, _≤_, _<_}
+use lib.Dec.{eqb, ltb}
 use lib.Ieee.{binary64, ofInt}
 use lib.IntN.{ℤ, pos}
 use lib.ListN.{length, replicate}
@@ -20,7 +20,7 @@ use Rattle.types.specs.Numbers.{number}
 use Rattle.pluck_table.specs.Table.{table}
 use Rattle.scheme.specs.Lists.{point}
 use Rattle.scheme.specs.Instruments.{points}
-use Rattle.scheme.specs.Step.{nextLevel, someBeyond, sampleOf, floatOf}
+use Rattle.scheme.specs.Step.{nextLevel, inexactIn, someBeyond, sampleOf, floatOf}
 use Rattle.scheme.specs.Pluck.{pluckLevel}
 use Rattle.scheme.specs.Refusals.{wrongLength, blockRefusal, pluckRefusal, readingRefusal}
 
@@ -39,13 +39,15 @@ pub record AfterSteps : Type 0 where
 
 -- no further step: "the levels after exactly those, .. later places unchanged"
 abbrev pub ended : Refusal → (older newer samples : List ℤ) → AfterSteps
-ended r older newer samples = record { answer = record { steps = 0; refusal = r }; older = older; newer = newer; samples = samples }
+ended r older newer samples =
+    record { answer = record { steps = 0; inexact = 0; refusal = r }; older = older; newer = newer; samples = samples }
 
--- a step done, with sample v, before the rest: "the count of steps done, .. their samples written"
-abbrev pub oneMore : ℤ → AfterSteps → AfterSteps
-oneMore v rest =
+-- a step done, with sample v and c inexact points, before the rest: "the count of steps done, .. their samples written",
+-- "the sum over its steps done"
+abbrev pub oneMore : ℤ → ℕ → AfterSteps → AfterSteps
+oneMore v c rest =
     record {
-      answer = record { steps = suc (rest .answer .steps); refusal = rest .answer .refusal };
+      answer = record { steps = suc (rest .answer .steps); inexact = c + rest .answer .inexact; refusal = rest .answer .refusal };
       older = rest .older;
       newer = rest .newer;
       samples = v ∷ rest .samples;
@@ -57,7 +59,7 @@ unfoldable pub play : Instrument → ℕ → Hit → (older newer samples : List
 play i pick h older newer [] = ended Nothing older newer []
 play i pick h older newer (x ∷ xs) =
     let next = nextLevel i h older newer in
-    let on = oneMore (sampleOf (point next pick)) (play i pick Absent newer next xs) in
+    let on = oneMore (sampleOf (point next pick)) (inexactIn i h older newer) (play i pick Absent newer next xs) in
     cond (someBeyond next) (ended NextBeyond older newer (x ∷ xs)) on
 
 -- ---- what stands behind the count of steps
@@ -72,16 +74,23 @@ unfoldable pub levelsAfter : Instrument → Hit → ℕ → (older newer : List 
 levelsAfter i h zero older newer = record { older = older; newer = newer }
 levelsAfter i h (suc k) older newer = levelsAfter i Absent k newer (nextLevel i h older newer)
 
+-- the inexact points of these steps
+unfoldable pub inexactAfter : Instrument → Hit → ℕ → (older newer : List ℤ) → ℕ
+inexactAfter i h zero older newer = 0
+inexactAfter i h (suc k) older newer = inexactIn i h older newer + inexactAfter i Absent k newer (nextLevel i h older newer)
+
 -- the hit of the step after k
 abbrev pub hitAfter : Hit → ℕ → Hit
 hitAfter h zero = h
 hitAfter h (suc k) = Absent
 
--- "Steps done stand in the result and equal the definition's steps behind levels and samples": the levels and samples of exactly so many
--- steps, none of them beyond the ceiling, the later places as they were, and why there were no more. Proved as `stands-behind`.
+-- "Steps done stand in the result and equal the definition's steps behind levels and samples": the levels, samples and inexact points of
+-- exactly so many steps, none of them beyond the ceiling, the later places as they were, and why there were no more.
+-- Proved as `stands-behind`.
 pub record StandsBehind (i : Instrument) (pick : ℕ) (h : Hit) (older newer places : List ℤ) (p : AfterSteps) : Type 0 where
   pub older-is : p .older ≡ levelsAfter i h (p .answer .steps) older newer .older
   pub newer-is : p .newer ≡ levelsAfter i h (p .answer .steps) older newer .newer
+  pub counted : p .answer .inexact ≡ inexactAfter i h (p .answer .steps) older newer
   pub low : (j : ℕ) → j < p .answer .steps → someBeyond (levelsAfter i h (suc j) older newer .newer) ≡ false
   pub sampled : (j : ℕ) → j < p .answer .steps
       → point (p .samples) j ≡ sampleOf (point (levelsAfter i h (suc j) older newer .newer) pick)
@@ -109,13 +118,21 @@ pub record AfterBlock : Type 0 where
 abbrev pub blockLeft : BlockAnswer → (older newer work samples : List ℤ) → AfterBlock
 blockLeft answer older newer work samples = record { answer = answer; older = older; newer = newer; work = work; samples = samples }
 
+-- "held at 2⁶⁴ − 1 once it would pass that"
+unfoldable pub capped : ℕ → ℕ
+capped n = cond (ltb n (2 ^ 64)) n (2 ^ 64 - 1)
+
+-- "A block reports the sum over its steps done"
+abbrev pub reported : BlockAnswer → BlockAnswer
+reported a = record { steps = a .steps; inexact = capped (a .inexact); refusal = a .refusal }
+
 -- "Work is all zeros after 13 and after every accepted block": n points
 abbrev pub withWorkZero : ℕ → AfterSteps → AfterBlock
-withWorkZero n p = record { answer = p .answer; older = p .older; newer = p .newer; work = replicate n (pos 0); samples = p .samples }
+withWorkZero n p = blockLeft (reported (p .answer)) (p .older) (p .newer) (replicate n (pos 0)) (p .samples)
 
 -- "For 1 to 12: zero steps, .. every lent level and sample unchanged."
 abbrev pub blockRefused : Refusal → (older newer work samples : List ℤ) → AfterBlock
-blockRefused r older newer work samples = blockLeft (record { steps = 0; refusal = r }) older newer work samples
+blockRefused r older newer work samples = blockLeft (record { steps = 0; inexact = 0; refusal = r }) older newer work samples
 
 -- "The lowest number that applies answers, and a call for which none applies is carried out"
 unfoldable pub block : Instrument → (older newer work samples : List ℤ) → ℕ → Hit → AfterBlock

@@ -1,10 +1,10 @@
 -- A second table: what A to J leave loose. Each kind's step, both sides of every refusal's border,
--- samples, readings, plucks, blocks, energy, and the book of lists of calls.
+-- remainders and counts, samples, readings, plucks, blocks, energy, and the book of lists of calls.
 -- The numbers come from the reference in another language under host/, or by hand.
 use mathlib.Core.Path.{_≡_}
 use mathlib.Core.Bool.{false}
 use mathlib.Core.List.{List, [], _∷_, map}
-use Prim.Native.Nat.{ℕ, _+_, _^_}
+use Prim.Native.Nat.{ℕ, _+_, _-_, _^_}
 use lib.Ieee.{binary64, ofBits}
 use lib.IntN.{ℤ, pos}
 use lib.ListN.{length}
@@ -17,14 +17,14 @@ use Rattle.types.specs.declared.Refusal.the-variants.{FixedNotZero, NextBeyond}
 use Rattle.types.specs.Numbers.{ceiling, number}
 use Rattle.pluck_table.specs.Table.{table}
 use Rattle.scheme.specs.Lists.{point}
-use Rattle.scheme.specs.Step.{nextLevel, sampleOf}
+use Rattle.scheme.specs.Step.{roundAway, nextLevel, restOf, inexactIn, sampleOf}
 use Rattle.scheme.specs.Pluck.{pluckLevel}
 use Rattle.scheme.specs.Refusals.{wrongLength, instrumentRefusal, blockRefusal, pluckRefusal, readingRefusal}
-use Rattle.scheme.specs.Calls.{AfterBlock, block, pluck, reading}
+use Rattle.scheme.specs.Calls.{AfterBlock, capped, block, pluck, reading}
 use Rattle.scheme.specs.Energy.{energy}
 use Rattle.scheme.specs.Book.{stepOf, Call, blockCall, pluckCall, blockOutcome, pluckOutcome, AfterCalls, State, start, calls}
 use Rattle.scheme.specs.Claims.{distance, bound, Near}
-use Rattle.scheme.specs.Examples.{grid, instrument, level, minus, next, middle3}
+use Rattle.scheme.specs.Examples.{grid, instrument, level, minus, next, middle3, middle9}
 
 -- the numbers of refusals
 abbrev instrumentNumbers : List Instrument → List ℕ
@@ -107,7 +107,7 @@ afterHalves = calls (blockCall halves still20 (level (0 ∷ [])) 0 Absent ∷ []
 -- two steps that leave a string where it is
 abbrev faded : ℤ → AfterBlock
 faded x = record {
-  answer = record { steps = 2; refusal = Nothing };
+  answer = record { steps = 2; inexact = 2; refusal = Nothing };
   older = middle3 x;
   newer = middle3 x;
   work = middle3 (pos 0);
@@ -117,6 +117,8 @@ faded x = record {
 pub data Further : Type 0 where
   -- one step
   freeEndTwice halfFree barWithLoss freeWithHit fixedRing roundRing membraneStep : Further
+  -- remainders and counts
+  wholes rests countsOfExamples fixedNotCounted countOfSteps countBeforeEnd countHeld : Further
   -- 1, 2, 4 and 5
   numbers kinds lineSizes membraneSizes roundSizes coefficients stability stiffness : Further
   -- the refusals of a block, a pluck and a reading
@@ -126,6 +128,17 @@ pub data Further : Type 0 where
   samples readings plucked pluckedDown pluckedFree pluckedBoth ringListing silence endedBlock atOnce blockTurnedDown emptyBlock : Further
   -- energy, distance and book
   energies bookGoesOn bookStartsAnew pluckedBook pluckThenStep outcomes distances halfOff : Further
+
+-- the count of a step without a hit, from newer and older
+abbrev count : Instrument → (newer older : List ℤ) → ℕ
+count i newer older = inexactIn i Absent older newer
+
+-- halves, a little more and less, multiples: over D, and over the odd D + 5
+abbrev evenOnes : List ℤ
+evenOnes = pos 32768 ∷ minus 32768 ∷ pos 32767 ∷ minus 98305 ∷ pos 65536 ∷ minus 131072 ∷ pos 0 ∷ []
+
+abbrev oddOnes : List ℤ
+oddOnes = pos 32770 ∷ pos 32771 ∷ minus 32770 ∷ minus 32771 ∷ pos 65541 ∷ []
 
 abbrev pub shows : Further → Type 0
 -- "there newer "0 4 0" over zeros must give "8 0 8""
@@ -151,6 +164,49 @@ shows membraneStep =
     next (instrument 5 4 4 20000 0 0) (pos 0 ∷ pos 0 ∷ pos 0 ∷ pos 0 ∷ pos 0 ∷ pos 5 ∷ pos 9 ∷ pos 0 ∷ pos 0 ∷ minus 7 ∷ pos 2 ∷ pos 0
     ∷ pos 0 ∷ pos 0 ∷ pos 0 ∷ pos 0 ∷ []) []
     ≡ pos 0 ∷ pos 0 ∷ pos 0 ∷ pos 0 ∷ pos 0 ∷ pos 5 ∷ pos 9 ∷ pos 0 ∷ pos 0 ∷ minus 3 ∷ pos 2 ∷ pos 0 ∷ pos 0 ∷ pos 0 ∷ pos 0 ∷ pos 0 ∷ []
+shows wholes =
+    (map (λ n. roundAway n 65536) evenOnes ≡ pos 1 ∷ minus 1 ∷ pos 0 ∷ minus 2 ∷ pos 1 ∷ minus 2 ∷ pos 0 ∷ []) ×
+    (map (λ n. roundAway n 65541) oddOnes ≡ pos 0 ∷ pos 1 ∷ pos 0 ∷ minus 1 ∷ pos 1 ∷ [])
+-- "numerator less whole number × (D+s)"
+shows rests =
+    (map (λ n. restOf n 65536) evenOnes ≡ minus 32768 ∷ pos 32768 ∷ pos 32767 ∷ pos 32767 ∷ pos 0 ∷ pos 0 ∷ pos 0 ∷ []) ×
+    (map (λ n. restOf n 65541) oddOnes ≡ pos 32770 ∷ minus 32770 ∷ minus 32770 ∷ pos 32770 ∷ pos 0 ∷ [])
+-- A to G
+shows countsOfExamples =
+    count (instrument 1 3 1 65536 0 0) (middle3 (pos 1000)) (middle3 (pos 1000)) ∷
+    count (instrument 5 3 3 32768 0 0) (middle9 (pos 1000)) (middle9 (pos 1000)) ∷
+    count (instrument 1 3 1 16384 0 0) (middle3 (pos 1)) (middle3 (pos 1)) ∷
+    count (instrument 1 3 1 16384 0 0) (middle3 (minus 1)) (middle3 (minus 1)) ∷
+    count (instrument 1 3 1 0 0 65536) (middle3 (pos 3)) (middle3 (pos 7)) ∷
+    count (instrument 3 3 1 65536 0 0) (level (4 ∷ 0 ∷ 0 ∷ [])) (level (0 ∷ 0 ∷ 0 ∷ [])) ∷
+    count (instrument 4 5 1 0 16384 0) (level (0 ∷ 0 ∷ 8 ∷ 0 ∷ 0 ∷ [])) (level (0 ∷ 0 ∷ 0 ∷ 0 ∷ 0 ∷ [])) ∷ []
+    ≡ 0 ∷ 0 ∷ 1 ∷ 1 ∷ 0 ∷ 0 ∷ 0 ∷ []
+-- "moving points": at the fixed ends the numerator would be 16384
+shows fixedNotCounted = count (instrument 1 4 1 16384 0 0) (level (0 ∷ 1 ∷ 1 ∷ 0 ∷ [])) rest ≡ 2
+-- "the sum over its steps done": 0, 0, 2 and 3
+shows countOfSteps =
+    block (instrument 1 5 1 16384 0 0) five five five (level (7 ∷ 7 ∷ 7 ∷ 7 ∷ [])) 1 (At 1 (pos 4))
+    ≡ record {
+      answer = record { steps = 4; inexact = 5; refusal = Nothing };
+      older = level (0 ∷ 5 ∷ 3 ∷ 0 ∷ 0 ∷ []);
+      newer = level (0 ∷ 2 ∷ 5 ∷ 1 ∷ 0 ∷ []);
+      work = five;
+      samples = level (0 ∷ 0 ∷ 0 ∷ 0 ∷ []);
+    }
+-- 13 at the second step, in which two points would have been inexact as well
+shows countBeforeEnd =
+    block (instrument 1 4 1 1 0 0) (pos 0 ∷ minus 1 ∷ pos 6000000000000 ∷ pos 0 ∷ []) (level (0 ∷ 1 ∷ 7000000000000 ∷ 0 ∷ []))
+    rest (level (7 ∷ 8 ∷ 9 ∷ [])) 2 Absent
+    ≡ record {
+      answer = record { steps = 1; inexact = 2; refusal = NextBeyond };
+      older = level (0 ∷ 1 ∷ 7000000000000 ∷ 0 ∷ []);
+      newer = level (0 ∷ 106811526 ∷ 7999786376953 ∷ 0 ∷ []);
+      work = rest;
+      samples = level (29802 ∷ 8 ∷ 9 ∷ []);
+    }
+-- "held at 2⁶⁴ − 1"
+shows countHeld = map capped (0 ∷ 2 ^ 63 ∷ (2 ^ 64 - 1) ∷ 2 ^ 64 ∷ 2 ^ 65 ∷ [])
+    ≡ 0 ∷ 9223372036854775808 ∷ 18446744073709551615 ∷ 18446744073709551615 ∷ 18446744073709551615 ∷ []
 shows numbers =
     map number (Nothing ∷ UnknownKind ∷ WrongSize ∷ SheetNumber ∷ Coefficient ∷ Unstable ∷ WrongLength ∷ NotMoving ∷ TooStrong ∷ PickUp
     ∷ HalfWidth ∷ PointBeyond ∷ FixedNotZero ∷ NextBeyond ∷ [])
@@ -263,7 +319,7 @@ shows ringListing =
     block (instrument 1 3 1 65536 0 0) (middle3 (pos 0)) (middle3 (pos 0)) (middle3 (pos 5)) (level (7 ∷ 7 ∷ 7 ∷ 7 ∷ [])) 1
     (At 1 (pos 268435456))
     ≡ record {
-      answer = record { steps = 4; refusal = Nothing };
+      answer = record { steps = 4; inexact = 0; refusal = Nothing };
       older = middle3 (minus 268435456);
       newer = middle3 (pos 0);
       work = middle3 (pos 0);
@@ -280,7 +336,7 @@ shows endedBlock =
     block (instrument 1 4 1 0 0 0) (pos 0 ∷ minus 1 ∷ pos 6000000000000 ∷ pos 0 ∷ []) (level (0 ∷ 1 ∷ 7000000000000 ∷ 0 ∷ []))
     (level (1 ∷ 2 ∷ 3 ∷ 4 ∷ [])) (level (7 ∷ 8 ∷ 9 ∷ [])) 2 Absent
     ≡ record {
-      answer = record { steps = 1; refusal = NextBeyond };
+      answer = record { steps = 1; inexact = 0; refusal = NextBeyond };
       older = level (0 ∷ 1 ∷ 7000000000000 ∷ 0 ∷ []);
       newer = level (0 ∷ 3 ∷ 8000000000000 ∷ 0 ∷ []);
       work = rest;
@@ -290,7 +346,7 @@ shows endedBlock =
 shows atOnce =
     (block (instrument 1 3 1 0 0 0) (middle3 (minus 1)) (middle3 (pos 4397912293375)) (middle3 (pos 5)) (level (7 ∷ [])) 1 (At 1 (pos 1))
     ≡ record {
-      answer = record { steps = 1; refusal = Nothing };
+      answer = record { steps = 1; inexact = 0; refusal = Nothing };
       older = middle3 (pos 4397912293375);
       newer = middle3 (pos ceiling);
       work = middle3 (pos 0);
@@ -298,7 +354,7 @@ shows atOnce =
     }) ×
     (block (instrument 1 3 1 0 0 0) (middle3 (minus 1)) (middle3 (pos 4397912293375)) (middle3 (pos 5)) (level (7 ∷ [])) 1 (At 1 (pos 2))
     ≡ record {
-      answer = record { steps = 0; refusal = NextBeyond };
+      answer = record { steps = 0; inexact = 0; refusal = NextBeyond };
       older = middle3 (minus 1);
       newer = middle3 (pos 4397912293375);
       work = middle3 (pos 0);
@@ -307,7 +363,7 @@ shows atOnce =
 shows blockTurnedDown =
     block string rest (level (0 ∷ 1 ∷ 2 ∷ 0 ∷ [])) (level (1 ∷ 2 ∷ 3 ∷ 4 ∷ [])) (level (7 ∷ 8 ∷ [])) 4 Absent
     ≡ record {
-      answer = record { steps = 0; refusal = PickUp };
+      answer = record { steps = 0; inexact = 0; refusal = PickUp };
       older = rest;
       newer = level (0 ∷ 1 ∷ 2 ∷ 0 ∷ []);
       work = level (1 ∷ 2 ∷ 3 ∷ 4 ∷ []);
@@ -317,7 +373,7 @@ shows blockTurnedDown =
 shows emptyBlock =
     block string rest (level (0 ∷ 1 ∷ 2 ∷ 0 ∷ [])) (level (1 ∷ 2 ∷ 3 ∷ 4 ∷ [])) [] 0 (At 1 (pos 5))
     ≡ record {
-      answer = record { steps = 0; refusal = Nothing };
+      answer = record { steps = 0; inexact = 0; refusal = Nothing };
       older = rest;
       newer = level (0 ∷ 1 ∷ 2 ∷ 0 ∷ []);
       work = rest;
@@ -339,6 +395,7 @@ shows bookGoesOn = after (twoSteps ∷ refused ∷ oneStep ∷ []) ≡ record {
     newer = level (0 ∷ 5982145047920445 ∷ 4594315337286502 ∷ 0 ∷ []);
     last = stepOf (voice 5);
   };
+  inexact = 6;
 }
 shows bookStartsAnew = after (twoSteps ∷ refused ∷ oneStep ∷ pluckTurnedDown ∷ noSteps ∷ otherStep ∷ []) ≡ record {
   older = level (0 ∷ 22 ∷ 16 ∷ 0 ∷ []);
@@ -349,11 +406,13 @@ shows bookStartsAnew = after (twoSteps ∷ refused ∷ oneStep ∷ pluckTurnedDo
     newer = level (0 ∷ 1358514 ∷ 1145262 ∷ 0 ∷ []);
     last = stepOf (voice 6);
   };
+  inexact = 2;
 }
 shows pluckedBook = after (twoSteps ∷ plucks ∷ []) ≡ record {
   older = level (0 ∷ 4 ∷ 9 ∷ 0 ∷ []);
   newer = level (0 ∷ 4 ∷ 9 ∷ 0 ∷ []);
   book = record { n = 0; older = level (0 ∷ 4 ∷ 9 ∷ 0 ∷ []); newer = level (0 ∷ 4 ∷ 9 ∷ 0 ∷ []); last = stepOf (voice 5) };
+  inexact = 0;
 }
 shows pluckThenStep = after (twoSteps ∷ plucks ∷ oneStep ∷ []) ≡ record {
   older = level (0 ∷ 4 ∷ 9 ∷ 0 ∷ []);
@@ -364,10 +423,11 @@ shows pluckThenStep = after (twoSteps ∷ plucks ∷ oneStep ∷ []) ≡ record 
     newer = level (0 ∷ 272164 ∷ 449869 ∷ 0 ∷ []);
     last = stepOf (voice 5);
   };
+  inexact = 2;
 }
 shows outcomes = fromHere (twoSteps ∷ refused ∷ plucks ∷ pluckTurnedDown ∷ []) .outcomes ≡
-    blockOutcome (record { steps = 2; refusal = Nothing }) rest (level (0 ∷ 0 ∷ [])) ∷
-    blockOutcome (record { steps = 0; refusal = PickUp }) nines (level (0 ∷ 0 ∷ [])) ∷
+    blockOutcome (record { steps = 2; inexact = 4; refusal = Nothing }) rest (level (0 ∷ 0 ∷ [])) ∷
+    blockOutcome (record { steps = 0; inexact = 0; refusal = PickUp }) nines (level (0 ∷ 0 ∷ [])) ∷
     pluckOutcome Nothing ∷
     pluckOutcome NotMoving ∷ []
 -- the distance of `bookGoesOn`, times 2 × (D+s)⁶, and its bound times 32 × (D+s)⁶

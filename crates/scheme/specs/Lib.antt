@@ -11,6 +11,7 @@ pub mod Book
 pub mod Claims
 pub mod Passing
 pub mod Program
+pub mod Exact
 pub mod Examples
 pub mod FurtherExamples
 pub mod PlateExamples

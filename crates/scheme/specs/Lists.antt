@@ -1,6 +1,6 @@
 -- Lists and counting: what the definitions are written with. Nothing here is of the paper.
 use mathlib.Core.Bool.{Bool, true, false, _||_, cond}
-use mathlib.Core.List.{List, [], _∷_}
+use mathlib.Core.List.{List, [], _∷_, map}
 use Prim.Native.Nat.{ℕ, zero, suc, _+_}
 use lib.IntN.{ℤ, pos, _*ℤ_}
 use lib.ListN.{getD}
@@ -13,6 +13,10 @@ tabulate (suc n) f = f zero ∷ tabulate n (λ i. f (suc i))
 -- entry i of a level, 0 past its end
 abbrev pub point : List ℤ → ℕ → ℤ
 point xs i = getD xs i (pos 0)
+
+-- every entry of a level times z
+abbrev pub times : ℤ → List ℤ → List ℤ
+times z xs = map (λ x. z *ℤ x) xs
 
 -- some number below n passes the test
 unfoldable pub someBelow : ℕ → (ℕ → Bool) → Bool

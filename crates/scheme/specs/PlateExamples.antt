@@ -1,4 +1,4 @@
--- A table for plates, kind 7, beside the second one: a step on small plates, both sides of every limit, refusals, a block, energy, book.
+-- A table for plates, kind 7, beside the second one: a step on small plates and its count, both sides of every limit, refusals, a block, energy, book.
 -- The numbers come by hand, or from the reference in another language under host/. `FurtherExamples` has a row of every kind's number.
 use mathlib.Core.Path.{_≡_}
 use mathlib.Core.Bool.{false}
@@ -11,7 +11,7 @@ use Rattle.types.specs.declared.Refusal.the-variants.{Nothing, NextBeyond}
 use Rattle.types.specs.Numbers.{number}
 use Rattle.scheme.specs.Lists.{point, countBelow}
 use Rattle.scheme.specs.Instruments.{moving}
-use Rattle.scheme.specs.Step.{nextLevel}
+use Rattle.scheme.specs.Step.{nextLevel, inexactIn}
 use Rattle.scheme.specs.Refusals.{instrumentRefusal, blockRefusal, pluckRefusal, readingRefusal}
 use Rattle.scheme.specs.Calls.{block}
 use Rattle.scheme.specs.Energy.{energy}
@@ -48,7 +48,7 @@ refusedBy c r q m = number (instrumentRefusal (instrument 7 c r q m 0))
 
 pub data PlateExample : Type 0 where
   -- one step
-  middle corner smallest narrow flat withLoss withHit asMembrane : PlateExample
+  middle corner smallest narrow flat withLoss withHit asMembrane counts : PlateExample
   -- 1, 2, 4, 5, 7, 12, plucks and readings
   sizes limits stiffKinds coefficients ringPoints hits fixedPoints otherCalls : PlateExample
   -- a block, energy and book
@@ -74,6 +74,12 @@ plateShows withHit = nextLevel stiff (At 12 (pos 7)) older20 newer20
     ≡ ring5 (row5 (minus 6) (pos 12) (minus 4) (row5 (minus 2) (pos 3) (pos 4) (ring5 [])))
 -- without stiffness a plate is a rectangular membrane
 plateShows asMembrane = next (instrument 7 5 4 20000 0 100) newer20 older20 ≡ next (instrument 5 5 4 20000 0 100) newer20 older20
+-- inexact points: of `corner`, of a corner of 8, of `withLoss`
+plateShows counts =
+    inexactIn (bent 5 5) Absent [] (ring5 (row5 (pos 16) (pos 0) (pos 0) (ring5 (ring5 (ring5 []))))) ∷
+    inexactIn (bent 5 5) Absent [] (ring5 (row5 (pos 8) (pos 0) (pos 0) (ring5 (ring5 (ring5 []))))) ∷
+    inexactIn stiff Absent older20 newer20 ∷ []
+    ≡ 0 ∷ 2 ∷ 6 ∷ []
 -- "sizes as kind 5"
 plateShows sizes =
     refusedBy 2 3 0 0 ∷ refusedBy 3 2 0 0 ∷ refusedBy 3 3 0 0 ∷ refusedBy 3 64 0 0 ∷ refusedBy 64 3 0 0 ∷ refusedBy 64 64 0 0
@@ -108,14 +114,14 @@ plateShows otherCalls =
 -- the next value is u − p + f: four sample units, four again, 0; the hit of the second block passes the ceiling
 plateShows blockEnded =
     (block (bent 3 3) rest9 rest9 rest9 (level (7 ∷ 7 ∷ 7 ∷ [])) 4 (At 4 (pos 1073741824)) ≡ record {
-      answer = record { steps = 3; refusal = Nothing };
+      answer = record { steps = 3; inexact = 0; refusal = Nothing };
       older = middle9 (pos 1073741824);
       newer = middle9 (pos 0);
       work = rest9;
       samples = level (4 ∷ 4 ∷ 0 ∷ []);
     }) ×
     (block (bent 3 3) rest9 (middle9 (pos 8795824586752)) rest9 (level (7 ∷ 7 ∷ [])) 4 (At 4 (pos 1)) ≡ record {
-      answer = record { steps = 0; refusal = NextBeyond };
+      answer = record { steps = 0; inexact = 0; refusal = NextBeyond };
       older = rest9;
       newer = middle9 (pos 8795824586752);
       work = rest9;
@@ -129,6 +135,7 @@ plateShows book = calls (blockCall (bent 3 3) rest9 (level (0 ∷ [])) 4 Absent 
       older = middle9 (pos 3);
       newer = middle9 (pos 2);
       book = record { n = 1; older = middle9 (pos 196608); newer = middle9 (pos 131072); last = stepOf (bent 3 3) };
+      inexact = 0;
     }
 
 abbrev pub PlatesHold : Type 0

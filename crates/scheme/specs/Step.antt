@@ -1,8 +1,8 @@
 -- "One step".
 use mathlib.Core.Path.{_≡_}
-use mathlib.Core.Bool.{Bool, cond}
+use mathlib.Core.Bool.{Bool, true, cond, not, _&&_}
 use mathlib.Core.List.{List, _++_}
-use Prim.Native.Nat.{ℕ, suc, _+_, _-_, _*_, _/_, _^_, _≤_, _<_}
+use Prim.Native.Nat.{ℕ, suc, _+_, _-_, _*_, _/_, _%_, _^_, _≤_, _<_}
 use lib.Dec.{ltb, eqb}
 use lib.Ieee.{Float, binary64, ofInt, div}
 use lib.IntN.{ℤ, pos, negsuc, negℤ, natAbs, _+ℤ_, _-ℤ_, _*ℤ_}
@@ -14,7 +14,7 @@ use Rattle.types.specs.declared.Instrument.{Instrument}
 use Rattle.types.specs.declared.Hit.{Hit}
 use Rattle.types.specs.declared.Hit.the-variants.{Absent, At}
 use Rattle.types.specs.Numbers.{D, ceiling}
-use Rattle.scheme.specs.Lists.{tabulate, point, someBelow, only}
+use Rattle.scheme.specs.Lists.{tabulate, point, someBelow, countBelow, only}
 use Rattle.scheme.specs.Instruments.{beyond, points, column, row, moving, freeEnd}
 
 -- the points beside i in its grid: left, right, above, below
@@ -73,6 +73,35 @@ nextAt i h older newer k = cond (moving (i .grid) k)
 
 unfoldable pub nextLevel : Instrument → Hit → (older newer : List ℤ) → List ℤ
 nextLevel i h older newer = tabulate (points (i .grid)) (nextAt i h older newer)
+
+-- ---- what rounding leaves
+
+-- "its remainder (numerator less whole number × (D+s))"
+abbrev pub restOf : ℤ → ℕ → ℤ
+restOf n d = n -ℤ roundAway n d *ℤ pos d
+
+-- "a multiple of D+s"
+abbrev pub isMultiple : ℤ → ℕ → Bool
+isMultiple n d = eqb (natAbs n % d) 0
+
+-- The remainder is at most half of the divisor; a multiple is some whole number of divisors, and exactly then the remainder is 0.
+-- Proved as `rest-rule`.
+pub record RestRule (n : ℤ) (d : ℕ) : Type 0 where
+  pub small : 2 * natAbs (restOf n d) ≤ d
+  pub none : isMultiple n d ≡ true → restOf n d ≡ pos 0
+  pub whole : restOf n d ≡ pos 0 → n ≡ roundAway n d *ℤ pos d
+  pub multiple : (w : ℤ) → n ≡ w *ℤ pos d → isMultiple n d ≡ true
+
+-- "moving points whose numerator was not a multiple of D+s"
+unfoldable pub inexactAt : Instrument → Hit → (older newer : List ℤ) → ℕ → Bool
+inexactAt i h older newer k = moving (i .grid) k
+    && not (isMultiple (numerator i (point newer) (point older) (forceOf h) k) (divisor (i .settings)))
+
+-- "the step and every block give the count": a step
+unfoldable pub inexactIn : Instrument → Hit → (older newer : List ℤ) → ℕ
+inexactIn i h older newer = countBelow (points (i .grid)) (inexactAt i h older newer)
+
+-- ---- the ceiling, and the reading
 
 -- some point of a level lies beyond the ceiling
 unfoldable pub someBeyond : List ℤ → Bool

@@ -118,9 +118,10 @@ impl Refusal {
     }
 }
 
-// A block's answer: the steps done, and what refused or ended it.
+// A block's answer: the steps done, how many points were inexact in them, and what refused or ended it.
 pub struct BlockAnswer {
     pub steps: usize,
+    pub inexact: u64,
     pub refusal: Refusal,
 }
 

@@ -3,8 +3,10 @@ use mathlib.Core.Path.{_≡_, refl, sym, ap, _∙_, subst}
 use mathlib.Core.Bool.{Bool, true, false, _&&_, cond}
 use mathlib.Core.List.{List, [], _∷_}
 use mathlib.Core.Logic.{_⊎_, inl, inr}
-use Prim.Native.Nat.{ℕ, zero, suc, _≤_, _<_}
+use Prim.Native.Nat.{ℕ, zero, suc, _+_, _-_, _^_, _≤_, _<_}
+use native.Mathlib.Decide.{decLt}
 use native.Mathlib.Omega.{arith}
+use borrow.Author.Tests.{lt-ltb, le-ltb}
 use lib.Dec.{ltb}
 use lib.Ieee.{binary64, ofInt}
 use lib.IntN.{ℤ, pos, natAbs}
@@ -17,11 +19,11 @@ use Rattle.types.specs.declared.Refusal.the-variants.{Nothing, NextBeyond}
 use Rattle.pluck_table.specs.Table.{table}
 use Rattle.scheme.specs.Lists.{point}
 use Rattle.scheme.specs.Instruments.{points, fixed}
-use Rattle.scheme.specs.Step.{nextLevel, someBeyond, sampleOf, floatOf}
+use Rattle.scheme.specs.Step.{nextLevel, inexactIn, someBeyond, sampleOf, floatOf}
 use Rattle.scheme.specs.Pluck.{pluckLevel}
 use Rattle.scheme.specs.Refusals.{wrongLength, fixedNotZero, blockRefusal, pluckRefusal, readingRefusal}
-use Rattle.scheme.specs.Calls.{accepted, AfterSteps, ended, oneMore, play, levelsAfter, hitAfter, StandsBehind, StepsStandBehind}
-use Rattle.scheme.specs.Calls.{AfterBlock, withWorkZero, blockRefused, block, overwritten, pluckRefused, pluck, reading}
+use Rattle.scheme.specs.Calls.{accepted, AfterSteps, ended, oneMore, play, levelsAfter, inexactAfter, hitAfter, StandsBehind}
+use Rattle.scheme.specs.Calls.{StepsStandBehind, AfterBlock, capped, withWorkZero, blockRefused, block, overwritten, pluckRefused, pluck, reading}
 use Rattle.scheme.specs.Claims.{LevelPasses}
 use Rattle.scheme.proofs.Laws.Bools.{cases}
 use Rattle.scheme.proofs.Laws.Lists.{none-below}
@@ -48,16 +50,17 @@ module _ (i : Instrument) (pick : ℕ) (h : Hit) (older newer : List ℤ) (x : �
   play-ends e = simp e
 
   pub play-goes : someBeyond (nextLevel i h older newer) ≡ false
-      → play i pick h older newer (x ∷ xs) ≡ oneMore (sampleOf (point (nextLevel i h older newer) pick))
+      → play i pick h older newer (x ∷ xs) ≡ oneMore (sampleOf (point (nextLevel i h older newer) pick)) (inexactIn i h older newer)
       (play i pick Absent newer (nextLevel i h older newer) xs)
   unfolding play
   play-goes e = simp e
 
 pub stands-behind : StepsStandBehind
-unfolding play levelsAfter
+unfolding play levelsAfter inexactAfter
 stands-behind i pick h older newer [] = record {
   older-is = refl;
   newer-is = refl;
+  counted = refl;
   low = λ j p. absurd (omega arith);
   sampled = λ j p. absurd (omega arith);
   later = λ j p. refl;
@@ -74,7 +77,7 @@ stands-behind i pick h older newer (x ∷ xs) = go (someBeyond (nextLevel i h ol
     rest = play i pick Absent newer next xs
 
     P : Bool → AfterSteps
-    P t = cond t (ended NextBeyond older newer (x ∷ xs)) (oneMore (sampleOf (point next pick)) rest)
+    P t = cond t (ended NextBeyond older newer (x ∷ xs)) (oneMore (sampleOf (point next pick)) (inexactIn i h older newer) rest)
 
     same : (k : ℕ) → hitAfter Absent k ≡ Absent
     same zero = refl
@@ -84,6 +87,7 @@ stands-behind i pick h older newer (x ∷ xs) = go (someBeyond (nextLevel i h ol
     go true e w = record {
       older-is = refl;
       newer-is = refl;
+      counted = refl;
       low = λ j p. absurd (omega arith);
       sampled = λ j p. absurd (omega arith);
       later = λ j p. refl;
@@ -93,6 +97,7 @@ stands-behind i pick h older newer (x ∷ xs) = go (someBeyond (nextLevel i h ol
     go false e w = record {
       older-is = w .older-is;
       newer-is = w .newer-is;
+      counted = ap (λ (n : ℕ). inexactIn i h older newer + n) (w .counted);
       low = low-at;
       sampled = sampled-at;
       later = later-at;
@@ -146,6 +151,24 @@ after-passes i h zero older newer low a b = (a, b)
 after-passes i h (suc k) older newer low a b =
     after-passes i Absent k newer (nextLevel i h older newer) (λ j p. low (suc j) (omega arith)) b
     (next-passes i h older newer (low zero (omega arith)))
+
+-- ---- the count of a block
+
+pub capped-low : (n : ℕ) → n < 2 ^ 64 → capped n ≡ n
+unfolding capped
+capped-low n h = simp (lt-ltb n (2 ^ 64) h)
+
+pub capped-high : (n : ℕ) → 2 ^ 64 ≤ n → capped n ≡ 2 ^ 64 - 1
+unfolding capped
+capped-high n h = simp (le-ltb n (2 ^ 64) h)
+
+-- a sum of 0 is one of no points at all
+pub capped-zero : (n : ℕ) → capped n ≡ 0 → n ≡ 0
+capped-zero n e = go (decLt n (2 ^ 64))
+  where
+    go : Dec (n < 2 ^ 64) → n ≡ 0
+    go (yes h) = sym (capped-low n h) ∙ e
+    go (no h) = absurd (omega (arith, e, capped-high n (omega (arith, h))))
 
 -- ---- a block
 

@@ -1,16 +1,18 @@
--- Laws of `roundAway` and `sampleOf`.
+-- Laws of `roundAway`, `restOf` and `sampleOf`.
 use mathlib.Core.Path.{_≡_, refl, sym, ap, _∙_, subst}
 use mathlib.Core.Bool.{Bool, true, false, cond, not, true≢false}
-use Prim.Native.Nat.{ℕ, zero, suc, _+_, _-_, _*_, _/_, _^_, _≤_, _<_, zero-le}
+use Prim.Native.Nat.{ℕ, zero, suc, _+_, _-_, _*_, _/_, _%_, _^_, _≤_, _<_, zero-le}
+use native.Mathlib.Nat.{mul-mod-left, div-add-mod'}
 use native.Mathlib.Nat.{div-eq-of-lt, div-eq-of-lt-le, div-mul-le-self, lt-div-mul-add, div-lt-iff-lt-mul, le-div-iff-mul-le}
 use native.Mathlib.Nat as N
 use native.Mathlib.Omega.{arith}
-use borrow.Author.Tests.{ltb-true, ltb-false, lt-ltb, le-ltb}
+use borrow.Author.Tests.{eqb-true, eq-eqb, ltb-true, ltb-false, lt-ltb, le-ltb}
 use lib.Dec.{ltb, ltb→lt, nltb→le}
 use lib.IntN.{ℤ, pos, negsuc, negℤ, natAbs, subℕ, _+ℤ_, _-ℤ_, _*ℤ_, negℤ-negℤ}
 use lib.Signed.{ltZ}
-use Rattle.integers.proofs.Size.{cond-ind, size-neg}
-use Rattle.scheme.specs.Step.{nearest, roundAway, sampleOf, SampleRule}
+use Rattle.integers.proofs.Ring.{#_, ⊝_, _⊕_, _⊖_, _⊗_, _≈_, ring}
+use Rattle.integers.proofs.Size.{cond-ind, size-neg, size-mul}
+use Rattle.scheme.specs.Step.{nearest, roundAway, restOf, isMultiple, RestRule, sampleOf, SampleRule}
 
 near : (m k q : ℕ) → 0 < k → (2 * m + k) / (2 * k) ≡ q → (2 * (k * q) ≤ 2 * m + k) × (2 * m ≤ 2 * (k * q) + k)
 near m k q h e =
@@ -99,6 +101,61 @@ round-small : (n : ℤ) (d : ℕ) → 2 * natAbs n < d → roundAway n d ≡ pos
 unfolding roundAway
 round-small (pos n) d l = ap pos (div-eq-of-lt {n = 2 * n + d} {m = 2 * d} (omega arith))
 round-small (negsuc n) d l = ap (λ (q : ℕ). negℤ (pos q)) (div-eq-of-lt {n = 2 * suc n + d} {m = 2 * d} (omega arith))
+
+-- ---- the remainder
+
+-- of a multiple the rounded quotient is the whole number of divisors
+whole-of : (n : ℤ) (d : ℕ) → 0 < d → isMultiple n d ≡ true → roundAway n d *ℤ pos d ≡ n
+unfolding roundAway
+whole-of n d h e = go n (natAbs n / d) (div-add-mod' (natAbs n) d) (eqb-true (natAbs n % d) 0 e)
+  where
+    near-is : (m q r : ℕ) → q * d + r ≡ m → r ≡ 0 → nearest m d ≡ q
+    near-is m q r f z = half-way m d q (omega arith) (omega arith)
+
+    go : (n : ℤ) (q : ℕ) → q * d + natAbs n % d ≡ natAbs n → natAbs n % d ≡ 0 → roundAway n d *ℤ pos d ≡ n
+    go (pos m) q f z =
+        let whole : q * d ≡ m = omega (arith, f, z) in
+        ap (λ (q : ℕ). pos (q * d)) (near-is m q (m % d) f z) ∙ ap pos whole
+    go (negsuc m) q f z =
+        let whole : q * d ≡ suc m = omega (arith, f, z) in
+        ap (λ (q : ℕ). negℤ (pos q) *ℤ pos d) (near-is (suc m) q (suc m % d) f z) ∙
+        ring 2 (λ q d. (⊝ q) ⊗ d ≈ ⊝ (q ⊗ d)) refl (pos q) (pos d) ∙ ap (λ (k : ℕ). negℤ (pos k)) whole
+
+pub rest-rule : (n : ℤ) (d : ℕ) → 0 < d → RestRule n d
+rest-rule n d h = record {
+  small = subst (λ (k : ℕ). 2 * k ≤ d)
+      (sym (size-neg (pos d *ℤ roundAway n d -ℤ n)) ∙
+      ap natAbs (ring 3 (λ n d w. ⊝ (d ⊗ w ⊖ n) ≈ n ⊖ w ⊗ d) refl n (pos d) (roundAway n d))) (round-near n d h);
+  none = λ e. ap (λ z. n -ℤ z) (whole-of n d h e) ∙ ring 1 (λ n. n ⊖ n ≈ # 0) refl n;
+  whole = λ e. ring 2 (λ n z. n ≈ (n ⊖ z) ⊕ z) refl n (roundAway n d *ℤ pos d) ∙
+      ap (λ z. z +ℤ roundAway n d *ℤ pos d) e ∙ ring 1 (λ z. # 0 ⊕ z ≈ z) refl (roundAway n d *ℤ pos d);
+  multiple = λ w e. eq-eqb (natAbs n % d) 0 (ap (λ (z : ℤ). natAbs z % d) e ∙ ap (λ (k : ℕ). k % d) (size-mul w (pos d)) ∙
+      mul-mod-left (natAbs w) d);
+}
+
+-- as code computes it: the remainder of the quotient that is cut, less half of d, with the sign of n
+pub rest-signed : (n : ℤ) (d : ℕ) → 0 < d → let z : ℤ = pos ((natAbs n + d / 2) % d) -ℤ pos (d / 2) in
+    cond (ltZ n (pos 0)) (negℤ z) z ≡ restOf n d
+rest-signed n d h =
+    go n ((natAbs n + d / 2) / d) ((natAbs n + d / 2) % d) (div-add-mod' (natAbs n + d / 2) d) ∙
+    ap (λ z. n -ℤ z *ℤ pos d) (round-signed n d h)
+  where
+    split : (m q r k : ℕ) → q * d + r ≡ m + k → pos m ≡ pos q *ℤ pos d +ℤ (pos r -ℤ pos k)
+    split m q r k e =
+        ring 2 (λ m k. m ≈ (m ⊕ k) ⊖ k) refl (pos m) (pos k) ∙ ap (λ (j : ℕ). pos j -ℤ pos k) (sym e) ∙
+        ring 3 (λ a r k. (a ⊕ r) ⊖ k ≈ a ⊕ (r ⊖ k)) refl (pos (q * d)) (pos r) (pos k)
+
+    go : (n : ℤ) (q r : ℕ) → q * d + r ≡ natAbs n + d / 2
+        → cond (ltZ n (pos 0)) (negℤ (pos r -ℤ pos (d / 2))) (pos r -ℤ pos (d / 2))
+        ≡ n -ℤ cond (ltZ n (pos 0)) (negℤ (pos q)) (pos q) *ℤ pos d
+    go (pos m) q r e =
+        ap (λ (t : Bool). cond t (negℤ (pos r -ℤ pos (d / 2))) (pos r -ℤ pos (d / 2))) (le-ltb m 0 zero-le) ∙
+        ring 2 (λ a z. z ≈ (a ⊕ z) ⊖ a) refl (pos q *ℤ pos d) (pos r -ℤ pos (d / 2)) ∙
+        ap (λ z. z -ℤ pos q *ℤ pos d) (sym (split m q r (d / 2) e)) ∙
+        ap (λ (t : Bool). pos m -ℤ cond t (negℤ (pos q)) (pos q) *ℤ pos d) (sym (le-ltb m 0 zero-le))
+    go (negsuc m) q r e =
+        ring 3 (λ q d z. ⊝ z ≈ (⊝ (q ⊗ d ⊕ z)) ⊖ (⊝ q) ⊗ d) refl (pos q) (pos d) (pos r -ℤ pos (d / 2)) ∙
+        ap (λ z. negℤ z -ℤ negℤ (pos q) *ℤ pos d) (sym (split (suc m) q r (d / 2) e))
 
 -- ---- the sample: rounding by 2²⁸
 

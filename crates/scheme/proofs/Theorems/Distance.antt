@@ -26,7 +26,7 @@ use Rattle.scheme.specs.Instruments.{points, moving, freeEnd}
 use Rattle.scheme.specs.Step.{numerator, roundAway, forceOf, divisor, nextAt, nextLevel}
 use Rattle.scheme.specs.Energy.{weight, squares}
 use Rattle.scheme.specs.Book.{LastStep, stepOf, Book, fresh, scale, unroundedAt, unroundedStep, unroundedSteps, sameInstrument}
-use Rattle.scheme.specs.Book.{goesOn, bookBlock, State, Call, start, calls}
+use Rattle.scheme.specs.Book.{goesOn, bookBlock, sumBlock, State, Call, start, calls}
 use Rattle.scheme.specs.Claims.{WithinBound, Near, DistanceBound}
 use Rattle.scheme.proofs.Laws.Bools.{and-both}
 use Rattle.scheme.proofs.Laws.Rounding.{round-near}
@@ -102,7 +102,7 @@ module _ (i : Instrument) (h : Hit) (older newer : List ℤ) where
 abbrev pub gap : Settings → ℕ → List ℤ → List ℤ → Level
 gap c n xs ys = (scale c n ⊡ point xs) ⊞ (negsuc 0 ⊡ point ys)
 
-scale-suc : (c : Settings) (n : ℕ) → scale c (suc n) ≡ scale c n *ℤ pos (divisor c)
+pub scale-suc : (c : Settings) (n : ℕ) → scale c (suc n) ≡ scale c n *ℤ pos (divisor c)
 scale-suc c n = ap pos (N.pow-suc (divisor c) n)
 
 gap-same : (c : Settings) (xs : List ℤ) → gap c 0 xs xs ≡ zeros
@@ -180,7 +180,7 @@ pub record StepsKeep (P : OfErrors) : Type 0 where
 -- ---- the last step
 
 -- the test tells the instrument whole: a field that it left out could not be proved equal here
-same-is : (i l : Instrument) → sameInstrument i l ≡ true → l ≡ i
+pub same-is : (i l : Instrument) → sameInstrument i l ≡ true → l ≡ i
 same-is i l e =
     let s = and-both _ _ e in
     let m = and-both _ _ (s .0) in
@@ -283,7 +283,7 @@ module _ (P : OfErrors) (kept : StepsKeep P) where
       go v false q = beside-start i ok (t .book .last) (t .older) (t .newer)
 
   steps-keep : (i : Instrument) (h : Hit) (k : ℕ) → InstrumentPasses i → (t : State) → Invariant t → Invariant (stepped i h k t)
-  unfolding bookBlock levelsAfter
+  unfolding bookBlock sumBlock levelsAfter
   steps-keep i h zero ok t v = v
   steps-keep i h (suc k) ok t v =
       let b : Book = cond (goesOn i (t .book .last)) (t .book) (fresh (t .book .last) (t .older) (t .newer)) in

@@ -1,4 +1,4 @@
--- What a call does to the two levels and the book: one of three effects.
+-- What a call does to the two levels, the book and the sum of counts: one of three effects.
 -- A theorem about lists of calls is proved once over effects; each call has one law that tells its effect.
 use mathlib.Core.Path.{_≡_, refl, ap, _∙_}
 use mathlib.Core.Bool.{Bool, true, false}
@@ -15,21 +15,26 @@ use Rattle.types.specs.declared.Refusal.the-variants.{Nothing}
 use Rattle.pluck_table.specs.Table.{table}
 use Rattle.scheme.specs.Pluck.{pluckLevel}
 use Rattle.scheme.specs.Refusals.{wrongLength, blockRefusal, pluckRefusal}
-use Rattle.scheme.specs.Calls.{accepted, AfterSteps, play, levelsAfter, AfterBlock, AfterPluck, block, pluck}
-use Rattle.scheme.specs.Book.{fresh, bookBlock, bookPluck, Call, blockCall, pluckCall, leaves, bookCall, State, stateAfter, called}
-use Rattle.scheme.specs.Book.{calls, Outcome, EachCall}
+use Rattle.scheme.specs.Calls.{accepted, AfterSteps, play, levelsAfter, inexactAfter, capped, AfterBlock, AfterPluck, block, pluck}
+use Rattle.scheme.specs.Book.{fresh, bookBlock, bookPluck, sumBlock, sumPluck, Call, blockCall, pluckCall, leaves, bookCall}
+use Rattle.scheme.specs.Book.{sumCall, State, stateAfter, called, calls, Outcome, EachCall}
 use Rattle.scheme.specs.Passing.{InstrumentPasses}
 use Rattle.scheme.proofs.Laws.Refusals.{accepted-is, instrument-passes, block-passes}
 use Rattle.scheme.proofs.Laws.Calls.{stands-behind, all-done, block-done, block-refused, pluck-done, pluck-refused}
 
--- k steps of an instrument, the hit in the first, of the levels and in the book
+-- k steps of an instrument, the hit in the first, of the levels and in the book, and their inexact points
 abbrev pub stepped : Instrument → Hit → ℕ → State → State
 stepped i h k t = let after = levelsAfter i h k (t .older) (t .newer) in
-    record { older = after .older; newer = after .newer; book = bookBlock i h (t .older) (t .newer) k (t .book) }
+    record {
+      older = after .older;
+      newer = after .newer;
+      book = bookBlock i h (t .older) (t .newer) k (t .book);
+      inexact = sumBlock i k (capped (inexactAfter i h k (t .older) (t .newer))) (t .book) (t .inexact);
+    }
 
 -- both levels overwritten, in the book with n 0
 abbrev pub overwrote : List ℤ → State → State
-overwrote xs t = record { older = xs; newer = xs; book = fresh (t .book .last) xs xs }
+overwrote xs t = record { older = xs; newer = xs; book = fresh (t .book .last) xs xs; inexact = 0 }
 
 pub data Effect (t t′ : State) : Type 0 where
   nothing : t′ ≡ t → Effect t t′
@@ -48,11 +53,16 @@ module _ (i : Instrument) (work samples : List ℤ) (pick : ℕ) (h : Hit) (t : 
   after = play i pick h (t .older) (t .newer) samples
 
   left : AfterBlock → State
-  left r = record { older = r .older; newer = r .newer; book = bookBlock i h (t .older) (t .newer) (r .answer .steps) (t .book) }
+  left r = record {
+    older = r .older;
+    newer = r .newer;
+    book = bookBlock i h (t .older) (t .newer) (r .answer .steps) (t .book);
+    inexact = sumBlock i (r .answer .steps) (r .answer .inexact) (t .book) (t .inexact);
+  }
 
   -- an accepted block: the steps that it has done
   pub block-stepped : refused ≡ Nothing → afterCall (blockCall i work samples pick h) t ≡ stepped i h (after .answer .steps) t
-  unfolding leaves bookCall left
+  unfolding leaves bookCall sumCall left
   block-stepped e =
       let s = stands-behind i pick h (t .older) (t .newer) samples in
       ap left (block-done i (t .older) (t .newer) work samples pick h e) ∙
@@ -60,10 +70,11 @@ module _ (i : Instrument) (work samples : List ℤ) (pick : ℕ) (h : Hit) (t : 
         older = s .older-is x;
         newer = s .newer-is x;
         book = bookBlock i h (t .older) (t .newer) (after .answer .steps) (t .book);
+        inexact = sumBlock i (after .answer .steps) (capped (s .counted x)) (t .book) (t .inexact);
       })
 
   block-effect : Effect t (afterCall (blockCall i work samples pick h) t)
-  unfolding leaves bookCall bookBlock left
+  unfolding leaves bookCall bookBlock sumCall sumBlock left
   block-effect = go (accepted refused) refl
     where
       go : (x : Bool) → accepted refused ≡ x → Effect t (left (block i (t .older) (t .newer) work samples pick h))
@@ -90,17 +101,27 @@ block-cut i work samples pick h t e j l =
     long = length-replicate (suc j) (pos 0)
 
 pluck-effect : (g : Grid) (c w : ℕ) (a : ℤ) (t : State) → Effect t (afterCall (pluckCall g c w a) t)
-unfolding leaves bookCall bookPluck
+unfolding leaves bookCall bookPluck sumCall sumPluck
 pluck-effect g c w a t = go (accepted (pluckRefusal g (length (t .older)) (length (t .newer)) c w a)) refl
   where
     left : AfterPluck → State
-    left r = record { older = r .older; newer = r .newer; book = bookPluck (accepted (r .refusal)) (pluckLevel table g c w a) (t .book) }
+    left r = record {
+      older = r .older;
+      newer = r .newer;
+      book = bookPluck (accepted (r .refusal)) (pluckLevel table g c w a) (t .book);
+      inexact = sumPluck (accepted (r .refusal)) (t .inexact);
+    }
 
     go : (x : Bool) → accepted (pluckRefusal g (length (t .older)) (length (t .newer)) c w a) ≡ x
         → Effect t (left (pluck g (t .older) (t .newer) c w a))
     go true e = overwrites (pluckLevel table g c w a) (ap left (pluck-done g (t .older) (t .newer) c w a (accepted-is _ e)))
     go false e = nothing (ap left (pluck-refused g (t .older) (t .newer) c w a e) ∙
-        ap (λ (x : Bool). record { older = t .older; newer = t .newer; book = bookPluck x (pluckLevel table g c w a) (t .book) }) e)
+        ap (λ (x : Bool). record {
+          older = t .older;
+          newer = t .newer;
+          book = bookPluck x (pluckLevel table g c w a) (t .book);
+          inexact = sumPluck x (t .inexact);
+        }) e)
 
 -- the effect of each call
 pub effect-of : (k : Call) (t : State) → Effect t (afterCall k t)
