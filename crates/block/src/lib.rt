@@ -28,6 +28,7 @@ pub fn block(
     let refusal = turn.refusal;
     let answer = BlockAnswer {
         steps: turn.steps,
+        inexact: turn.inexact,
         refusal,
     };
     if !turn.begun {

@@ -1,6 +1,6 @@
 -- A list that is filled, and runs that fill it: how they begin, grow and end.
-use mathlib.Core.Path.{_≡_, refl, sym, _∙_, subst}
-use mathlib.Core.Bool.{Bool, true, false, true≢false}
+use mathlib.Core.Path.{_≡_, refl, sym, ap, _∙_, subst}
+use mathlib.Core.Bool.{Bool, true, false, cond, _&&_, true≢false}
 use mathlib.Core.List.{List}
 use mathlib.Core.Logic.{_⊎_, inl, inr}
 use Prim.Native.Nat.{ℕ, _+_, _-_, _≤_, _<_}
@@ -11,8 +11,10 @@ use lib.ListN.{length, set, length-set}
 use lib.Seq.{getD-set-same, getD-set-other}
 use Rattle.scheme.specs.Lists.{point}
 use Rattle.scheme.specs.Instruments.{beyond}
+use Rattle.steps.specs.declared.progress.Progress.{Progress}
 use Rattle.steps.specs.declared.stretch.Stretch.{Stretch}
-use Rattle.steps.specs.Run.{Filled, NoneBeyond, OneBeyond, Ran, Placed}
+use Rattle.steps.specs.Run.{Next, Filled, NoneBeyond, OneBeyond, Counted, Ran, Placed}
+use Rattle.steps.proofs.CountLaws.{counted-none, counted-one, counted-append, counted-most, counted-same}
 
 -- k between from and from + 1 is from
 one-place : (from k : ℕ) → from ≤ k → k < from + 1 → k ≡ from
@@ -80,69 +82,99 @@ module _ (v : ℕ → ℤ) (write : Bool) (base : ℕ) where
 
 -- ---- runs
 
+-- every value within the ceiling, n of those written inexact
+abbrev pub passed : ℕ → Progress
+passed n = record { within = true; inexact = n }
+
 low-there : (v : ℕ → ℤ) (at : ℕ) → beyond (v at) ≡ false → NoneBeyond v at (at + 1)
 low-there v at b k p q = subst (λ (k : ℕ). beyond (v k) ≡ false) (sym (one-place at k p q)) b
 
-module _ {v : ℕ → ℤ} {write : Bool} {base : ℕ} where
-  -- none of the points
-  pub ran-none : (out : List ℤ) (a : ℕ) → Ran v write base out out a a true
-  ran-none out a = record {
-    long = refl;
-    filled = λ t. filled-none v write base out a;
-    low = λ t k p q. absurd (omega arith);
-    stopped = λ t. absurd (true≢false t);
-  }
+-- the values, and what is counted of them
+abbrev valueOf : (ℕ → Next) → ℕ → ℤ
+valueOf v k = v k .value
 
-  -- all of them
-  pub ran-all : {out₀ out : List ℤ} {a b : ℕ} → Filled v write base out₀ out a b → NoneBeyond v a b → Ran v write base out₀ out a b true
-  ran-all f low = record { long = f .long; filled = λ t. f; low = λ t. low; stopped = λ t. absurd (true≢false t) }
+abbrev testOf : Bool → (ℕ → Next) → ℕ → Bool
+testOf write v k = write && v k .inexact
+
+module _ {v : ℕ → Next} {write : Bool} {base : ℕ} where
+  -- all of the points
+  pub ran-all : {out₀ out : List ℤ} {a b n : ℕ} → Filled (valueOf v) write base out₀ out a b → NoneBeyond (valueOf v) a b → Counted (testOf write v) a b n
+      → Ran v write base out₀ out a b (passed n)
+  ran-all f low c = record { long = f .long; filled = λ t. f; low = λ t. low; counted = λ t. c; stopped = λ t. absurd (true≢false t) }
+
+  -- none of them
+  pub ran-none : (out : List ℤ) (a : ℕ) → Ran v write base out out a a (passed 0)
+  ran-none out a = ran-all (filled-none (valueOf v) write base out a) (λ k p q. absurd (omega arith)) (counted-none a)
 
   -- one lies beyond the ceiling
-  pub ran-not : {out₀ out : List ℤ} {a b : ℕ} → length out ≡ length out₀ → OneBeyond v a b → Ran v write base out₀ out a b false
-  ran-not l o = record { long = l; filled = λ t. absurd (true≢false (sym t)); low = λ t. absurd (true≢false (sym t)); stopped = λ t. o }
+  pub ran-not : {out₀ out : List ℤ} {a b : ℕ} {r : Progress} → length out ≡ length out₀ → OneBeyond (valueOf v) a b → r .within ≡ false
+      → Ran v write base out₀ out a b r
+  ran-not l o e = record {
+    long = l;
+    filled = λ t. absurd (true≢false (sym t ∙ e));
+    low = λ t. absurd (true≢false (sym t ∙ e));
+    counted = λ t. absurd (true≢false (sym t ∙ e));
+    stopped = λ t. o;
+  }
 
   -- one point: beyond the ceiling, written, or tested alone
   module _ (out : List ℤ) (at : ℕ) where
-    pub point-beyond : beyond (v at) ≡ true → Ran v write base out out at (at + 1) false
-    point-beyond b = ran-not refl (record { at = at; first = omega arith; last = omega arith; beyond-there = b })
+    pub point-beyond : beyond (v at .value) ≡ true → Ran v write base out out at (at + 1) (record { within = false; inexact = 0 })
+    point-beyond b = ran-not refl (record { at = at; first = omega arith; last = omega arith; beyond-there = b }) refl
 
-    pub point-written : (x : ℤ) → write ≡ true → base ≤ at → at < base + length out → x ≡ v at → beyond (v at) ≡ false
-        → Ran v write base out (set out (at - base) x) at (at + 1) true
-    point-written x w low high e b = ran-all (filled-one v write base out at x w low high e) (low-there v at b)
+    pub point-written : (x : ℤ) (n : ℕ) → write ≡ true → base ≤ at → at < base + length out → x ≡ v at .value → n ≡ cond (v at .inexact) 1 0
+        → beyond (v at .value) ≡ false → Ran v write base out (set out (at - base) x) at (at + 1) (passed n)
+    point-written x n w low high e c b =
+        ran-all (filled-one (valueOf v) write base out at x w low high e) (low-there (valueOf v) at b)
+        (counted-one at n (c ∙ ap (λ (t : Bool). cond (t && v at .inexact) 1 0) (sym w)))
 
-    pub point-tested : write ≡ false → beyond (v at) ≡ false → Ran v write base out out at (at + 1) true
-    point-tested w b = ran-all (filled-not v write base out at (at + 1) w) (low-there v at b)
+    pub point-tested : write ≡ false → beyond (v at .value) ≡ false → Ran v write base out out at (at + 1) (passed 0)
+    point-tested w b = ran-all (filled-not (valueOf v) write base out at (at + 1) w) (low-there (valueOf v) at b)
+        (counted-one at 0 (ap (λ (t : Bool). cond (t && v at .inexact) 1 0) (sym w)))
 
-  module _ {out₀ out₁ out₂ : List ℤ} {a b c : ℕ} where
+  -- what was answered, by the test that was made of it
+  pub ran-passed : {out₀ out : List ℤ} {a b : ℕ} {r : Progress} → r .within ≡ true → Ran v write base out₀ out a b r
+      → Ran v write base out₀ out a b (passed (r .inexact))
+  ran-passed {out₀} {out} {a} {b} {r} e q = coe 0 1 (j. Ran v write base out₀ out a b (record { within = e j; inexact = r .inexact })) q
+
+  module _ {out₀ out₁ out₂ : List ℤ} {a b c m : ℕ} (above : base ≤ a) (l : a ≤ b) (h : b ≤ c) (p : Ran v write base out₀ out₁ a b (passed m))
+      where
     -- one run after the other
-    pub ran-append : {fine : Bool} → base ≤ a → a ≤ b → b ≤ c → Ran v write base out₀ out₁ a b true → Ran v write base out₁ out₂ b c fine
-        → Ran v write base out₀ out₂ a c fine
-    ran-append above l m p q = record {
+    pub ran-append : {n : ℕ} → Ran v write base out₁ out₂ b c (passed n) → Ran v write base out₀ out₂ a c (passed (m + n))
+    ran-append q = record {
       long = q .long ∙ p .long;
-      filled = λ t. filled-append v write base above l m (p .filled refl) (q .filled t);
-      low = λ t k s h. by k (λ u. p .low refl k s u) (λ u. q .low t k u h);
-      stopped = λ t. let o = q .stopped t in record
-          { at = o .at; first = omega (arith, o .first); last = o .last; beyond-there = o .beyond-there };
+      filled = λ t. filled-append (valueOf v) write base above l h (p .filled refl) (q .filled refl);
+      low = λ t k s h. by k (λ u. p .low refl k s u) (λ u. q .low refl k u h);
+      counted = λ t. counted-append (p .counted refl) (q .counted refl);
+      stopped = λ t. absurd (true≢false t);
     }
 
-  -- a run that stopped on the way
-  pub ran-stops : {out₀ out : List ℤ} {a b c : ℕ} → b ≤ c → Ran v write base out₀ out a b false → Ran v write base out₀ out a c false
-  ran-stops m p =
-      let o = p .stopped refl in
-      ran-not (p .long) (record { at = o .at; first = o .first; last = omega (arith, o .last); beyond-there = o .beyond-there })
+    -- the other one stopped
+    pub ran-stops : {d : ℕ} {r : Progress} → c ≤ d → Ran v write base out₁ out₂ b c r → r .within ≡ false
+        → Ran v write base out₀ out₂ a d r
+    ran-stops m q e =
+        let o = q .stopped e in
+        ran-not (q .long ∙ p .long)
+        (record { at = o .at; first = omega (arith, o .first); last = omega (arith, o .last); beyond-there = o .beyond-there }) e
 
--- the same run, by other words for its values
-pub ran-same : {v w : ℕ → ℤ} {write : Bool} {base : ℕ} {out₀ out : List ℤ} {a b : ℕ} {fine : Bool} → ((k : ℕ) → a ≤ k → k < b → v k ≡ w k)
-    → Ran v write base out₀ out a b fine → Ran w write base out₀ out a b fine
-ran-same same p = record {
+-- the same run, by other words for what is made of its points
+pub ran-same : {v w : ℕ → Next} {write : Bool} {base : ℕ} {out₀ out : List ℤ} {a b : ℕ} {r : Progress} → a ≤ b
+    → ((k : ℕ) → a ≤ k → k < b → v k ≡ w k)
+    → Ran v write base out₀ out a b r → Ran w write base out₀ out a b r
+ran-same {write = write} l same p = record {
   long = p .long;
-  filled = λ t. let f = p .filled t in record { long = f .long; written = λ u k s h. f .written u k s h ∙ same k s h; kept = f .kept };
-  low = λ t k s h. subst (λ (z : ℤ). beyond z ≡ false) (same k s h) (p .low t k s h);
+  filled = λ t. let f = p .filled t in record {
+    long = f .long;
+    written = λ u k s h. f .written u k s h ∙ ap (λ (x : Next). x .value) (same k s h);
+    kept = f .kept;
+  };
+  low = λ t k s h. subst (λ (x : Next). beyond (x .value) ≡ false) (same k s h) (p .low t k s h);
+  counted = λ t. counted-same l (λ k s h. ap (λ (x : Next). write && x .inexact) (same k s h)) (p .counted t);
   stopped = λ t. let o = p .stopped t in record {
     at = o .at;
     first = o .first;
     last = o .last;
-    beyond-there = subst (λ (z : ℤ). beyond z ≡ true) (same (o .at) (o .first) (o .last)) (o .beyond-there);
+    beyond-there = subst (λ (x : Next). beyond (x .value) ≡ true) (same (o .at) (o .first) (o .last)) (o .beyond-there);
   };
 }
 
@@ -150,42 +182,43 @@ ran-same same p = record {
 pub placed-after : {s : Stretch} {m n : ℕ} → Placed s m → n ≡ m → Placed s n
 placed-after {s} p e = subst (Placed s) (sym e) p
 
--- ---- a loop over a run: the points from..at are done
+-- ---- a loop over a run: the points from..at are done, n of them inexact
 
-pub record Running (v : ℕ → ℤ) (write : Bool) (base : ℕ) (out₀ : List ℤ) (from to : ℕ) (out : List ℤ) (at : ℕ) : Type 0 where
-  pub ran : Ran v write base out₀ out from at true
+pub record Running (v : ℕ → Next) (write : Bool) (base : ℕ) (out₀ : List ℤ) (from to : ℕ) (out : List ℤ) (at n : ℕ) : Type 0 where
+  pub ran : Ran v write base out₀ out from at (passed n)
   pub above : base ≤ from
   pub order : from ≤ at
   pub upto : at ≤ to
 
-module _ {v : ℕ → ℤ} {write : Bool} {base : ℕ} where
-  pub running-start : (out : List ℤ) (from to : ℕ) → base ≤ from → from ≤ to → Running v write base out from to out from
+module _ {v : ℕ → Next} {write : Bool} {base : ℕ} where
+  pub running-start : (out : List ℤ) (from to : ℕ) → base ≤ from → from ≤ to → Running v write base out from to out from 0
   running-start out from to above h = record { ran = ran-none out from; above = above; order = omega arith; upto = h }
 
-  module _ {out₀ out out′ : List ℤ} {from to at next : ℕ} (g : Running v write base out₀ from to out at) where
+  module _ {out₀ out out′ : List ℤ} {from to at next n : ℕ} {r : Progress} (g : Running v write base out₀ from to out at n) (h : at ≤ next)
+      (q : Ran v write base out out′ at next r) where
     -- some points more
-    pub running-on : at ≤ next → next ≤ to → Ran v write base out out′ at next true → Running v write base out₀ from to out′ next
-    running-on h l q = record {
-      ran = ran-append (g .above) (g .order) h (g .ran) q;
-      above = g .above;
-      order = omega (arith, g .order);
-      upto = l;
-    }
+    module _ (e : r .within ≡ true) where
+      more : Ran v write base out₀ out′ from next (passed (n + r .inexact))
+      more = ran-append (g .above) (g .order) h (g .ran) (ran-passed e q)
+
+      pub running-on : next ≤ to → Running v write base out₀ from to out′ next (n + r .inexact)
+      running-on l = record { ran = more; above = g .above; order = omega (arith, g .order); upto = l }
+
+      -- no more of them are inexact than there are
+      pub running-most : n + r .inexact ≤ next
+      running-most = counted-most (more .counted refl)
 
     -- one of them lies beyond the ceiling
-    pub running-stops : at ≤ next → next ≤ to → Ran v write base out out′ at next false → Ran v write base out₀ out′ from to false
-    running-stops h l q = ran-stops l (ran-append (g .above) (g .order) h (g .ran) q)
+    pub running-stops : next ≤ to → r .within ≡ false → Ran v write base out₀ out′ from to r
+    running-stops l e = ran-stops (g .above) (g .order) h (g .ran) l q e
 
   -- at its end
-  pub running-done : {out₀ out : List ℤ} {from to at : ℕ} → Running v write base out₀ from to out at → to ≤ at
-      → Ran v write base out₀ out from to true
-  running-done {out₀} {out} {from} {to} g h = subst (λ (n : ℕ). Ran v write base out₀ out from n true) (omega (arith, g .upto)) (g .ran)
+  pub running-done : {out₀ out : List ℤ} {from to at n : ℕ} → Running v write base out₀ from to out at n → to ≤ at
+      → Ran v write base out₀ out from to (passed n)
+  running-done {out₀} {out} {from} {to} {n = n} g h =
+      subst (λ (m : ℕ). Ran v write base out₀ out from m (passed n)) (omega (arith, g .upto)) (g .ran)
 
   -- the same run, by other words for its end
-  pub ran-ends : {out₀ out : List ℤ} {a b b′ : ℕ} {fine : Bool} → b ≡ b′ → Ran v write base out₀ out a b fine
-      → Ran v write base out₀ out a b′ fine
-  ran-ends {out₀} {out} {a} {fine = fine} e q = subst (λ (n : ℕ). Ran v write base out₀ out a n fine) e q
-
-  -- what was answered, by the test that was made of it
-  pub ran-fine : {out₀ out : List ℤ} {a b : ℕ} {r t : Bool} → r ≡ t → Ran v write base out₀ out a b r → Ran v write base out₀ out a b t
-  ran-fine {out₀} {out} {a} {b} e q = subst (Ran v write base out₀ out a b) e q
+  pub ran-ends : {out₀ out : List ℤ} {a b b′ : ℕ} {r : Progress} → b ≡ b′ → Ran v write base out₀ out a b r
+      → Ran v write base out₀ out a b′ r
+  ran-ends {out₀} {out} {a} {r = r} e q = subst (λ (n : ℕ). Ran v write base out₀ out a n r) e q

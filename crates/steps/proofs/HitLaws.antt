@@ -1,8 +1,8 @@
 -- The next values of moving points, by the force that a hit has on them.
 use mathlib.Core.Path.{_≡_, refl, sym, ap, _∙_, subst}
-use mathlib.Core.Bool.{Bool, true, false, _&&_, true≢false}
+use mathlib.Core.Bool.{Bool, true, false, not, _&&_, true≢false}
 use mathlib.Core.List.{List}
-use Prim.Native.Nat.{ℕ, _≤_, _<_, zero-le}
+use Prim.Native.Nat.{ℕ, _+_, _-_, _≤_, _<_, zero-le}
 use native.Mathlib.Omega.{arith}
 use borrow.Author.Tests.{ltb-false, le-leb, lt-ltb}
 use lib.Dec.{leb, ltb, eqb}
@@ -15,15 +15,17 @@ use Rattle.types.specs.declared.Hit.{Hit}
 use Rattle.types.specs.declared.Hit.the-variants.{Absent, At}
 use Rattle.types.specs.Numbers.{ceiling}
 use Rattle.scheme.specs.Lists.{point}
-use Rattle.scheme.specs.Instruments.{moving}
-use Rattle.scheme.specs.Step.{laplacian, biharmonic, numeratorOf, numerator, roundAway, forceOf, divisor, nextAt}
+use Rattle.scheme.specs.Instruments.{points, moving}
+use Rattle.scheme.specs.Step.{laplacian, biharmonic, numeratorOf, numerator, roundAway, forceOf, divisor, isMultiple, inexactAt}
 use Rattle.scheme.specs.Refusals.{tooStrong}
-use Rattle.scheme.proofs.Laws.Step.{next-moving}
+use Rattle.scheme.proofs.Laws.Bools.{and-yes}
+use Rattle.scheme.proofs.Laws.Step.{moving-inside, next-moving}
 use Rattle.steps.specs.declared.plan.Plan.{Plan}
+use Rattle.steps.specs.declared.progress.Progress.{Progress}
 use Rattle.steps.specs.declared.stretch.Stretch.{Stretch}
 use Rattle.steps.specs.Plan.{Ready}
-use Rattle.steps.specs.Run.{valueAt, Ran, Placed, Moves, Ends, hitIn}
-use Rattle.steps.proofs.FillLaws.{Running, running-on, running-stops, ran-same}
+use Rattle.steps.specs.Run.{nextBy, nextOf, Ran, Placed, Moves, Ends, hitIn}
+use Rattle.steps.proofs.FillLaws.{Running, running-on, running-most, running-stops, ran-same}
 use Rattle.steps.proofs.StretchLaws.{force-away}
 
 -- a force within the ceiling
@@ -48,15 +50,27 @@ ready-force r l = record {
 some-move : {g : Grid} {from to a b : ℕ} → Moves g from to → from ≤ a → a ≤ b → b ≤ to → Moves g a b
 some-move m l o h = record { order = o; each = λ k p q. m .each k (omega arith) (omega arith) }
 
--- the value with the hit's force is the scheme's
+-- they lie in the grid
+pub run-inside : {g : Grid} {from to : ℕ} → Moves g from to → from < to → to ≤ points g
+run-inside {g} {from} {to} m s =
+    let last : to - 1 < points g = moving-inside g (to - 1) (m .each (to - 1) (omega arith) (omega arith)) in
+    omega arith
+
+-- what is made of a point with the hit's force is the scheme's
 next-value : (i : Instrument) (h : Hit) (older newer : List ℤ) (f : ℤ) (k : ℕ) → moving (i .grid) k ≡ true → forceOf h k ≡ f
-    → valueAt i f older newer k ≡ nextAt i h older newer k
-unfolding valueAt numerator
+    → nextBy i f older newer k ≡ nextOf i h older newer k
+unfolding nextBy numerator inexactAt
 next-value i h older newer f k m e =
-    ap (λ (z : ℤ). roundAway (numeratorOf (i .settings) (point newer k) (laplacian (i .grid) (point newer) k)
-    (biharmonic (i .grid) (point newer) k)
-    (point older k) z) (divisor (i .settings))) (sym e) ∙
-    sym (next-moving i h older newer k m)
+    let value = ap (λ (z : ℤ). roundAway (num z) d) (sym e) ∙ sym (next-moving i h older newer k m) in
+    let inexact = ap (λ (z : ℤ). not (isMultiple (num z) d)) (sym e) ∙ sym (and-yes m) in
+    λ j. record { value = value j; inexact = inexact j }
+  where
+    num : ℤ → ℤ
+    num z = numeratorOf (i .settings) (point newer k) (laplacian (i .grid) (point newer) k) (biharmonic (i .grid) (point newer) k)
+        (point older k) z
+
+    d : ℕ
+    d = divisor (i .settings)
 
 pub hit-nowhere : (from to : ℕ) → hitIn Absent from to ≡ false
 unfolding hitIn
@@ -68,12 +82,12 @@ hit-at p f from to = refl
 
 -- where the hit is not, there is no force
 pub no-force : (i : Instrument) (h : Hit) (older newer : List ℤ) (f : ℤ) {write : Bool} {base : ℕ} {out out′ : List ℤ} {from to : ℕ}
-    {fine : Bool}
-    → Moves (i .grid) from to → hitIn h from to ≡ false → f ≡ pos 0 → Ran (valueAt i f older newer) write base out out′ from to fine
-    → Ran (nextAt i h older newer) write base out out′ from to fine
+    {r : Progress}
+    → Moves (i .grid) from to → hitIn h from to ≡ false → f ≡ pos 0 → Ran (nextBy i f older newer) write base out out′ from to r
+    → Ran (nextOf i h older newer) write base out out′ from to r
 unfolding hitIn
 no-force i h older newer f {from = from} {to = to} m e z =
-    ran-same (λ k a b. next-value i h older newer f k (m .each k a b) (away h e k a b ∙ sym z))
+    ran-same (m .order) (λ k a b. next-value i h older newer f k (m .each k a b) (away h e k a b ∙ sym z))
   where
     away : (h : Hit) → hitIn h from to ≡ false → (k : ℕ) → from ≤ k → k < to → forceOf h k ≡ pos 0
     away Absent e k a b = refl
@@ -87,15 +101,15 @@ no-force i h older newer f {from = from} {to = to} m e z =
 
 -- ---- a loop over the stretches of a row
 
--- the points from `at` to `end` are the next stretch, with the force z on each; those before are done
-pub record Struck (p : Plan) (h : Hit) (older newer : List ℤ) (row : Stretch) (out₀ out : List ℤ) (at end : ℕ) (z : ℤ) : Type 0 where
+-- the points from `at` to `end` are the next stretch, with the force z on each; those before are done, n of them inexact
+pub record Struck (p : Plan) (h : Hit) (older newer : List ℤ) (row : Stretch) (out₀ out : List ℤ) (at n end : ℕ) (z : ℤ) : Type 0 where
   pub moves : Moves (p .instrument .grid) (row .from) (row .to)
-  pub inv : Running (nextAt (p .instrument) h older newer) (row .write) (row .base) out₀ (row .from) (row .to) out at
+  pub inv : Running (nextOf (p .instrument) h older newer) (row .write) (row .base) out₀ (row .from) (row .to) out at n
   pub ends : Ends h at (row .to) end
   pub force-is : z ≡ forceOf h at
 
-module _ {p : Plan} {h : Hit} {older newer : List ℤ} {row : Stretch} {out₀ out : List ℤ} {at end : ℕ} {z : ℤ}
-    (t : Struck p h older newer row out₀ out at end z) where
+module _ {p : Plan} {h : Hit} {older newer : List ℤ} {row : Stretch} {out₀ out : List ℤ} {at n end : ℕ} {z : ℤ}
+    (t : Struck p h older newer row out₀ out at n end z) where
   pub struck-ready : tooStrong h ≡ false → Ready p (pos 0) older newer → Ready p z older newer
   struck-ready low r = ready-force r (subst (λ (z : ℤ). natAbs z ≤ ceiling) (sym (t .force-is)) (force-low h low at))
 
@@ -110,18 +124,20 @@ module _ {p : Plan} {h : Hit} {older newer : List ℤ} {row : Stretch} {out₀ o
   pub struck-moves : Moves (p .instrument .grid) at end
   struck-moves = some-move (t .moves) (t .inv .order) (omega (arith, t .ends .some)) (t .ends .upto)
 
-  module _ {out′ : List ℤ} where
-    -- the values with that force are the scheme's
-    as-next : {fine : Bool} → Ran (valueAt (p .instrument) z older newer) (row .write) (row .base) out out′ at end fine
-        → Ran (nextAt (p .instrument) h older newer) (row .write) (row .base) out out′ at end fine
-    as-next q =
-        ran-same
+  module _ {out′ : List ℤ} {r : Progress} (q : Ran (nextBy (p .instrument) z older newer) (row .write) (row .base) out out′ at end r) where
+    -- what is made of the points with that force is the scheme's
+    as-next : Ran (nextOf (p .instrument) h older newer) (row .write) (row .base) out out′ at end r
+    as-next =
+        ran-same (struck-moves .order)
         (λ k a b. next-value (p .instrument) h older newer z k (struck-moves .each k a b) (t .ends .one-force k a b ∙ sym (t .force-is))) q
 
-    pub struck-on : Ran (valueAt (p .instrument) z older newer) (row .write) (row .base) out out′ at end true
-        → Running (nextAt (p .instrument) h older newer) (row .write) (row .base) out₀ (row .from) (row .to) out′ end
-    struck-on q = running-on (t .inv) (omega (arith, t .ends .some)) (t .ends .upto) (as-next q)
+    pub struck-on : r .within ≡ true
+        → Running (nextOf (p .instrument) h older newer) (row .write) (row .base) out₀ (row .from) (row .to) out′ end (n + r .inexact)
+    struck-on e = running-on (t .inv) (omega (arith, t .ends .some)) as-next e (t .ends .upto)
 
-    pub struck-stops : Ran (valueAt (p .instrument) z older newer) (row .write) (row .base) out out′ at end false
-        → Ran (nextAt (p .instrument) h older newer) (row .write) (row .base) out₀ out′ (row .from) (row .to) false
-    struck-stops q = running-stops (t .inv) (omega (arith, t .ends .some)) (t .ends .upto) (as-next q)
+    pub struck-most : r .within ≡ true → n + r .inexact ≤ end
+    struck-most e = running-most (t .inv) (omega (arith, t .ends .some)) as-next e
+
+    pub struck-stops : r .within ≡ false
+        → Ran (nextOf (p .instrument) h older newer) (row .write) (row .base) out₀ out′ (row .from) (row .to) r
+    struck-stops e = running-stops (t .inv) (omega (arith, t .ends .some)) as-next (t .ends .upto) e

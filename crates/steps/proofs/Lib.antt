@@ -1,4 +1,5 @@
 pub mod Held
+pub mod CountLaws
 pub mod FillLaws
 pub mod RoundLaws
 pub mod KindLaws

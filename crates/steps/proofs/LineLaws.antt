@@ -1,6 +1,6 @@
 -- A stretch of a line in three parts: its first point, its inner points, its last point, as far as they are in it.
-use mathlib.Core.Path.{_≡_, _∙_, subst}
-use mathlib.Core.Bool.{Bool, true, false}
+use mathlib.Core.Path.{_≡_, refl, _∙_, subst}
+use mathlib.Core.Bool.{false}
 use mathlib.Core.List.{List}
 use Prim.Native.Nat.{ℕ, _+_, _-_, _≤_, _<_, zero-le}
 use native.Mathlib.Nat as N
@@ -11,10 +11,12 @@ use Rattle.types.specs.declared.Grid.{Grid}
 use Rattle.types.specs.declared.Instrument.{Instrument}
 use Rattle.scheme.specs.Passing.{InstrumentPasses}
 use Rattle.steps.specs.declared.plan.Plan.{Plan}
+use Rattle.steps.specs.declared.progress.Progress.{Progress}
 use Rattle.steps.specs.declared.stretch.Stretch.{Stretch}
 use Rattle.steps.specs.Plan.{Ready}
 use Rattle.steps.specs.Run.{Advanced, Moves, OnLine, FreeEnd, clamp}
-use Rattle.steps.proofs.FillLaws.{ran-append, ran-stops, ran-ends}
+use Rattle.steps.proofs.CountLaws.{counted-most}
+use Rattle.steps.proofs.FillLaws.{passed, ran-none, ran-append, ran-stops, ran-ends}
 use Rattle.steps.proofs.KindLaws.{line-long, wide}
 use Rattle.steps.proofs.BesideLaws.{within-line, first-free, last-free}
 use Rattle.steps.proofs.StretchLaws.{clamped, clamp-before, clamp-after, clamp-low, clamp-high, clamp-rises}
@@ -76,32 +78,52 @@ module _ (s : Stretch) {p : Plan} {older newer : List ℤ} (r : Ready p (s .forc
   end : clamp (s .from) (s .to) n ≡ s .to
   end = clamp-after (s .from) (s .to) order n within
 
+  -- the parts in order
+  before : s .from ≤ clamp (s .from) (s .to) 1
+  before = clamp-low (s .from) (s .to) order 1
+
+  inner : clamp (s .from) (s .to) 1 ≤ clamp (s .from) (s .to) (n - 1)
+  inner = clamp-rises (s .from) (s .to) order 1 (n - 1) (omega (arith, three))
+
+  to-inner : s .from ≤ clamp (s .from) (s .to) (n - 1)
+  to-inner = clamp-low (s .from) (s .to) order (n - 1)
+
+  to-last : clamp (s .from) (s .to) (n - 1) ≤ clamp (s .from) (s .to) n
+  to-last = clamp-rises (s .from) (s .to) order (n - 1) n (omega arith)
+
   module _ (placed : s .base ≤ s .from) {out₀ out₁ : List ℤ} where
     -- from the first point of the stretch
-    from-first : {b : ℕ} {fine : Bool} → Advanced p s older newer out₀ out₁ (clamp (s .from) (s .to) 0) b fine
-        → Advanced p s older newer out₀ out₁ (s .from) b fine
-    from-first {b} {fine} q = subst (λ (a : ℕ). Advanced p s older newer out₀ out₁ a b fine) begin q
+    from-first : {b : ℕ} {r : Progress} → Advanced p s older newer out₀ out₁ (clamp (s .from) (s .to) 0) b r
+        → Advanced p s older newer out₀ out₁ (s .from) b r
+    from-first {b} {r} q = subst (λ (a : ℕ). Advanced p s older newer out₀ out₁ a b r) begin q
 
-    pub first-stops : Advanced p s older newer out₀ out₁ (clamp (s .from) (s .to) 0) (clamp (s .from) (s .to) 1) false
-        → Advanced p s older newer out₀ out₁ (s .from) (s .to) false
-    first-stops q = ran-stops (clamp-high (s .from) (s .to) order 1) (from-first q)
+    pub first-stops : {r : Progress} → Advanced p s older newer out₀ out₁ (clamp (s .from) (s .to) 0) (clamp (s .from) (s .to) 1) r
+        → r .within ≡ false → Advanced p s older newer out₀ out₁ (s .from) (s .to) r
+    first-stops q e =
+        ran-stops placed (omega arith) (clamp-low (s .from) (s .to) order 1) (ran-none out₀ (s .from)) (clamp-high (s .from) (s .to) order 1)
+        (from-first q) e
 
-    module _ (first : Advanced p s older newer out₀ out₁ (clamp (s .from) (s .to) 0) (clamp (s .from) (s .to) 1) true) {out₂ : List ℤ} where
-      two : {fine : Bool} → Advanced p s older newer out₁ out₂ (clamp (s .from) (s .to) 1) (clamp (s .from) (s .to) (n - 1)) fine
-          → Advanced p s older newer out₀ out₂ (s .from) (clamp (s .from) (s .to) (n - 1)) fine
-      two q =
-          ran-append placed (clamp-low (s .from) (s .to) order 1) (clamp-rises (s .from) (s .to) order 1 (n - 1) (omega (arith, three)))
-          (from-first first) q
+    module _ {m : ℕ} (first : Advanced p s older newer out₀ out₁ (clamp (s .from) (s .to) 0) (clamp (s .from) (s .to) 1) (passed m)) where
+      pub inner-stops : {out₂ : List ℤ} {r : Progress}
+          → Advanced p s older newer out₁ out₂ (clamp (s .from) (s .to) 1) (clamp (s .from) (s .to) (n - 1)) r → r .within ≡ false
+          → Advanced p s older newer out₀ out₂ (s .from) (s .to) r
+      inner-stops q e = ran-stops placed before inner (from-first first) (clamp-high (s .from) (s .to) order (n - 1)) q e
 
-      pub inner-stops : Advanced p s older newer out₁ out₂ (clamp (s .from) (s .to) 1) (clamp (s .from) (s .to) (n - 1)) false
-          → Advanced p s older newer out₀ out₂ (s .from) (s .to) false
-      inner-stops q = ran-stops (clamp-high (s .from) (s .to) order (n - 1)) (two q)
+      module _ {out₂ : List ℤ} {k : ℕ}
+          (q : Advanced p s older newer out₁ out₂ (clamp (s .from) (s .to) 1) (clamp (s .from) (s .to) (n - 1)) (passed k)) where
+        two : Advanced p s older newer out₀ out₂ (s .from) (clamp (s .from) (s .to) (n - 1)) (passed (m + k))
+        two = ran-append placed before inner (from-first first) q
 
-      pub all-parts : {out₃ : List ℤ} {fine : Bool}
-          → Advanced p s older newer out₁ out₂ (clamp (s .from) (s .to) 1) (clamp (s .from) (s .to) (n - 1)) true
-          → Advanced p s older newer out₂ out₃ (clamp (s .from) (s .to) (n - 1)) (clamp (s .from) (s .to) n) fine
-          → Advanced p s older newer out₀ out₃ (s .from) (s .to) fine
-      all-parts q t =
-          ran-ends end
-          (ran-append placed (clamp-low (s .from) (s .to) order (n - 1)) (clamp-rises (s .from) (s .to) order (n - 1) n (omega arith))
-          (two q) t)
+        pub last-stops : {out₃ : List ℤ} {r : Progress}
+            → Advanced p s older newer out₂ out₃ (clamp (s .from) (s .to) (n - 1)) (clamp (s .from) (s .to) n) r → r .within ≡ false
+            → Advanced p s older newer out₀ out₃ (s .from) (s .to) r
+        last-stops t e = ran-stops placed to-inner to-last two (clamp-high (s .from) (s .to) order n) t e
+
+        module _ {out₃ : List ℤ} {j : ℕ}
+            (t : Advanced p s older newer out₂ out₃ (clamp (s .from) (s .to) (n - 1)) (clamp (s .from) (s .to) n) (passed j)) where
+          pub all-parts : Advanced p s older newer out₀ out₃ (s .from) (s .to) (passed (m + k + j))
+          all-parts = ran-ends end (ran-append placed to-inner to-last two t)
+
+          -- no more points are inexact than there are
+          pub all-most : m + k + j ≤ n
+          all-most = omega (arith, counted-most (all-parts .counted refl), within)

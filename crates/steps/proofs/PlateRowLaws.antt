@@ -23,14 +23,15 @@ use Rattle.kinds.proofs.RunLaws.{run-is}
 use Rattle.levels.proofs.LevelLaws.{next-row}
 use Rattle.steps.specs.declared.plan.Plan.{Plan}
 use Rattle.steps.specs.declared.plates.SumRows.{SumRows}
+use Rattle.steps.specs.declared.progress.Progress.{Progress}
 use Rattle.steps.specs.Plan.{AtMost, innerSum}
 use Rattle.steps.specs.Run.{Filled, Stepping, fourBeside}
 use Rattle.steps.specs.Roles.{Steppable, Stepped}
 use Rattle.steps.specs.Plates.{SumRow, TwoRows, InRow}
 use Rattle.steps.proofs.KindLaws.{Edge, at-edge, wide, plate-sized}
-use Rattle.steps.proofs.FillLaws.{ran-none}
-use Rattle.steps.proofs.RowLaws.{RowRun, row-run, Rows, rows-start, rows-more, rows-stop, rows-done, steppable-ready, run-moves}
-use Rattle.steps.proofs.RowLaws.{row-room, stepped-all, stepped-not}
+use Rattle.steps.proofs.FillLaws.{passed, ran-none}
+use Rattle.steps.proofs.RowLaws.{RowRun, row-run, Rows, rows-start, rows-more, rows-most, rows-stop, rows-done, steppable-ready}
+use Rattle.steps.proofs.RowLaws.{run-moves, row-room, stepped-all, stepped-not}
 use Rattle.steps.proofs.PlateLaws.{put-low, sum-still, sum-around, sum-low}
 
 -- ---- the rows of a plate
@@ -95,10 +96,10 @@ turn-apart : {a b n : ℕ} → Turning a b → n ≤ 64 → (b + n ≤ a) ⊎ (a
 turn-apart zeroth h = inr (omega arith)
 turn-apart first h = inl (omega arith)
 
--- ---- a loop over the rows: those above have their next values, the sums of the row and of the one above it stand
+-- ---- a loop over the rows: those above have their next values, n of them inexact, the sums of the row and of the one above it stand
 
-pub record PlateRows (i : Instrument) (h : Hit) (older newer out₀ out sums : List ℤ) (other here row start : ℕ) : Type 0 where
-  pub rows : Rows i h older newer out₀ out row start
+pub record PlateRows (i : Instrument) (h : Hit) (older newer out₀ out sums : List ℤ) (other here row start n : ℕ) : Type 0 where
+  pub rows : Rows i h older newer out₀ out row start n
   pub some : 1 ≤ row
   pub upto : row + 1 ≤ i .grid .rows
   pub turning : Turning other here
@@ -135,9 +136,11 @@ module _ {p : Plan} {h : Hit} {older newer out₀ : List ℤ} (s : Steppable p h
     grid e = omega (arith, some-rows)
 
     -- a row that is passed over: nothing of it moves
-    ring-more : {out : List ℤ} {row start : ℕ} → Rows i h older newer out₀ out row start → row < g .rows → Edge (g .rows) row
-        → Rows i h older newer out₀ out (row + 1) (start + g .columns)
-    ring-more {out} {row} {start} l m e = rows-more s l m (run 0 0) (ring-run g size is-plate row m e) (ran-none out (start + 0))
+    ring-more : {out : List ℤ} {row start n : ℕ} → Rows i h older newer out₀ out row start n → row < g .rows → Edge (g .rows) row
+        → Rows i h older newer out₀ out (row + 1) (start + g .columns) n
+    ring-more {out} {row} {start} {n} l m e =
+        subst (Rows i h older newer out₀ out (row + 1) (start + g .columns)) (omega arith)
+        (rows-more s l m (run 0 0) (ring-run g size is-plate row m e) (ran-none out (start + 0)) refl)
 
     -- the sum at either end of a row
     left-zero : (row : ℕ) → row < g .rows → (k : ℕ) → row * g .columns ≡ k → S k ≡ pos 0
@@ -194,9 +197,9 @@ module _ {p : Plan} {h : Hit} {older newer out₀ : List ℤ} (s : Steppable p h
         small j a b = subst (λ (z : ℤ). natAbs z ≤ 4 * ceiling) (sym (between (j - 64) (omega arith) (omega arith)))
             (sum-low (steppable-ready s) (g .columns + (j - 64)))
 
-        pub plate-start : PlateRows i h older newer out₀ out₀ sums′ 0 64 1 (g .columns)
+        pub plate-start : PlateRows i h older newer out₀ out₀ sums′ 0 64 1 (g .columns) 0
         plate-start = record {
-          rows = subst (Rows i h older newer out₀ out₀ 1) (N.zero-add (g .columns))
+          rows = subst (λ (n : ℕ). Rows i h older newer out₀ out₀ 1 n 0) (N.zero-add (g .columns))
               (ring-more (rows-start i h older newer out₀) (omega (arith, some-rows)) (inl refl));
           some = omega arith;
           upto = omega (arith, some-rows);
@@ -212,7 +215,7 @@ module _ {p : Plan} {h : Hit} {older newer out₀ : List ℤ} (s : Steppable p h
 
     -- ---- a row
 
-    module _ {out sums : List ℤ} {other here row start : ℕ} (t : PlateRows i h older newer out₀ out sums other here row start)
+    module _ {out sums : List ℤ} {other here row start n : ℕ} (t : PlateRows i h older newer out₀ out sums other here row start n)
         (l : row + 1 < g .rows) where
       in-grid : row < g .rows
       in-grid = omega arith
@@ -279,8 +282,8 @@ module _ {p : Plan} {h : Hit} {older newer out₀ : List ℤ} (s : Steppable p h
       }
 
       -- after its last one
-      module _ {out′ sums′ : List ℤ} (q : Stepping i h true 0 older newer out out′ (start + 1) (start + (g .columns - 1)) true)
-          (w : TwoRows g newer sums′ here-now (start + (g .columns - 1))) (long : length sums′ ≡ length sums) where
+      module _ {out′ sums′ : List ℤ} {x : Progress} (q : Stepping i h true 0 older newer out out′ (start + 1) (start + (g .columns - 1)) x)
+          (e : x .within ≡ true) (w : TwoRows g newer sums′ here-now (start + (g .columns - 1))) (long : length sums′ ≡ length sums) where
         below-each : (c : ℕ) → c < g .columns → point sums′ (other + c) ≡ S (start + g .columns + c)
         below-each c m = go (decLt c (g .columns - 1))
           where
@@ -291,9 +294,9 @@ module _ {p : Plan} {h : Hit} {older newer out₀ : List ℤ} (s : Steppable p h
                 right-zero (row - 1) (omega (arith, t .some)) (start - g .columns + c) (omega (arith, a, above-start)) ∙
                 sym (right-zero (row + 1) l (start + g .columns + c) (omega (arith, a, below-start)))
 
-        pub plate-next : PlateRows i h older newer out₀ out′ sums′ here other (row + 1) (start + g .columns)
+        pub plate-next : PlateRows i h older newer out₀ out′ sums′ here other (row + 1) (start + g .columns) (n + x .inexact)
         plate-next = record {
-          rows = rows-more s (t .rows) in-grid (run 1 (g .columns - 1)) columns-run q;
+          rows = rows-more s (t .rows) in-grid (run 1 (g .columns - 1)) columns-run q e;
           some = omega arith;
           upto = omega arith;
           turning = turn (t .turning);
@@ -303,13 +306,16 @@ module _ {p : Plan} {h : Hit} {older newer out₀ : List ℤ} (s : Steppable p h
           low = w .low;
         }
 
-      pub plate-stops : {out′ : List ℤ} → Stepping i h true 0 older newer out out′ (start + 1) (start + (g .columns - 1)) false
-          → Stepped i h older newer out′ false
-      plate-stops q = stepped-not s (rows-stop s (t .rows) in-grid (run 1 (g .columns - 1)) columns-run q)
+      module _ {out′ : List ℤ} {x : Progress} (q : Stepping i h true 0 older newer out out′ (start + 1) (start + (g .columns - 1)) x) where
+        pub plate-stops : x .within ≡ false → Stepped i h older newer out′ x
+        plate-stops e = stepped-not s (rows-stop s (t .rows) in-grid (run 1 (g .columns - 1)) columns-run q e) e
+
+        pub plate-most : x .within ≡ true → n + x .inexact ≤ points g
+        plate-most e = rows-most s (t .rows) in-grid (run 1 (g .columns - 1)) columns-run q e
 
     -- after the last of them
-    pub plate-done : {out sums : List ℤ} {other here row start : ℕ}
-        → PlateRows i h older newer out₀ out sums other here row start → g .rows ≤ row + 1 → Stepped i h older newer out true
+    pub plate-done : {out sums : List ℤ} {other here row start n : ℕ}
+        → PlateRows i h older newer out₀ out sums other here row start n → g .rows ≤ row + 1 → Stepped i h older newer out (passed n)
     plate-done {row = row} t m =
         let last : row + 1 ≡ g .rows = omega (arith, t .upto) in
         stepped-all s (rows-done s (ring-more (t .rows) (omega (arith, t .upto)) (inr last)) m)

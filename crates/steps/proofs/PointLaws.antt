@@ -1,4 +1,4 @@
--- What a point's numerator is made of, and that its value is the scheme's: L and L of L by sums of neighbours.
+-- What a point's numerator is made of, and that what is made of it is the scheme's: L and L of L by sums of neighbours.
 use mathlib.Core.Path.{_≡_, refl, sym, ap, _∙_, subst}
 use mathlib.Core.Bool.{Bool, true, false, cond}
 use mathlib.Core.List.{List}
@@ -17,10 +17,10 @@ use Rattle.types.specs.declared.Instrument.{Instrument}
 use Rattle.types.specs.Numbers.{D, ceiling}
 use Rattle.scheme.specs.Lists.{point}
 use Rattle.scheme.specs.Instruments.{inTable, moving}
-use Rattle.scheme.specs.Step.{neighbours, laplacian, innerLaplacian, biharmonic, numeratorOf, numerator, roundAway, divisor}
+use Rattle.scheme.specs.Step.{neighbours, laplacian, innerLaplacian, biharmonic, numeratorOf, numerator, divisor}
 use Rattle.steps.specs.declared.plan.Plan.{Plan}
 use Rattle.steps.specs.Plan.{countOf, innerSum, bendingOf, Updatable, Ready, Neighbouring}
-use Rattle.steps.specs.Run.{valueAt}
+use Rattle.steps.specs.Run.{nextOver, nextBy}
 use Rattle.steps.proofs.PlanLaws.{few, near-part, stiff-part}
 use Rattle.steps.proofs.BesideLaws.{count-is}
 
@@ -134,7 +134,7 @@ module _ {p : Plan} {f : ℤ} {older newer : List ℤ} {k : ℕ} {sum second : �
     stiff-part = stiff-part (r .planned) second second-low;
   }
 
-  -- ---- its value
+  -- ---- what is made of it
 
   abbrev l : ℤ
   l = sum -ℤ pos count *ℤ u
@@ -158,7 +158,11 @@ module _ {p : Plan} {f : ℤ} {older newer : List ℤ} {k : ℕ} {sum second : �
           (bending-by-sums (i .grid) size (point newer) (r .newer-still) k (n .moves) ∙
           (λ j. bendingOf (pos count) (sym (n .sum-is) j) (sym e j) u))
 
-  pub value-is : roundAway (numeratorOf s u l b (point older k) f) (divisor s) ≡ valueAt i f older newer k
-  unfolding valueAt numerator
-  value-is = λ j. roundAway (pos (2 * D) *ℤ u +ℤ pos (s .q) *ℤ sym laplacian-is j -ℤ sym stiff j
-      -ℤ (pos D -ℤ pos (s .s)) *ℤ point older k +ℤ pos D *ℤ f) (divisor s)
+  pub numerator-is : numeratorOf s u l b (point older k) f ≡ numerator i (point newer) (point older) (λ j. f) k
+  unfolding numerator
+  numerator-is = λ j. pos (2 * D) *ℤ u +ℤ pos (s .q) *ℤ sym laplacian-is j -ℤ sym stiff j
+      -ℤ (pos D -ℤ pos (s .s)) *ℤ point older k +ℤ pos D *ℤ f
+
+  pub next-is : nextOver (numeratorOf s u l b (point older k) f) (divisor s) ≡ nextBy i f older newer k
+  unfolding nextBy
+  next-is = ap (λ (n : ℤ). nextOver n (divisor s)) numerator-is

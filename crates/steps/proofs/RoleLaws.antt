@@ -1,12 +1,12 @@
 -- The roles of the three slices.
 use mathlib.Core.Path.{_≡_, refl, sym, ap, _∙_, subst}
-use mathlib.Core.Bool.{Bool}
 use mathlib.Core.List.{List}
 use Prim.Native.Nat.{ℕ, zero, suc}
 use lib.IntN.{ℤ}
 use Rattle.types.specs.declared.Instrument.{Instrument}
 use Rattle.types.specs.declared.Hit.{Hit}
 use Rattle.steps.specs.declared.plan.Plan.{Plan}
+use Rattle.steps.specs.declared.progress.Progress.{Progress}
 use Rattle.steps.specs.Roles.{Steppable, Stepped, SteppedIn, turnedOf, olderOf, newerOf, outOf}
 
 -- ---- a phase that is neither 0 nor 1
@@ -51,11 +51,11 @@ module _ {p : ℕ} {a₀ b₀ c₀ older newer out₀ : List ℤ} (r₀ : InRole
       → Steppable q h older newer out₀
   given-in {q} {h} s = coe 0 1 (j. Steppable q h (r₀ .older-is j) (r₀ .newer-is j) (r₀ .out-is j)) s
 
-  pub stepped-in : {i : Instrument} {h : Hit} {a b c out : List ℤ} {done : Bool} → InRoles p a b c older newer out
-      → Stepped i h older newer out done
-      → SteppedIn p i h a₀ b₀ c₀ a b c done
-  stepped-in {i} {h} {done = done} r s = record {
-    stepped = coe 1 0 (j. Stepped i h (r₀ .older-is j) (r₀ .newer-is j) (r .out-is j) done) s;
+  pub stepped-in : {i : Instrument} {h : Hit} {a b c out : List ℤ} {x : Progress} → InRoles p a b c older newer out
+      → Stepped i h older newer out x
+      → SteppedIn p i h a₀ b₀ c₀ a b c x
+  stepped-in {i} {h} {x = x} r s = record {
+    stepped = coe 1 0 (j. Stepped i h (r₀ .older-is j) (r₀ .newer-is j) (r .out-is j) x) s;
     older-kept = r .older-is ∙ sym (r₀ .older-is);
     newer-kept = r .newer-is ∙ sym (r₀ .newer-is);
   }
@@ -65,9 +65,9 @@ module _ {h h′ : Hit} (e : h ≡ h′) where
   pub given-as : {q : Plan} {older newer out : List ℤ} → Steppable q h older newer out → Steppable q h′ older newer out
   given-as {q} {older} {newer} {out} = subst (λ (h : Hit). Steppable q h older newer out) e
 
-  pub stepped-as : {i : Instrument} {older newer out : List ℤ} {done : Bool}
-      → Stepped i h′ older newer out done → Stepped i h older newer out done
-  stepped-as {i} {older} {newer} {out} {done} = subst (λ (h : Hit). Stepped i h older newer out done) (sym e)
+  pub stepped-as : {i : Instrument} {older newer out : List ℤ} {x : Progress}
+      → Stepped i h′ older newer out x → Stepped i h older newer out x
+  stepped-as {i} {older} {newer} {out} {x} = subst (λ (h : Hit). Stepped i h older newer out x) (sym e)
 
 -- ---- after a step the level in the role of newer is older, and the next level newer
 

@@ -6,11 +6,11 @@ use native.Mathlib.Nat as N
 use native.Mathlib.Omega.{arith}
 use borrow.Author.Tests.{le-ltb}
 use lib.Bits.{bitAnd, bitXor, and-mask, xor-add-and, xor-zero-r}
-use lib.IntN.{ℤ, pos, negsuc, negℤ, natAbs, _+ℤ_, _-ℤ_, +ℤ-idl}
+use lib.IntN.{ℤ, pos, negsuc, negℤ, natAbs, _+ℤ_, _-ℤ_}
 use lib.Signed.{mag, ltZ}
 use mir.Syntax.{w64}
 use mir.Val.{toZ, ofZ}
-use Rattle.integers.proofs.Ring.{#_, _⊕_, _⊖_, _≈_, ring}
+use Rattle.integers.proofs.Ring.{#_, ⊝_, _⊕_, _⊖_, _≈_, ring}
 use Rattle.integers.proofs.Size.{cond-ind, size-minus}
 use Rattle.bounded.proofs.Num.{back}
 use Rattle.steps.specs.Plan.{signOf, mirrorOf}
@@ -71,10 +71,10 @@ mirror-raised (negsuc m) h =
     ap (λ (z : ℤ). negsuc 0 -ℤ (z +ℤ (negsuc 0 -ℤ pos h))) (complement-pos m) ∙
     ring 3 (λ x y z. x ⊖ (x ⊖ y ⊕ (x ⊖ z)) ≈ y ⊕ z ⊖ x) refl (negsuc 0) (pos m) (pos h) ∙ ap pos (omega arith)
 
--- a size, with the sign of n
-pub mirror-signed : (n : ℤ) (q : ℕ) → mirrorOf n (pos q) -ℤ signOf n ≡ cond (ltZ n (pos 0)) (negℤ (pos q)) (pos q)
-mirror-signed n q = go (ltZ n (pos 0))
+-- x, with the sign of n
+pub mirror-signed : (n x : ℤ) → mirrorOf n x -ℤ signOf n ≡ cond (ltZ n (pos 0)) (negℤ x) x
+mirror-signed n x = go (ltZ n (pos 0))
   where
-    go : (t : Bool) → cond t (negsuc 0 -ℤ pos q) (pos q) -ℤ cond t (negsuc 0) (pos 0) ≡ cond t (negℤ (pos q)) (pos q)
-    go true = ring 2 (λ x y. x ⊖ y ⊖ x ≈ # 0 ⊖ y) refl (negsuc 0) (pos q) ∙ +ℤ-idl (negℤ (pos q))
-    go false = ap pos (omega arith)
+    go : (t : Bool) → cond t (negsuc 0 -ℤ x) x -ℤ cond t (negsuc 0) (pos 0) ≡ cond t (negℤ x) x
+    go true = ring 2 (λ o x. o ⊖ x ⊖ o ≈ ⊝ x) refl (negsuc 0) x
+    go false = ring 1 (λ x. x ⊖ # 0 ≈ x) refl x

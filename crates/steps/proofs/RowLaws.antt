@@ -16,20 +16,22 @@ use Rattle.types.specs.declared.Hit.{Hit}
 use Rattle.types.specs.Numbers.{ceiling}
 use Rattle.scheme.specs.Lists.{point}
 use Rattle.scheme.specs.Instruments.{beyond, points, inTable, moving}
-use Rattle.scheme.specs.Step.{nextAt, nextLevel, someBeyond}
+use Rattle.scheme.specs.Step.{nextAt, nextLevel, inexactIn, someBeyond}
 use Rattle.scheme.proofs.Laws.Bools.{and-yes, and-no}
 use Rattle.scheme.proofs.Laws.Lists.{is-tabulate, some-at}
-use Rattle.scheme.proofs.Laws.Step.{length-next, next-still, next-point, all-low}
+use Rattle.scheme.proofs.Laws.Step.{length-next, next-still, next-point, inexact-still, all-low}
 use Rattle.scheme.proofs.Laws.Refusals.{passes-low, passes-still}
 use Rattle.kinds.specs.declared.runs.Run.{Run}
 use Rattle.kinds.specs.Runs.{inRun, runOf}
 use Rattle.kinds.proofs.RunLaws.{run-bounds, moving-run}
 use Rattle.levels.proofs.LevelLaws.{next-row, row-inside}
 use Rattle.steps.specs.declared.plan.Plan.{Plan}
+use Rattle.steps.specs.declared.progress.Progress.{Progress}
 use Rattle.steps.specs.Plan.{Ready}
-use Rattle.steps.specs.Run.{Ran, Stepping, Moves}
+use Rattle.steps.specs.Run.{Next, nextOf, Ran, Stepping, Moves}
 use Rattle.steps.specs.Roles.{Steppable, Stepped}
-use Rattle.steps.proofs.FillLaws.{filled-there, ran-none, ran-all, ran-append, ran-stops, ran-ends}
+use Rattle.steps.proofs.CountLaws.{counted-not, counted-most, counted-all}
+use Rattle.steps.proofs.FillLaws.{filled-there, passed, ran-none, ran-all, ran-passed, ran-append, ran-stops, ran-ends}
 
 -- ---- a row
 
@@ -65,14 +67,14 @@ module _ (g : Grid) (b : ℕ) (size : inTable g ≡ true) (h : b < g .rows) wher
             ∙ and-false (leb (r .from) (k - start)));
       }
 
--- ---- a loop over the rows: the points before start have their next values
+-- ---- a loop over the rows: the points before start have their next values, n of them inexact
 
-pub record Rows (i : Instrument) (h : Hit) (older newer out₀ out : List ℤ) (row start : ℕ) : Type 0 where
+pub record Rows (i : Instrument) (h : Hit) (older newer out₀ out : List ℤ) (row start n : ℕ) : Type 0 where
   pub start-is : start ≡ row * i .grid .columns
   pub upto : row ≤ i .grid .rows
-  pub ran : Stepping i h true 0 older newer out₀ out 0 start true
+  pub ran : Stepping i h true 0 older newer out₀ out 0 start (passed n)
 
-pub rows-start : (i : Instrument) (h : Hit) (older newer out : List ℤ) → Rows i h older newer out out 0 0
+pub rows-start : (i : Instrument) (h : Hit) (older newer out : List ℤ) → Rows i h older newer out out 0 0 0
 rows-start i h older newer out = record { start-is = omega arith; upto = zero-le; ran = ran-none out 0 }
 
 -- ---- what a step is given
@@ -85,8 +87,8 @@ module _ {p : Plan} {h : Hit} {older newer out₀ : List ℤ} (s : Steppable p h
   g = i .grid
 
   -- the next values
-  abbrev v : ℕ → ℤ
-  v = nextAt i h older newer
+  abbrev v : ℕ → Next
+  v = nextOf i h older newer
 
   pub steppable-ready : Ready p (pos 0) older newer
   steppable-ready = record {
@@ -99,21 +101,23 @@ module _ {p : Plan} {h : Hit} {older newer out₀ : List ℤ} (s : Steppable p h
     f-low = zero-le;
   }
 
-  -- points from b on that do not move hold their next values, 0
-  still : {out : List ℤ} {b c : ℕ} → Ran v true 0 out₀ out 0 b true → ((k : ℕ) → b ≤ k → k < c → moving g k ≡ false)
-      → Ran v true 0 out out b c true
-  still {out} {b} {c} r all =
+  -- points from b on that do not move hold their next values, 0, and none is inexact
+  still : {out : List ℤ} {b c n : ℕ} → Ran v true 0 out₀ out 0 b (passed n) → b ≤ c → ((k : ℕ) → b ≤ k → k < c → moving g k ≡ false)
+      → Ran v true 0 out out b c (passed 0)
+  still {out} {b} {c} r o all =
       ran-all
-      (filled-there v true 0 out b c
+      (filled-there (λ k. v k .value) true 0 out b c
       (λ k l m. r .filled refl .kept (k - 0) (inr (inr (omega arith))) ∙ ap (point out₀) (sub-zero k) ∙ s .room .still k (all k l m) ∙
       sym (next-still i h older newer k (all k l m))))
       (λ k l m. ap beyond (next-still i h older newer k (all k l m)))
+      (counted-not o (λ k l m. inexact-still i h older newer k (all k l m)))
 
-  and-still : {out : List ℤ} {b c : ℕ} → Ran v true 0 out₀ out 0 b true → b ≤ c → ((k : ℕ) → b ≤ k → k < c → moving g k ≡ false)
-      → Ran v true 0 out₀ out 0 c true
-  and-still r l all = ran-append zero-le zero-le l r (still r all)
+  and-still : {out : List ℤ} {b c n : ℕ} → Ran v true 0 out₀ out 0 b (passed n) → b ≤ c → ((k : ℕ) → b ≤ k → k < c → moving g k ≡ false)
+      → Ran v true 0 out₀ out 0 c (passed n)
+  and-still {out} {b} {c} {n} r l all =
+      subst (λ (m : ℕ). Ran v true 0 out₀ out 0 c (passed m)) (omega arith) (ran-append zero-le zero-le l r (still r l all))
 
-  module _ {out : List ℤ} {row start : ℕ} (l : Rows i h older newer out₀ out row start) (m : row < g .rows) (r : Run)
+  module _ {out : List ℤ} {row start n : ℕ} (l : Rows i h older newer out₀ out row start n) (m : row < g .rows) (r : Run)
       (e : r ≡ runOf g row) where
     pub run-here : RowRun g start r
     run-here =
@@ -127,30 +131,33 @@ module _ {p : Plan} {h : Hit} {older newer out₀ : List ℤ} (s : Steppable p h
     pub run-moves : Moves g (start + r .from) (start + r .to)
     run-moves = record { order = omega (arith, run-here .rising); each = run-here .moves }
 
-    module _ {out′ : List ℤ} where
-      -- as far as the row's run
-      row-ran : {fine : Bool} → Stepping i h true 0 older newer out out′ (start + r .from) (start + r .to) fine
-          → Stepping i h true 0 older newer out₀ out′ 0 (start + r .to) fine
-      row-ran q =
-          ran-append zero-le zero-le (omega (arith, run-here .rising)) (and-still (l .ran) (omega arith) (run-here .before)) q
+    module _ {out′ : List ℤ} {x : Progress} (q : Stepping i h true 0 older newer out out′ (start + r .from) (start + r .to) x) where
+      as-far : Stepping i h true 0 older newer out₀ out 0 (start + r .from) (passed n)
+      as-far = and-still (l .ran) (omega arith) (run-here .before)
 
-      -- a value lies beyond the ceiling
-      pub rows-stop : Stepping i h true 0 older newer out out′ (start + r .from) (start + r .to) false
-          → Stepping i h true 0 older newer out₀ out′ 0 (points g) false
-      rows-stop q = ran-stops (omega (arith, run-here .inside, row-room)) (row-ran q)
+      -- a value of the row lies beyond the ceiling
+      pub rows-stop : x .within ≡ false → Stepping i h true 0 older newer out₀ out′ 0 (points g) x
+      rows-stop y = ran-stops zero-le zero-le (run-moves .order) as-far (omega (arith, run-here .inside, row-room)) q y
 
       -- one more row
-      pub rows-more : Stepping i h true 0 older newer out out′ (start + r .from) (start + r .to) true
-          → Rows i h older newer out₀ out′ (row + 1) (start + g .columns)
-      rows-more q = record {
-        start-is = ap (λ (n : ℕ). n + g .columns) (l .start-is) ∙ next-row row (g .columns);
-        upto = omega arith;
-        ran = and-still (row-ran q) (omega (arith, run-here .inside)) (run-here .after);
-      }
+      module _ (y : x .within ≡ true) where
+        row-ran : Stepping i h true 0 older newer out₀ out′ 0 (start + r .to) (passed (n + x .inexact))
+        row-ran = ran-append zero-le zero-le (run-moves .order) as-far (ran-passed y q)
+
+        pub rows-more : Rows i h older newer out₀ out′ (row + 1) (start + g .columns) (n + x .inexact)
+        rows-more = record {
+          start-is = ap (λ (n : ℕ). n + g .columns) (l .start-is) ∙ next-row row (g .columns);
+          upto = omega arith;
+          ran = and-still row-ran (omega (arith, run-here .inside)) (run-here .after);
+        }
+
+        -- no more points are inexact than there are
+        pub rows-most : n + x .inexact ≤ points g
+        rows-most = omega (arith, counted-most (row-ran .counted refl), run-here .inside, row-room)
 
   -- after the last row
-  pub rows-done : {out : List ℤ} {row start : ℕ} → Rows i h older newer out₀ out row start → g .rows ≤ row
-      → Stepping i h true 0 older newer out₀ out 0 (points g) true
+  pub rows-done : {out : List ℤ} {row start n : ℕ} → Rows i h older newer out₀ out row start n → g .rows ≤ row
+      → Stepping i h true 0 older newer out₀ out 0 (points g) (passed n)
   rows-done {row = row} l m =
       let last : row ≡ g .rows = omega (arith, l .upto) in
       ran-ends (l .start-is ∙ ap (λ (n : ℕ). n * g .columns) last ∙ mul-comm (g .rows) (g .columns)) (l .ran)
@@ -158,30 +165,34 @@ module _ {p : Plan} {h : Hit} {older newer out₀ : List ℤ} (s : Steppable p h
   -- ---- what a step leaves
 
   -- every point has its next value
-  pub stepped-all : {out : List ℤ} → Stepping i h true 0 older newer out₀ out 0 (points g) true → Stepped i h older newer out true
-  unfolding nextLevel
+  pub stepped-all : {out : List ℤ} {n : ℕ} → Stepping i h true 0 older newer out₀ out 0 (points g) (passed n)
+      → Stepped i h older newer out (passed n)
+  unfolding nextLevel inexactIn
   stepped-all {out} q =
       let low : someBeyond (nextLevel i h older newer) ≡ false =
       all-low (nextLevel i h older newer)
       (λ k m. ltb-false ceiling _ (ap beyond (next-point i h older newer k)
       ∙ q .low refl k zero-le (omega (arith, length-next i h older newer)))) in
       record {
-        done-is = sym (ap not low);
-        next-is = λ t. is-tabulate (points g) v (pos 0) out (q .long ∙ s .room .long)
+        within-is = sym (ap not low);
+        next-is = λ t. is-tabulate (points g) (nextAt i h older newer) (pos 0) out (q .long ∙ s .room .long)
             (λ k m. ap (point out) (sym (sub-zero k)) ∙ q .filled refl .written refl k zero-le m);
+        inexact-is = λ t. counted-all (q .counted refl);
         long = q .long ∙ s .room .long;
       }
 
   -- a next value lies beyond the ceiling
-  pub stepped-not : {out : List ℤ} → Stepping i h true 0 older newer out₀ out 0 (points g) false → Stepped i h older newer out false
+  pub stepped-not : {out : List ℤ} {x : Progress} → Stepping i h true 0 older newer out₀ out 0 (points g) x → x .within ≡ false
+      → Stepped i h older newer out x
   unfolding someBeyond
-  stepped-not {out} q =
-      let o = q .stopped refl in
+  stepped-not {out} q e =
+      let o = q .stopped e in
       let next = nextLevel i h older newer in
       record {
-        done-is = sym (ap not (some-at (length next) (λ k. beyond (point next k)) (o .at)
+        within-is = e ∙ sym (ap not (some-at (length next) (λ k. beyond (point next k)) (o .at)
             (omega (arith, o .last, length-next i h older newer))
             (ap beyond (next-point i h older newer (o .at)) ∙ o .beyond-there)));
-        next-is = λ t. absurd (true≢false (sym t));
+        next-is = λ t. absurd (true≢false (sym t ∙ e));
+        inexact-is = λ t. absurd (true≢false (sym t ∙ e));
         long = q .long ∙ s .room .long;
       }

@@ -18,6 +18,7 @@ use Rattle.scheme.proofs.Laws.Refusals.{right-length, block-passes}
 use Rattle.slices.proofs.SliceLaws.{zeros}
 use Rattle.scheme.proofs.Laws.Calls.{stands-behind, block-refused, block-done}
 use Rattle.steps.specs.declared.plan.Plan.{Plan}
+use Rattle.steps.specs.declared.play.Steps.{Steps}
 use Rattle.steps.specs.Plan.{Planned}
 use Rattle.steps.specs.Roles.{Room, Steppable, Played, olderOf, newerOf}
 use Rattle.steps.specs.Turns.{Turned}
@@ -50,11 +51,11 @@ module _ (i : Instrument) (older newer work : List ℤ) (pick : ℕ) (h : Hit)
   }
 
   -- the steps of the plan are the instrument's
-  pub own-steps : (samples : List ℤ) {n done : ℕ} {older₁ newer₁ samples₁ : List ℤ}
-      → Played (play (p .instrument) pick h older newer samples) n done older₁ newer₁ samples₁
-      → Played (play i pick h older newer samples) n done older₁ newer₁ samples₁
-  own-steps samples {n} {done} {older₁} {newer₁} {samples₁} s =
-      subst (λ (i : Instrument). Played (play i pick h older newer samples) n done older₁ newer₁ samples₁) own s
+  pub own-steps : (samples : List ℤ) {n : ℕ} {r : Steps} {older₁ newer₁ samples₁ : List ℤ}
+      → Played (play (p .instrument) pick h older newer samples) n r older₁ newer₁ samples₁
+      → Played (play i pick h older newer samples) n r older₁ newer₁ samples₁
+  own-steps samples {n} {r} {older₁} {newer₁} {samples₁} s =
+      subst (λ (i : Instrument). Played (play i pick h older newer samples) n r older₁ newer₁ samples₁) own s
 
 -- what a call leaves
 module _ (i : Instrument) (older newer work samples : List ℤ) (pick : ℕ) (h : Hit) where
@@ -63,13 +64,14 @@ module _ (i : Instrument) (older newer work samples : List ℤ) (pick : ℕ) (h 
 
   -- one that is refused
   pub turned-down : {r : Refusal} → r ≡ refuses → accepted refuses ≡ false
-      → Turned refuses (block i older newer work samples pick h) (record { begun = false; steps = 0; refusal = r; phase = 0 })
+      → Turned refuses (block i older newer work samples pick h) (record { begun = false; steps = 0; inexact = 0; refusal = r; phase = 0 })
       older newer work samples
   turned-down e f =
       let b = sym (block-refused i older newer work samples pick h f) in
       record {
         begun-is = sym f;
         steps-are = ap (λ (b : AfterBlock). b .answer .steps) b;
+        inexact-is = ap (λ (b : AfterBlock). b .answer .inexact) b;
         refusal-is = e ∙ ap (λ (b : AfterBlock). b .answer .refusal) b;
         older-is = ap (λ (b : AfterBlock). b .older) b;
         newer-is = ap (λ (b : AfterBlock). b .newer) b;
@@ -79,13 +81,13 @@ module _ (i : Instrument) (older newer work samples : List ℤ) (pick : ℕ) (h 
       }
 
   -- one that is carried out: 13 where places are left
-  module _ (e : refuses ≡ Nothing) {done phase : ℕ} {older₁ newer₁ work₁ samples₁ : List ℤ} {refusal : Refusal}
+  module _ (e : refuses ≡ Nothing) {r : Steps} {older₁ newer₁ work₁ samples₁ : List ℤ} {refusal : Refusal}
       (older-kept : length older₁ ≡ length older) (newer-kept : length newer₁ ≡ length newer) (work-kept : length work₁ ≡ length work)
-      (s : Played (play i pick h older newer samples) (length samples) done (olderOf phase older₁ newer₁ work₁)
-      (newerOf phase older₁ newer₁ work₁) samples₁) where
-    pub carried-out : refusal ≡ cond (ltb done (length samples₁)) NextBeyond Nothing
+      (s : Played (play i pick h older newer samples) (length samples) r (olderOf (r .phase) older₁ newer₁ work₁)
+      (newerOf (r .phase) older₁ newer₁ work₁) samples₁) where
+    pub carried-out : refusal ≡ cond (ltb (r .done) (length samples₁)) NextBeyond Nothing
         → Turned refuses (block i older newer work samples pick h)
-        (record { begun = true; steps = done; refusal = refusal; phase = phase })
+        (record { begun = true; steps = r .done; inexact = r .inexact; refusal = refusal; phase = r .phase })
         older₁ newer₁ work₁ samples₁
     carried-out d =
         let b = sym (block-done i older newer work samples pick h e) in
@@ -96,7 +98,8 @@ module _ (i : Instrument) (older newer work samples : List ℤ) (pick : ℕ) (h 
         record {
           begun-is = sym (ap accepted e);
           steps-are = s .done-is ∙ ap (λ (b : AfterBlock). b .answer .steps) b;
-          refusal-is = d ∙ ap (λ (n : ℕ). cond (ltb done n) NextBeyond Nothing) places ∙ sym (s .refusal-is)
+          inexact-is = s .inexact-is ∙ ap (λ (b : AfterBlock). b .answer .inexact) b;
+          refusal-is = d ∙ ap (λ (n : ℕ). cond (ltb (r .done) n) NextBeyond Nothing) places ∙ sym (s .refusal-is)
               ∙ ap (λ (b : AfterBlock). b .answer .refusal) b;
           older-is = s .older-is ∙ ap (λ (b : AfterBlock). b .older) b;
           newer-is = s .newer-is ∙ ap (λ (b : AfterBlock). b .newer) b;

@@ -1,6 +1,6 @@
 -- Whole levels by their roles: what a step and the steps of a block leave in the lent slices. Vocabulary of private functions.
 use mathlib.Core.Path.{_≡_}
-use mathlib.Core.Bool.{Bool, true, false, cond, not}
+use mathlib.Core.Bool.{true, false, cond, not}
 use mathlib.Core.List.{List}
 use Prim.Native.Nat.{ℕ, zero, suc}
 use lib.Dec.{ltb}
@@ -12,11 +12,13 @@ use Rattle.types.specs.declared.Hit.{Hit}
 use Rattle.types.specs.declared.Refusal.the-variants.{Nothing, NextBeyond}
 use Rattle.scheme.specs.Lists.{point}
 use Rattle.scheme.specs.Instruments.{points, moving}
-use Rattle.scheme.specs.Step.{nextLevel, someBeyond}
+use Rattle.scheme.specs.Step.{nextLevel, inexactIn, someBeyond}
 use Rattle.scheme.specs.Refusals.{notMoving, tooStrong}
-use Rattle.scheme.specs.Calls.{AfterSteps}
+use Rattle.scheme.specs.Calls.{AfterSteps, capped}
 use Rattle.scheme.specs.Claims.{LevelPasses}
 use Rattle.steps.specs.declared.plan.Plan.{Plan}
+use Rattle.steps.specs.declared.play.Steps.{Steps}
+use Rattle.steps.specs.declared.progress.Progress.{Progress}
 use Rattle.steps.specs.Plan.{Planned}
 
 -- room for a level of the grid: 0 where nothing moves
@@ -33,10 +35,11 @@ pub record Steppable (p : Plan) (h : Hit) (older newer out : List ℤ) : Type 0 
   pub hit-moving : notMoving (p .instrument .grid) h ≡ false
   pub hit-low : tooStrong h ≡ false
 
--- what a step leaves: the next level in out where it lies within the ceiling
-pub record Stepped (i : Instrument) (h : Hit) (older newer out : List ℤ) (done : Bool) : Type 0 where
-  pub done-is : done ≡ not (someBeyond (nextLevel i h older newer))
-  pub next-is : done ≡ true → out ≡ nextLevel i h older newer
+-- what a step leaves: the next level in out, and its inexact points counted, where it lies within the ceiling
+pub record Stepped (i : Instrument) (h : Hit) (older newer out : List ℤ) (r : Progress) : Type 0 where
+  pub within-is : r .within ≡ not (someBeyond (nextLevel i h older newer))
+  pub next-is : r .within ≡ true → out ≡ nextLevel i h older newer
+  pub inexact-is : r .within ≡ true → r .inexact ≡ inexactIn i h older newer
   pub long : length out ≡ points (i .grid)
 
 -- ---- three slices in turn: after a step the newer level is older, the next one newer, and the older one's place is free
@@ -66,15 +69,16 @@ outOf (suc zero) a b c = a
 outOf (suc (suc k)) a b c = b
 
 -- what a step leaves in the slices: the next level in its place, the other two as they were
-pub record SteppedIn (phase : ℕ) (i : Instrument) (h : Hit) (a₀ b₀ c₀ a b c : List ℤ) (done : Bool) : Type 0 where
-  pub stepped : Stepped i h (olderOf phase a₀ b₀ c₀) (newerOf phase a₀ b₀ c₀) (outOf phase a b c) done
+pub record SteppedIn (phase : ℕ) (i : Instrument) (h : Hit) (a₀ b₀ c₀ a b c : List ℤ) (r : Progress) : Type 0 where
+  pub stepped : Stepped i h (olderOf phase a₀ b₀ c₀) (newerOf phase a₀ b₀ c₀) (outOf phase a b c) r
   pub older-kept : olderOf phase a b c ≡ olderOf phase a₀ b₀ c₀
   pub newer-kept : newerOf phase a b c ≡ newerOf phase a₀ b₀ c₀
 
 -- what the steps of a block leave, with n places for samples: p is what the definition says
-pub record Played (p : AfterSteps) (n done : ℕ) (older newer samples : List ℤ) : Type 0 where
-  pub done-is : done ≡ p .answer .steps
-  pub refusal-is : p .answer .refusal ≡ cond (ltb done n) NextBeyond Nothing
+pub record Played (p : AfterSteps) (n : ℕ) (r : Steps) (older newer samples : List ℤ) : Type 0 where
+  pub done-is : r .done ≡ p .answer .steps
+  pub inexact-is : r .inexact ≡ capped (p .answer .inexact)
+  pub refusal-is : p .answer .refusal ≡ cond (ltb (r .done) n) NextBeyond Nothing
   pub older-is : older ≡ p .older
   pub newer-is : newer ≡ p .newer
   pub samples-are : samples ≡ p .samples

@@ -1,6 +1,6 @@
--- Runs of points, and the list that their values are put into. Vocabulary of private functions.
+-- Runs of points, the list that their values are put into, and how many of them are inexact. Vocabulary of private functions.
 use mathlib.Core.Path.{_≡_}
-use mathlib.Core.Bool.{Bool, true, false, cond, _&&_}
+use mathlib.Core.Bool.{Bool, true, false, cond, not, _&&_}
 use mathlib.Core.List.{List, [], _∷_}
 use mathlib.Core.Logic.{_⊎_}
 use Prim.Native.Nat.{ℕ, _+_, _-_, _≤_, _<_}
@@ -11,15 +11,29 @@ use Rattle.types.specs.declared.Grid.{Grid}
 use Rattle.types.specs.declared.Instrument.{Instrument}
 use Rattle.types.specs.declared.Hit.{Hit}
 use Rattle.types.specs.declared.Hit.the-variants.{Absent, At}
-use Rattle.scheme.specs.Lists.{point}
+use Rattle.scheme.specs.Lists.{point, countBelow}
 use Rattle.scheme.specs.Instruments.{beyond, points, atEdge, moving}
-use Rattle.scheme.specs.Step.{neighbours, numerator, roundAway, divisor, forceOf, nextAt}
+use Rattle.scheme.specs.Step.{neighbours, numerator, roundAway, divisor, forceOf, nextAt, isMultiple, inexactAt}
 use Rattle.steps.specs.declared.plan.Plan.{Plan}
+use Rattle.steps.specs.declared.progress.Progress.{Progress}
 use Rattle.steps.specs.declared.stretch.Stretch.{Stretch}
 
--- the next value of point k with the force f there, moving or not
-unfoldable pub valueAt : Instrument → ℤ → (older newer : List ℤ) → ℕ → ℤ
-valueAt i f older newer k = roundAway (numerator i (point newer) (point older) (λ j. f) k) (divisor (i .settings))
+-- what a step makes of a point: its next value, and whether its numerator is no multiple of the divisor
+pub record Next : Type 0 where
+  pub value : ℤ
+  pub inexact : Bool
+
+-- by the numerator n and the divisor d
+abbrev pub nextOver : ℤ → ℕ → Next
+nextOver n d = record { value = roundAway n d; inexact = not (isMultiple n d) }
+
+-- of point k with the force f there, moving or not
+unfoldable pub nextBy : Instrument → ℤ → (older newer : List ℤ) → ℕ → Next
+nextBy i f older newer k = nextOver (numerator i (point newer) (point older) (λ j. f) k) (divisor (i .settings))
+
+-- of point k by the definitions, with the forces of a hit
+abbrev pub nextOf : Instrument → Hit → (older newer : List ℤ) → ℕ → Next
+nextOf i h older newer k = record { value = nextAt i h older newer k; inexact = inexactAt i h older newer k }
 
 -- ---- what the loops keep
 
@@ -40,21 +54,27 @@ pub record OneBeyond (v : ℕ → ℤ) (from to : ℕ) : Type 0 where
   pub last : at < to
   pub beyond-there : beyond (v at) ≡ true
 
--- what a run of the points from..to answers and leaves: fine, every value within the ceiling and in its place; else one beyond
-pub record Ran (v : ℕ → ℤ) (write : Bool) (base : ℕ) (out₀ out : List ℤ) (from to : ℕ) (fine : Bool) : Type 0 where
+-- n of the points from..to pass the test
+pub record Counted (test : ℕ → Bool) (from to n : ℕ) : Type 0 where
+  pub sum : countBelow from test + n ≡ countBelow to test
+
+-- what a run of the points from..to answers and leaves: every value within the ceiling and in its place, the inexact ones of those written
+-- counted; else one beyond
+pub record Ran (v : ℕ → Next) (write : Bool) (base : ℕ) (out₀ out : List ℤ) (from to : ℕ) (r : Progress) : Type 0 where
   pub long : length out ≡ length out₀
-  pub filled : fine ≡ true → Filled v write base out₀ out from to
-  pub low : fine ≡ true → NoneBeyond v from to
-  pub stopped : fine ≡ false → OneBeyond v from to
+  pub filled : r .within ≡ true → Filled (λ k. v k .value) write base out₀ out from to
+  pub low : r .within ≡ true → NoneBeyond (λ k. v k .value) from to
+  pub counted : r .within ≡ true → Counted (λ k. write && v k .inexact) from to (r .inexact)
+  pub stopped : r .within ≡ false → OneBeyond (λ k. v k .value) from to
 
 -- the same of points of a stretch
-abbrev pub Advanced : Plan → Stretch → (older newer out₀ out : List ℤ) → (from to : ℕ) → Bool → Type 0
-Advanced p s older newer out₀ out from to fine =
-    Ran (valueAt (p .instrument) (s .force) older newer) (s .write) (s .base) out₀ out from to fine
+abbrev pub Advanced : Plan → Stretch → (older newer out₀ out : List ℤ) → (from to : ℕ) → Progress → Type 0
+Advanced p s older newer out₀ out from to r =
+    Ran (nextBy (p .instrument) (s .force) older newer) (s .write) (s .base) out₀ out from to r
 
 -- the same of points with the forces of a hit
-abbrev pub Stepping : Instrument → Hit → (write : Bool) (base : ℕ) (older newer out₀ out : List ℤ) → (from to : ℕ) → Bool → Type 0
-Stepping i h write base older newer out₀ out from to fine = Ran (nextAt i h older newer) write base out₀ out from to fine
+abbrev pub Stepping : Instrument → Hit → (write : Bool) (base : ℕ) (older newer out₀ out : List ℤ) → (from to : ℕ) → Progress → Type 0
+Stepping i h write base older newer out₀ out from to r = Ran (nextOf i h older newer) write base out₀ out from to r
 
 -- ---- where a run lies
 

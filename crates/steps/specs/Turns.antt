@@ -21,6 +21,7 @@ pub record Exchangeable (zeros older newer work : List ℤ) : Type 0 where
 pub record Turned (r : Refusal) (b : AfterBlock) (t : InTurn) (older newer work samples : List ℤ) : Type 0 where
   pub begun-is : t .begun ≡ accepted r
   pub steps-are : t .steps ≡ b .answer .steps
+  pub inexact-is : t .inexact ≡ b .answer .inexact
   pub refusal-is : t .refusal ≡ b .answer .refusal
   pub older-is : olderOf (t .phase) older newer work ≡ b .older
   pub newer-is : newerOf (t .phase) older newer work ≡ b .newer

@@ -1,11 +1,12 @@
 // The arithmetic of one point, in i64.
 ghost use mathlib.Core.Path.{_≡_};
-ghost use mathlib.Core.Bool.{not};
+ghost use mathlib.Core.Bool.{not, cond};
 ghost use Prim.Native.Nat.{_+_, _≤_, _^_};
-ghost use lib.IntN.{pos, natAbs, _-ℤ_, _*ℤ_};
+ghost use lib.IntN.{pos, negℤ, natAbs, _-ℤ_, _*ℤ_};
+ghost use lib.Signed.{ltZ};
 ghost use Rattle.types.specs.Numbers.{ceiling};
 ghost use Rattle.scheme.specs.Instruments.{beyond};
-ghost use Rattle.scheme.specs.Step.{roundAway, sampleOf, numeratorOf, divisor};
+ghost use Rattle.scheme.specs.Step.{roundAway, restOf, sampleOf, numeratorOf, divisor};
 ghost use Rattle.steps.specs.Plan.{countOf, signOf, mirrorOf, bendingOf, Planned, Dividable, Updatable};
 use crate::plan::D;
 use crate::plan::Plan;
@@ -43,13 +44,33 @@ pub(crate) fn is_within(plan: Plan, n: i64) -> bool
     raised(n, plan.half) < plan.limit
 }
 
-// n over d to the nearest whole number, halves away from zero, half being d / 2: the quotient of its size, with its sign.
-pub(crate) fn round_away(n: i64, d: u64, half: u64) -> i64
-    requires { ⌜ Dividable n d half ⌝ }
-    ensures { λ r. ⌜ r ≡ roundAway n d ⌝ }
+// A whole number, and what rounding to it leaves: the number less the whole number times the divisor.
+pub(crate) struct Rounded {
+    pub(crate) whole: i64,
+    pub(crate) rest: i64,
+}
+
+// x with the sign of n.
+fn signed(x: i64, n: i64) -> i64
+    requires { ⌜ natAbs x ≤ 2 ^ 62 + 2 ^ 30 ⌝ }
+    ensures { λ r. ⌜ r ≡ cond (ltZ n (pos 0)) (negℤ x) x ⌝ }
 {
-    let size = (raised(n, half) / d) as i64;
-    mirrored(size, n) - sign(n)
+    mirrored(x, n) - sign(n)
+}
+
+// n over d to the nearest whole number, halves away from zero, half being d / 2: the quotient and the remainder of its size,
+// with its sign.
+pub(crate) fn round_away(n: i64, d: u64, half: u64) -> Rounded
+    requires { ⌜ Dividable n d half ⌝ }
+    ensures { λ r. ⌜ (r .whole ≡ roundAway n d) × (r .rest ≡ restOf n d) ⌝ }
+{
+    let size = raised(n, half);
+    let quotient = (size / d) as i64;
+    let left = (size % d) as i64 - half as i64;
+    Rounded {
+        whole: signed(quotient, n),
+        rest: signed(left, n),
+    }
 }
 
 // The sample of a point: over 2²⁸, rounded as a step is.
@@ -57,7 +78,8 @@ pub(crate) fn sample(v: i64) -> i16
     requires { ⌜ natAbs v ≤ ceiling ⌝ }
     ensures { λ r. ⌜ r ≡ sampleOf v ⌝ }
 {
-    round_away(v, UNITS_PER_SAMPLE, UNITS_PER_SAMPLE / 2) as i16
+    let rounded = round_away(v, UNITS_PER_SAMPLE, UNITS_PER_SAMPLE / 2);
+    rounded.whole as i16
 }
 
 // The numerator at a point, from its newer value u, the sum of its neighbours, the sum of their sums, its older value p and the force f.

@@ -12,6 +12,7 @@ use crate::plan::Plan;
 use crate::plates::plate_level;
 use crate::plates::struck_level;
 use crate::points::points_run;
+use crate::progress::Progress;
 use crate::stretch::Stretch;
 use crate::stretch::force_at;
 use crate::stretch::stretch_end;
@@ -25,12 +26,13 @@ fn row_run(
     row: Stretch,
     hit: Hit,
     out: &mut [i64],
-) -> bool
+) -> Progress
     requires { ⌜ Ready plan (pos 0) (now older) (now newer) × Placed row (length (now out)) ⌝ }
     requires { ⌜ Moves (plan .instrument .grid) (row .from) (row .to) × (tooStrong hit ≡ false) × SoftGrid (plan .instrument) ⌝ }
     ensures { λ r. ⌜ Stepping (plan .instrument) hit (row .write) (row .base) (now (older .entry)) (now (newer .entry))
         (now (out .entry)) (now (out .exit)) (row .from) (row .to) r ⌝ }
 {
+    let mut inexact = 0;
     let mut at = row.from;
     while at < row.to {
         let end = stretch_end(hit, at, row.to);
@@ -41,12 +43,17 @@ fn row_run(
             base: row.base,
             write: row.write,
         };
-        if !points_run(plan, older, newer, s, out) {
-            return false;
+        let p = points_run(plan, older, newer, s, out);
+        if !p.within {
+            return p;
         }
+        inexact += p.inexact;
         at = end;
     }
-    true
+    Progress {
+        within: true,
+        inexact,
+    }
 }
 
 // Every moving point: from and to have the moving columns of each row. Off a line there is no stiffness.
@@ -58,13 +65,14 @@ fn level_run(
     newer: &[i64],
     out: &mut [i64],
     hit: Hit,
-) -> bool
+) -> Progress
     requires { ⌜ Steppable plan hit (now older) (now newer) (now out) ⌝ }
     requires { ⌜ EdgesOf (plan .instrument .grid) (now from) (now to) × SoftGrid (plan .instrument) ⌝ }
     ensures { λ r. ⌜ Stepped (plan .instrument) hit (now (older .entry)) (now (newer .entry)) (now (out .exit)) r ⌝ }
 {
     let columns = plan.instrument.grid.columns;
     let rows = plan.instrument.grid.rows;
+    let mut inexact = 0;
     let mut row = 0;
     let mut start = 0;
     while row < rows {
@@ -75,13 +83,18 @@ fn level_run(
             base: 0,
             write: true,
         };
-        if !row_run(plan, older, newer, moving, hit, out) {
-            return false;
+        let p = row_run(plan, older, newer, moving, hit, out);
+        if !p.within {
+            return p;
         }
+        inexact += p.inexact;
         row += 1;
         start += columns;
     }
-    true
+    Progress {
+        within: true,
+        inexact,
+    }
 }
 
 // The next level. Off a line only a plate is stiff.
@@ -93,7 +106,7 @@ pub(crate) fn next_level(
     newer: &[i64],
     out: &mut [i64],
     hit: Hit,
-) -> bool
+) -> Progress
     requires { ⌜ Steppable plan hit (now older) (now newer) (now out) × EdgesOf (plan .instrument .grid) (now from) (now to) ⌝ }
     ensures { λ r. ⌜ Stepped (plan .instrument) hit (now (older .entry)) (now (newer .entry)) (now (out .exit)) r ⌝ }
 {

@@ -7,6 +7,7 @@ mod plan;
 mod plates;
 mod play;
 mod points;
+mod progress;
 mod roles;
 mod stretch;
 mod turns;

@@ -16,6 +16,7 @@ ghost use Rattle.steps.specs.Plates.{TwoRows, InRow, Readable, secondAt}
 use crate::neighbours::around;
 use crate::plan::Plan;
 use crate::points::next_point;
+use crate::progress::Progress;
 use crate::stretch::Stretch;
 use crate::stretch::force_at;
 use types::Hit;
@@ -75,7 +76,7 @@ fn plate_point(
     s: Stretch,
     sums: &mut [i64],
     out: &mut [i64],
-) -> bool
+) -> Progress
     requires { ⌜ Ready plan (s .force) (now older) (now newer) × Placed s (length (now out)) × (s .from ≤ at) × (at < s .to) ⌝ }
     requires { ⌜ TwoRows (plan .instrument .grid) (now newer) (now sums) rows at
         × InRow (plan .instrument .grid) rows (s .from) (s .to) ⌝ }
@@ -99,21 +100,27 @@ fn plate_run(
     s: Stretch,
     sums: &mut [i64],
     out: &mut [i64],
-) -> bool
+) -> Progress
     requires { ⌜ Ready plan (s .force) (now older) (now newer) × Placed s (length (now out)) ⌝ }
     requires { ⌜ TwoRows (plan .instrument .grid) (now newer) (now sums) rows (s .from)
         × InRow (plan .instrument .grid) rows (s .from) (s .to) ⌝ }
     ensures { λ r. ⌜ Advanced plan s (now (older .entry)) (now (newer .entry)) (now (out .entry)) (now (out .exit)) (s .from) (s .to) r
-        × (r ≡ true → TwoRows (plan .instrument .grid) (now (newer .entry)) (now (sums .exit)) rows (s .to)) ⌝ }
+        × (r .within ≡ true → TwoRows (plan .instrument .grid) (now (newer .entry)) (now (sums .exit)) rows (s .to)) ⌝ }
 {
+    let mut inexact = 0;
     let mut at = s.from;
     while at < s.to {
-        if !plate_point(plan, older, newer, rows, at, s, sums, out) {
-            return false;
+        let p = plate_point(plan, older, newer, rows, at, s, sums, out);
+        if !p.within {
+            return p;
         }
+        inexact += p.inexact;
         at += 1;
     }
-    true
+    Progress {
+        within: true,
+        inexact,
+    }
 }
 
 // Points of a row with a hit: each is a stretch of its own.
@@ -126,14 +133,15 @@ fn struck_run(
     hit: Hit,
     sums: &mut [i64],
     out: &mut [i64],
-) -> bool
+) -> Progress
     requires { ⌜ Ready plan (pos 0) (now older) (now newer) × Placed row (length (now out)) × (tooStrong hit ≡ false) ⌝ }
     requires { ⌜ TwoRows (plan .instrument .grid) (now newer) (now sums) rows (row .from)
         × InRow (plan .instrument .grid) rows (row .from) (row .to) ⌝ }
     ensures { λ r. ⌜ Stepping (plan .instrument) hit (row .write) (row .base) (now (older .entry)) (now (newer .entry))
         (now (out .entry)) (now (out .exit)) (row .from) (row .to) r
-        × (r ≡ true → TwoRows (plan .instrument .grid) (now (newer .entry)) (now (sums .exit)) rows (row .to)) ⌝ }
+        × (r .within ≡ true → TwoRows (plan .instrument .grid) (now (newer .entry)) (now (sums .exit)) rows (row .to)) ⌝ }
 {
+    let mut inexact = 0;
     let mut at = row.from;
     while at < row.to {
         let s = Stretch {
@@ -143,12 +151,17 @@ fn struck_run(
             base: row.base,
             write: row.write,
         };
-        if !plate_point(plan, older, newer, rows, at, s, sums, out) {
-            return false;
+        let p = plate_point(plan, older, newer, rows, at, s, sums, out);
+        if !p.within {
+            return p;
         }
+        inexact += p.inexact;
         at += 1;
     }
-    true
+    Progress {
+        within: true,
+        inexact,
+    }
 }
 
 // Whether a hit is at one of the points from..to.
@@ -171,14 +184,14 @@ fn struck_row(
     hit: Hit,
     sums: &mut [i64],
     out: &mut [i64],
-) -> bool
+) -> Progress
     requires { ⌜ Ready plan (row .force) (now older) (now newer) × Placed row (length (now out)) × (tooStrong hit ≡ false) ⌝ }
     requires { ⌜ row .force ≡ pos 0 ⌝ }
     requires { ⌜ TwoRows (plan .instrument .grid) (now newer) (now sums) rows (row .from)
         × InRow (plan .instrument .grid) rows (row .from) (row .to) ⌝ }
     ensures { λ r. ⌜ Stepping (plan .instrument) hit (row .write) (row .base) (now (older .entry)) (now (newer .entry))
         (now (out .entry)) (now (out .exit)) (row .from) (row .to) r
-        × (r ≡ true → TwoRows (plan .instrument .grid) (now (newer .entry)) (now (sums .exit)) rows (row .to)) ⌝ }
+        × (r .within ≡ true → TwoRows (plan .instrument .grid) (now (newer .entry)) (now (sums .exit)) rows (row .to)) ⌝ }
 {
     if is_hit_in(hit, row.from, row.to) {
         return struck_run(plan, older, newer, rows, row, hit, sums, out);
@@ -187,7 +200,7 @@ fn struck_row(
 }
 
 // Every moving point of a plate, in a step without a hit. After a row the two places of the sums change roles.
-pub(crate) fn plate_level(plan: Plan, older: &[i64], newer: &[i64], out: &mut [i64]) -> bool
+pub(crate) fn plate_level(plan: Plan, older: &[i64], newer: &[i64], out: &mut [i64]) -> Progress
     requires { ⌜ Steppable plan Absent (now older) (now newer) (now out) × (kind (plan .instrument .grid) ≡ plate) ⌝ }
     ensures { λ r. ⌜ Stepped (plan .instrument) Absent (now (older .entry)) (now (newer .entry)) (now (out .exit)) r ⌝ }
 {
@@ -197,6 +210,7 @@ pub(crate) fn plate_level(plan: Plan, older: &[i64], newer: &[i64], out: &mut [i
     let last = g.rows - 1;
     let mut sums = [0i64; 128];
     put_first(newer, columns, 64, &mut sums);
+    let mut inexact = 0;
     let mut other = 0;
     let mut here = 64;
     let mut row = 1;
@@ -215,16 +229,21 @@ pub(crate) fn plate_level(plan: Plan, older: &[i64], newer: &[i64], out: &mut [i
             base: 0,
             write: true,
         };
-        if !plate_run(plan, older, newer, rows, moving, &mut sums, out) {
-            return false;
+        let p = plate_run(plan, older, newer, rows, moving, &mut sums, out);
+        if !p.within {
+            return p;
         }
+        inexact += p.inexact;
         let free = other;
         other = here;
         here = free;
         row += 1;
         start += columns;
     }
-    true
+    Progress {
+        within: true,
+        inexact,
+    }
 }
 
 // The same in a step with a hit: a loop of its own, so that the other steps have no force to look for.
@@ -234,7 +253,7 @@ pub(crate) fn struck_level(
     newer: &[i64],
     out: &mut [i64],
     hit: Hit,
-) -> bool
+) -> Progress
     requires { ⌜ Steppable plan hit (now older) (now newer) (now out) × (kind (plan .instrument .grid) ≡ plate) ⌝ }
     ensures { λ r. ⌜ Stepped (plan .instrument) hit (now (older .entry)) (now (newer .entry)) (now (out .exit)) r ⌝ }
 {
@@ -244,6 +263,7 @@ pub(crate) fn struck_level(
     let ring = g.rows - 1;
     let mut sums = [0i64; 128];
     put_first(newer, columns, 64, &mut sums);
+    let mut inexact = 0;
     let mut other = 0;
     let mut here = 64;
     let mut row = 1;
@@ -262,14 +282,19 @@ pub(crate) fn struck_level(
             base: 0,
             write: true,
         };
-        if !struck_row(plan, older, newer, rows, moving, hit, &mut sums, out) {
-            return false;
+        let p = struck_row(plan, older, newer, rows, moving, hit, &mut sums, out);
+        if !p.within {
+            return p;
         }
+        inexact += p.inexact;
         let spare = other;
         other = here;
         here = spare;
         row += 1;
         start += columns;
     }
-    true
+    Progress {
+        within: true,
+        inexact,
+    }
 }

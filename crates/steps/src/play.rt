@@ -1,10 +1,10 @@
 // The steps of a block.
 ghost use mathlib.Core.Path.{_≡_};
-ghost use Prim.Native.Nat.{_<_};
+ghost use Prim.Native.Nat.{_+_, _<_};
 ghost use lib.ListN.{length, set};
 ghost use Rattle.scheme.specs.Instruments.{points};
 ghost use Rattle.scheme.specs.Calls as Calls;
-ghost use Rattle.scheme.specs.Calls.{hitAfter};
+ghost use Rattle.scheme.specs.Calls.{hitAfter, capped};
 ghost use Rattle.steps.specs.Edges.{EdgesOf};
 ghost use Rattle.steps.specs.Roles.{Steppable, Played, olderOf, newerOf};
 use crate::plan::Plan;
@@ -28,9 +28,17 @@ fn put(samples: &mut [i16], place: usize, v: i16)
     samples[place] = v;
 }
 
-// How many steps were done, and the phase that the three slices are in.
+// A sum of counts, held at the largest number.
+fn held_sum(a: u64, b: u64) -> u64
+    ensures { λ r. ⌜ r ≡ capped (a + b) ⌝ }
+{
+    if b < u64::MAX - a { a + b } else { u64::MAX }
+}
+
+// How many steps were done, how many points were inexact in them, and the phase that the three slices are in.
 pub(crate) struct Steps {
     pub(crate) done: usize,
+    pub(crate) inexact: u64,
     pub(crate) phase: usize,
 }
 
@@ -49,20 +57,31 @@ pub(crate) fn play(
     requires { ⌜ Steppable plan hit (now older) (now newer) (now work) × (pick < points (plan .instrument .grid)) ⌝ }
     requires { ⌜ EdgesOf (plan .instrument .grid) (now from) (now to) ⌝ }
     ensures { λ r. ⌜ Played (Calls.play (plan .instrument) pick hit (now (older .entry)) (now (newer .entry)) (now (samples .entry)))
-        (length (now (samples .entry))) (r .done) (olderOf (r .phase) (now (older .exit)) (now (newer .exit)) (now (work .exit)))
+        (length (now (samples .entry))) r (olderOf (r .phase) (now (older .exit)) (now (newer .exit)) (now (work .exit)))
         (newerOf (r .phase) (now (older .exit)) (now (newer .exit)) (now (work .exit))) (now (samples .exit)) ⌝ }
 {
+    let mut inexact = 0;
     let mut phase = 0;
     let mut j = 0;
     while j < samples.len() {
         let h = hit_of(hit, j);
-        if !step_in_roles(plan, from, to, older, newer, work, h, phase) {
-            return Steps { done: j, phase };
+        let p = step_in_roles(plan, from, to, older, newer, work, h, phase);
+        if !p.within {
+            return Steps {
+                done: j,
+                inexact,
+                phase,
+            };
         }
+        inexact = held_sum(inexact, p.inexact);
         let v = sample_in_roles(older, newer, work, pick, phase);
         put(samples, j, v);
         phase = turned(phase);
         j += 1;
     }
-    Steps { done: j, phase }
+    Steps {
+        done: j,
+        inexact,
+        phase,
+    }
 }

@@ -1,5 +1,5 @@
 // The next values of a stretch of moving points, put into a slice that is neither older nor newer.
-// Each function answers whether all of them lie within the ceiling: at the first that does not it stops.
+// At the first that lies beyond the ceiling each function stops.
 ghost use mathlib.Core.Path.{_≡_};
 ghost use Prim.Native.Nat.{_+_, _-_, _≤_, _<_};
 ghost use lib.ListN.{length};
@@ -13,6 +13,7 @@ use crate::neighbours::around;
 use crate::neighbours::beside;
 use crate::neighbours::sum_at;
 use crate::plan::Plan;
+use crate::progress::Progress;
 use crate::stretch::Stretch;
 use crate::stretch::part;
 
@@ -26,61 +27,86 @@ pub(crate) fn next_point(
     second: i64,
     s: Stretch,
     out: &mut [i64],
-) -> bool
+) -> Progress
     requires { ⌜ Ready plan (s .force) (now older) (now newer) × Neighbouring (plan .instrument) (now newer) at sum second ⌝ }
     requires { ⌜ Placed s (length (now out)) × (s .from ≤ at) × (at < s .to) ⌝ }
     ensures { λ r. ⌜ Advanced plan s (now (older .entry)) (now (newer .entry)) (now (out .entry)) (now (out .exit)) at (at + 1) r ⌝ }
 {
     let n = numerator(plan, newer[at], sum, second, older[at], s.force);
     if !is_within(plan, n) {
-        return false;
+        return Progress {
+            within: false,
+            inexact: 0,
+        };
     }
-    if s.write {
-        out[at - s.base] = round_away(n, plan.divisor, plan.half);
+    if !s.write {
+        return Progress {
+            within: true,
+            inexact: 0,
+        };
     }
-    true
+    let rounded = round_away(n, plan.divisor, plan.half);
+    let whole = rounded.whole;
+    out[at - s.base] = whole;
+    let inexact = if rounded.rest == 0 { 0 } else { 1 };
+    Progress {
+        within: true,
+        inexact,
+    }
 }
 
 // Inner points of a line, without stiffness.
-fn line_run(plan: Plan, older: &[i64], newer: &[i64], s: Stretch, out: &mut [i64]) -> bool
+fn line_run(plan: Plan, older: &[i64], newer: &[i64], s: Stretch, out: &mut [i64]) -> Progress
     requires { ⌜ Ready plan (s .force) (now older) (now newer) × Placed s (length (now out)) ⌝ }
     requires { ⌜ OnLine (plan .instrument .grid) (s .from) (s .to) × (plan .instrument .settings .m ≡ 0) ⌝ }
     ensures { λ r. ⌜ Advanced plan s (now (older .entry)) (now (newer .entry)) (now (out .entry)) (now (out .exit)) (s .from) (s .to) r ⌝ }
 {
+    let mut inexact = 0;
     let mut at = s.from;
     while at < s.to {
         let sum = beside(newer, at);
-        if !next_point(plan, older, newer, at, sum, 0, s, out) {
-            return false;
+        let p = next_point(plan, older, newer, at, sum, 0, s, out);
+        if !p.within {
+            return p;
         }
+        inexact += p.inexact;
         at += 1;
     }
-    true
+    Progress {
+        within: true,
+        inexact,
+    }
 }
 
 // Points of a bar: the sums of the neighbours before, here and after, each worked out once.
-fn bar_run(plan: Plan, older: &[i64], newer: &[i64], s: Stretch, out: &mut [i64]) -> bool
+fn bar_run(plan: Plan, older: &[i64], newer: &[i64], s: Stretch, out: &mut [i64]) -> Progress
     requires { ⌜ Ready plan (s .force) (now older) (now newer) × Placed s (length (now out)) ⌝ }
     requires { ⌜ OnLine (plan .instrument .grid) (s .from) (s .to) × (kind (plan .instrument .grid) ≡ bar) ⌝ }
     ensures { λ r. ⌜ Advanced plan s (now (older .entry)) (now (newer .entry)) (now (out .entry)) (now (out .exit)) (s .from) (s .to) r ⌝ }
 {
+    let mut inexact = 0;
     let mut at = s.from;
     let mut left = sum_at(newer, at - 1);
     let mut here = sum_at(newer, at);
     while at < s.to {
         let right = sum_at(newer, at + 1);
-        if !next_point(plan, older, newer, at, here, left + right, s, out) {
-            return false;
+        let p = next_point(plan, older, newer, at, here, left + right, s, out);
+        if !p.within {
+            return p;
         }
+        inexact += p.inexact;
         left = here;
         here = right;
         at += 1;
     }
-    true
+    Progress {
+        within: true,
+        inexact,
+    }
 }
 
 // Inner points of a line. Of lines only a bar is stiff.
-fn inner_points(plan: Plan, older: &[i64], newer: &[i64], s: Stretch, out: &mut [i64]) -> bool
+fn inner_points(plan: Plan, older: &[i64], newer: &[i64], s: Stretch, out: &mut [i64]) -> Progress
     requires { ⌜ Ready plan (s .force) (now older) (now newer) × Placed s (length (now out)) ⌝ }
     requires { ⌜ OnLine (plan .instrument .grid) (s .from) (s .to) ⌝ }
     ensures { λ r. ⌜ Advanced plan s (now (older .entry)) (now (newer .entry)) (now (out .entry)) (now (out .exit)) (s .from) (s .to) r ⌝ }
@@ -99,51 +125,69 @@ fn free_end(
     near: usize,
     s: Stretch,
     out: &mut [i64],
-) -> bool
+) -> Progress
     requires { ⌜ Ready plan (s .force) (now older) (now newer) × Placed s (length (now out)) ⌝ }
     requires { ⌜ FreeEnd (plan .instrument) near (s .from) (s .to) ⌝ }
     ensures { λ r. ⌜ Advanced plan s (now (older .entry)) (now (newer .entry)) (now (out .entry)) (now (out .exit)) (s .from) (s .to) r ⌝ }
 {
     if s.from == s.to {
-        return true;
+        return Progress {
+            within: true,
+            inexact: 0,
+        };
     }
     let x = newer[near];
     next_point(plan, older, newer, s.from, x + x, 0, s, out)
 }
 
 // Moving points of a line: its first, if it is one of them, the inner ones, its last.
-fn line_points(plan: Plan, older: &[i64], newer: &[i64], s: Stretch, out: &mut [i64]) -> bool
+fn line_points(plan: Plan, older: &[i64], newer: &[i64], s: Stretch, out: &mut [i64]) -> Progress
     requires { ⌜ Ready plan (s .force) (now older) (now newer) × Placed s (length (now out)) ⌝ }
     requires { ⌜ (plan .instrument .grid .rows ≡ 1) × Moves (plan .instrument .grid) (s .from) (s .to) × (s .from < s .to) ⌝ }
     ensures { λ r. ⌜ Advanced plan s (now (older .entry)) (now (newer .entry)) (now (out .entry)) (now (out .exit)) (s .from) (s .to) r ⌝ }
 {
     let n = newer.len();
-    if !free_end(plan, older, newer, 1, part(s, 0, 1), out) {
-        return false;
+    let first = free_end(plan, older, newer, 1, part(s, 0, 1), out);
+    if !first.within {
+        return first;
     }
-    if !inner_points(plan, older, newer, part(s, 1, n - 1), out) {
-        return false;
+    let inner = inner_points(plan, older, newer, part(s, 1, n - 1), out);
+    if !inner.within {
+        return inner;
     }
-    free_end(plan, older, newer, n - 2, part(s, n - 1, n), out)
+    let last = free_end(plan, older, newer, n - 2, part(s, n - 1, n), out);
+    if !last.within {
+        return last;
+    }
+    Progress {
+        within: true,
+        inexact: first.inexact + inner.inexact + last.inexact,
+    }
 }
 
 // Moving points of a row of a grid, without stiffness.
-fn grid_run(plan: Plan, older: &[i64], newer: &[i64], s: Stretch, out: &mut [i64]) -> bool
+fn grid_run(plan: Plan, older: &[i64], newer: &[i64], s: Stretch, out: &mut [i64]) -> Progress
     requires { ⌜ Ready plan (s .force) (now older) (now newer) × Placed s (length (now out)) ⌝ }
     requires { ⌜ (plan .instrument .grid .rows ≡ 1 → ⊥) × (plan .instrument .settings .m ≡ 0)
         × Moves (plan .instrument .grid) (s .from) (s .to) ⌝ }
     ensures { λ r. ⌜ Advanced plan s (now (older .entry)) (now (newer .entry)) (now (out .entry)) (now (out .exit)) (s .from) (s .to) r ⌝ }
 {
     let columns = plan.instrument.grid.columns;
+    let mut inexact = 0;
     let mut at = s.from;
     while at < s.to {
         let sum = around(newer, at, columns);
-        if !next_point(plan, older, newer, at, sum, 0, s, out) {
-            return false;
+        let p = next_point(plan, older, newer, at, sum, 0, s, out);
+        if !p.within {
+            return p;
         }
+        inexact += p.inexact;
         at += 1;
     }
-    true
+    Progress {
+        within: true,
+        inexact,
+    }
 }
 
 // Moving points of a row. Off a line there is no stiffness.
@@ -153,7 +197,7 @@ pub(crate) fn points_run(
     newer: &[i64],
     s: Stretch,
     out: &mut [i64],
-) -> bool
+) -> Progress
     requires { ⌜ Ready plan (s .force) (now older) (now newer) × Placed s (length (now out)) ⌝ }
     requires { ⌜ Moves (plan .instrument .grid) (s .from) (s .to) × (s .from < s .to) × SoftGrid (plan .instrument) ⌝ }
     ensures { λ r. ⌜ Advanced plan s (now (older .entry)) (now (newer .entry)) (now (out .entry)) (now (out .exit)) (s .from) (s .to) r ⌝ }

@@ -12,6 +12,7 @@ ghost use Rattle.steps.specs.Roles.{Steppable, SteppedIn, turnedOf, olde
 use crate::arithmetic::sample;
 use crate::level::next_level;
 use crate::plan::Plan;
+use crate::progress::Progress;
 use types::Hit;
 
 // A step with the three slices in their roles.
@@ -24,7 +25,7 @@ pub(crate) fn step_in_roles(
     work: &mut [i64],
     hit: Hit,
     phase: usize,
-) -> bool
+) -> Progress
     requires { ⌜ Steppable plan hit (olderOf phase (now older) (now newer) (now work)) (newerOf phase (now older) (now newer) (now work))
         (outOf phase (now older) (now newer) (now work)) ⌝ }
     requires { ⌜ EdgesOf (plan .instrument .grid) (now from) (now to) ⌝ }

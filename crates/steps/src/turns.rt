@@ -20,11 +20,12 @@ use types::Hit;
 use types::Instrument;
 use types::Refusal;
 
-// What the steps of a call leave: whether it was carried out, the steps done, what refused or ended them,
-// and the phase that the three slices are in.
+// What the steps of a call leave: whether it was carried out, the steps done, how many points were inexact in them,
+// what refused or ended them, and the phase that the three slices are in.
 pub struct InTurn {
     pub begun: bool,
     pub steps: usize,
+    pub inexact: u64,
     pub refusal: Refusal,
     pub phase: usize,
 }
@@ -52,7 +53,7 @@ fn begin(
 ) -> Steps
     requires { ⌜ blockRefusal i (now older) (now newer) (wrongLength (i .grid) (length (now work))) pick hit ≡ Nothing ⌝ }
     ensures { λ r. ⌜ Played (Calls.play i pick hit (now (older .entry)) (now (newer .entry)) (now (samples .entry)))
-        (length (now (samples .entry))) (r .done) (olderOf (r .phase) (now (older .exit)) (now (newer .exit)) (now (work .exit)))
+        (length (now (samples .entry))) r (olderOf (r .phase) (now (older .exit)) (now (newer .exit)) (now (work .exit)))
         (newerOf (r .phase) (now (older .exit)) (now (newer .exit)) (now (work .exit))) (now (samples .exit)) ⌝ }
 {
     let plan = make_plan(i);
@@ -85,6 +86,7 @@ pub fn steps_in_turn(
         return InTurn {
             begun: false,
             steps: 0,
+            inexact: 0,
             refusal,
             phase: 0,
         };
@@ -93,6 +95,7 @@ pub fn steps_in_turn(
     InTurn {
         begun: true,
         steps: steps.done,
+        inexact: steps.inexact,
         refusal: ending(steps.done, samples.len()),
         phase: steps.phase,
     }

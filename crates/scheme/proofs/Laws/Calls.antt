@@ -162,6 +162,14 @@ pub capped-high : (n : ℕ) → 2 ^ 64 ≤ n → capped n ≡ 2 ^ 64 - 1
 unfolding capped
 capped-high n h = simp (le-ltb n (2 ^ 64) h)
 
+-- from 2⁶⁴ − 1 on
+pub capped-full : (n : ℕ) → 2 ^ 64 - 1 ≤ n → capped n ≡ 2 ^ 64 - 1
+capped-full n h = go (decLt n (2 ^ 64))
+  where
+    go : Dec (n < 2 ^ 64) → capped n ≡ 2 ^ 64 - 1
+    go (yes l) = capped-low n l ∙ omega arith
+    go (no l) = capped-high n (omega (arith, l))
+
 -- a sum of 0 is one of no points at all
 pub capped-zero : (n : ℕ) → capped n ≡ 0 → n ≡ 0
 capped-zero n e = go (decLt n (2 ^ 64))
@@ -169,6 +177,16 @@ capped-zero n e = go (decLt n (2 ^ 64))
     go : Dec (n < 2 ^ 64) → n ≡ 0
     go (yes h) = sym (capped-low n h) ∙ e
     go (no h) = absurd (omega (arith, e, capped-high n (omega (arith, h))))
+
+-- held or not, a sum is held in the end
+pub capped-add : (a b : ℕ) → capped (capped a + b) ≡ capped (a + b)
+capped-add a b = go (decLt a (2 ^ 64))
+  where
+    go : Dec (a < 2 ^ 64) → capped (capped a + b) ≡ capped (a + b)
+    go (yes h) = ap (λ (n : ℕ). capped (n + b)) (capped-low a h)
+    go (no h) =
+        let high : 2 ^ 64 ≤ a = omega (arith, h) in
+        ap (λ (n : ℕ). capped (n + b)) (capped-high a high) ∙ capped-full (2 ^ 64 - 1 + b) (omega arith) ∙ sym (capped-high (a + b) (omega arith))
 
 -- ---- a block
 

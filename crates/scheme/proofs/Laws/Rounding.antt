@@ -12,6 +12,7 @@ use lib.IntN.{ℤ, pos, negsuc, negℤ, natAbs, subℕ, _+ℤ_, _-ℤ_, _*ℤ_, 
 use lib.Signed.{ltZ}
 use Rattle.integers.proofs.Ring.{#_, ⊝_, _⊕_, _⊖_, _⊗_, _≈_, ring}
 use Rattle.integers.proofs.Size.{cond-ind, size-neg, size-mul}
+use Rattle.scheme.proofs.Laws.Bools.{not-so}
 use Rattle.scheme.specs.Step.{nearest, roundAway, restOf, isMultiple, RestRule, sampleOf, SampleRule}
 
 near : (m k q : ℕ) → 0 < k → (2 * m + k) / (2 * k) ≡ q → (2 * (k * q) ≤ 2 * m + k) × (2 * m ≤ 2 * (k * q) + k)
@@ -132,6 +133,13 @@ rest-rule n d h = record {
   multiple = λ w e. eq-eqb (natAbs n % d) 0 (ap (λ (z : ℤ). natAbs z % d) e ∙ ap (λ (k : ℕ). k % d) (size-mul w (pos d)) ∙
       mul-mod-left (natAbs w) d);
 }
+
+-- by the remainder
+pub rest-none : (n : ℤ) (d : ℕ) → 0 < d → restOf n d ≡ pos 0 → isMultiple n d ≡ true
+rest-none n d h e = let rule = rest-rule n d h in rule .multiple (roundAway n d) (rule .whole e)
+
+pub rest-some : (n : ℤ) (d : ℕ) → 0 < d → (restOf n d ≡ pos 0 → ⊥) → isMultiple n d ≡ false
+rest-some n d h e = not-so (λ t. e (rest-rule n d h .none t))
 
 -- as code computes it: the remainder of the quotient that is cut, less half of d, with the sign of n
 pub rest-signed : (n : ℤ) (d : ℕ) → 0 < d → let z : ℤ = pos ((natAbs n + d / 2) % d) -ℤ pos (d / 2) in

@@ -19,8 +19,8 @@ use Rattle.types.specs.Numbers.{D, ceiling}
 use Rattle.scheme.specs.Lists.{tabulate, point}
 use Rattle.scheme.specs.Instruments.{beyond, points, fixed, moving}
 use Rattle.scheme.specs.Step.{neighbours, laplacian, innerLaplacian, biharmonic, numeratorOf, numerator, roundAway, forceOf, divisor}
-use Rattle.scheme.specs.Step.{nextAt, nextLevel, someBeyond}
-use Rattle.scheme.proofs.Laws.Bools.{and-both}
+use Rattle.scheme.specs.Step.{nextAt, nextLevel, inexactAt, someBeyond}
+use Rattle.scheme.proofs.Laws.Bools.{and-both, and-no}
 use Rattle.scheme.proofs.Laws.Lists.{length-tabulate, getD-tabulate, point-tabulate, none-at, none-below}
 
 -- ---- moving and fixed
@@ -120,6 +120,11 @@ module _ (i : Instrument) (h : Hit) (older newer : List ℤ) where
   -- fixed points stay 0
   pub next-fixed : (k : ℕ) → moving (i .grid) k ≡ false → point (nextLevel i h older newer) k ≡ pos 0
   next-fixed k e = next-point k ∙ next-still k e
+
+  -- what does not move is not inexact
+  pub inexact-still : (k : ℕ) → moving (i .grid) k ≡ false → inexactAt i h older newer k ≡ false
+  unfolding inexactAt
+  inexact-still k e = and-no _ e
 
 -- ---- the ceiling
 

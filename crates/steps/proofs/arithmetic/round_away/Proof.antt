@@ -1,19 +1,16 @@
--- `round_away` meets its contract: the quotient of the raised size, with the sign of n.
+-- `round_away` meets its contract: the quotient and the remainder of the raised size, with the sign of n.
 use mathlib.Core.Path.{_≡_, ap, _∙_}
 use mathlib.Core.Bool.{cond}
-use Prim.Native.Nat.{ℕ, _+_, _/_, _^_, _≤_}
-use native.Mathlib.Nat.{le-trans, div-le-self}
+use Prim.Native.Nat.{ℕ, _+_, _/_, _%_, _^_, _≤_}
+use native.Mathlib.Nat.{le-trans, div-le-self, mod-lt}
 use native.Mathlib.Omega.{arith}
 use borrow.Author.Needs.{needs}
-use lib.IntN.{ℤ, pos, negℤ, natAbs}
+use lib.IntN.{ℤ, pos, negℤ, natAbs, _-ℤ_}
 use lib.Signed.{ltZ}
-use mir.Syntax.{w64}
-use mir.Val.{toZ, ofZ}
 use Rattle.bounded.proofs.Num.{back}
-use Rattle.bounded.proofs.Expr.{E, at, via, _⊟_, fits, is, said}
-use Rattle.scheme.proofs.Laws.Rounding.{round-signed}
-use Rattle.steps.specs.Plan.{signOf, mirrorOf}
-use Rattle.steps.proofs.RoundLaws.{sign-size, mirror-size, mirror-signed}
+use Rattle.bounded.proofs.Expr.{E, at, _⊟_, fits, is, size, said}
+use Rattle.scheme.specs.Step.{roundAway, restOf}
+use Rattle.scheme.proofs.Laws.Rounding.{round-signed, rest-signed}
 use Rattle.steps.proofs.arithmetic.round_away.Statement.{statement}
 use Rattle.steps.proofs.arithmetic.round_away.Tie as tie
 
@@ -21,22 +18,22 @@ use Rattle.steps.proofs.arithmetic.round_away.Tie as tie
 abbrev n# : tie.Start → E
 n# s = at (s .args .n) (2 ^ 62) (s .pre .0)
 
--- the quotient
 module _ (c : tie.After-raised) where
   abbrev start : tie.Start
   start = c .before
 
+  abbrev n : ℤ
+  n = start .args .n
+
   abbrev d : ℕ
   d = start .args .d
 
-  abbrev quotient : ℕ
-  quotient = c .raised .result / d
-
-  raised-is : c .raised .result ≡ natAbs (start .args .n) + d / 2
+  raised-is : c .raised .result ≡ natAbs n + d / 2
   raised-is = c .raised .ensures ∙ (λ j. natAbs (is (n# start) tt j) + start .pre .3 j)
 
-  quotient-is : quotient ≡ (natAbs (start .args .n) + d / 2) / d
-  quotient-is = ap (λ (m : ℕ). m / d) raised-is
+  -- the quotient
+  abbrev quotient : ℕ
+  quotient = c .raised .result / d
 
   quotient-low : quotient ≤ 2 ^ 62 + 2 ^ 30
   quotient-low = le-trans (div-le-self (c .raised .result) d) (omega (arith, raised-is, start .pre .0, start .pre .2))
@@ -44,60 +41,85 @@ module _ (c : tie.After-raised) where
   abbrev quotient# : E
   quotient# = at (pos quotient) (2 ^ 62 + 2 ^ 30) quotient-low
 
--- with its sign
-module _ (c : tie.After-sign) where
-  abbrev divided : tie.After-raised
-  divided = c .before .before
+  -- what is left, less half of the divisor
+  abbrev left : ℕ
+  left = c .raised .result % d
 
-  abbrev n : ℤ
-  n = start divided .args .n
+  left-low : left ≤ 2 ^ 31
+  left-low = omega (arith, mod-lt (c .raised .result) (start .pre .1), start .pre .2)
 
-  mirrored-is : toZ w64 (ofZ w64 (c .before .mirrored .result)) ≡ mirrorOf n (pos (quotient divided))
-  mirrored-is =
-      back (c .before .mirrored .result) (c .before .mirrored .ok) ∙ c .before .mirrored .ensures ∙
-      (λ j. mirrorOf (is (n# (start divided)) tt j) (is (quotient# divided) tt j))
+  half-low : start .args .half ≤ 2 ^ 30
+  half-low = omega (arith, start .pre .2, start .pre .3)
 
-  sign-is : toZ w64 (ofZ w64 (c .sign .result)) ≡ signOf n
-  sign-is = back (c .sign .result) (c .sign .ok) ∙ c .sign .ensures ∙ ap signOf (is (n# (start divided)) tt)
+  abbrev left# : E
+  left# = at (pos left) (2 ^ 31) left-low
 
-  abbrev signed# : E
-  signed# =
-      via {B = 2 ^ 62 + 2 ^ 31}
-      (record { is = mirrored-is; size = le-trans (mirror-size n (pos (quotient divided))) (omega (arith, quotient-low divided)) })
-      ⊟ via {B = 1} (record { is = sign-is; size = sign-size n })
+  abbrev half# : E
+  half# = at (pos (start .args .half)) (2 ^ 30) half-low
+
+  abbrev rest# : E
+  rest# = left# ⊟ half#
+
+  -- x with the sign of n
+  abbrev with-sign : ℤ → ℤ
+  with-sign x = cond (ltZ n (pos 0)) (negℤ x) x
+
+  whole-is : with-sign (pos quotient) ≡ roundAway n d
+  whole-is = ap (λ (m : ℕ). with-sign (pos (m / d))) raised-is ∙ round-signed n d (start .pre .1)
+
+  rest-is : with-sign (pos left -ℤ pos (start .args .half)) ≡ restOf n d
+  rest-is = (λ j. with-sign (pos (raised-is j % d) -ℤ pos (start .pre .3 j))) ∙ rest-signed n d (start .pre .1)
 
 raised-requires : tie.Need-raised-requires
 raised-requires c κs = (said (λ (z : ℤ). natAbs z ≤ 2 ^ 62) (n# c) tt (c .pre .0), omega (arith, c .pre .2, c .pre .3))
 
-div-size : tie.Need-div-size
-div-size c = search needs
+div-quotient : tie.Need-div-quotient
+div-quotient c = search needs
 
-cast-size : tie.Need-cast-size
-cast-size c = fits (quotient# c) tt
+cast-quotient : tie.Need-cast-quotient
+cast-quotient c = fits (quotient# c) tt
 
-mirrored-requires : tie.Need-mirrored-requires
-mirrored-requires c κs = search needs
+rem-left : tie.Need-rem-left
+rem-left c = search needs
 
-sign-requires : tie.Need-sign-requires
-sign-requires c κs = search needs
+cast-left : tie.Need-cast-left
+cast-left c = fits (left# c) tt
 
-sub-result : tie.Need-sub-result
-sub-result c = fits (signed# c) tt
+cast-left-2 : tie.Need-cast-left-2
+cast-left-2 c = fits (half# c) tt
+
+sub-left : tie.Need-sub-left
+sub-left c = fits (rest# c) tt
+
+signed-requires : tie.Need-signed-requires
+signed-requires c κs = said (λ (z : ℤ). natAbs z ≤ 2 ^ 62 + 2 ^ 30) (quotient# c) tt (quotient-low c)
+
+signed-requires-2 : tie.Need-signed-requires-2
+signed-requires-2 c κs =
+    let r = rest# (c .before) in
+    said (λ (z : ℤ). natAbs z ≤ 2 ^ 62 + 2 ^ 30) r tt (le-trans (size r tt) (omega arith))
 
 returns : tie.Need-returns
 returns c =
-    let p = divided c in
-    is (signed# c) tt ∙ mirror-signed (n c) (quotient p) ∙ ap (λ (q : ℕ). cond (ltZ (n c) (pos 0)) (negℤ (pos q)) (pos q)) (quotient-is p) ∙
-    round-signed (n c) (d p) (start p .pre .1)
+    let b = c .before in
+    let a = b .before in (
+      back (b .signed .result) (b .signed .ok) ∙ b .signed .ensures ∙
+          (λ j. cond (ltZ (is (n# (start a)) tt j) (pos 0)) (negℤ (is (quotient# a) tt j)) (is (quotient# a) tt j)) ∙ whole-is a,
+      back (c .signed2 .result) (c .signed2 .ok) ∙ c .signed2 .ensures ∙
+          (λ j. cond (ltZ (is (n# (start a)) tt j) (pos 0)) (negℤ (is (rest# a) tt j)) (is (rest# a) tt j)) ∙ rest-is a,
+    )
 
 pub round-away-spec : {M : Type 1} → statement M
 round-away-spec =
     tie.close
     (tie.spec
     raised-requires
-    div-size
-    cast-size
-    mirrored-requires
-    sign-requires
-    sub-result
+    div-quotient
+    cast-quotient
+    rem-left
+    cast-left
+    cast-left-2
+    sub-left
+    signed-requires
+    signed-requires-2
     returns)

@@ -5,12 +5,13 @@ use native.Mathlib.Omega.{arith}
 use lib.IntN.{ℤ}
 use mir.Syntax.{w16, w64}
 use mir.Val.{SFits, toZ, ofZ}
-use Rattle.bounded.proofs.Num.{back, fits16, back16}
+use Rattle.bounded.proofs.Num.{fits16, back16}
 use Rattle.bounded.proofs.Expr.{E, at, is, said}
 use Rattle.types.specs.Numbers.{ceiling}
 use Rattle.scheme.specs.Step.{sampleOf}
 use Rattle.scheme.proofs.Laws.Rounding.{sample-rule}
 use Rattle.steps.specs.Plan.{Dividable}
+use Rattle.steps.proofs.Held.{held-below}
 use Rattle.steps.proofs.arithmetic.sample.Statement.{statement}
 use Rattle.steps.proofs.arithmetic.sample.Tie as tie
 
@@ -18,9 +19,12 @@ use Rattle.steps.proofs.arithmetic.sample.Tie as tie
 abbrev v# : tie.Start → E
 v# s = at (s .args .v) ceiling (s .pre)
 
-rounded : (c : tie.After-round-away) → toZ w64 (ofZ w64 (c .round-away .result)) ≡ sampleOf (c .before .args .v)
+rounded : (c : tie.After-round-away) → toZ w64 (ofZ w64 (c .round-away .result .whole)) ≡ sampleOf (c .before .args .v)
 unfolding sampleOf
-rounded c = back (c .round-away .result) (c .round-away .ok) ∙ c .round-away .ensures ∙ ap sampleOf (is (v# (c .before)) tt)
+rounded c =
+    let v = c .before .args .v in
+    let told = c .round-away .ensures .0 ∙ ap sampleOf (is (v# (c .before)) tt) in
+    ap (λ (z : ℤ). toZ w64 (ofZ w64 z)) told ∙ held-below 32767 tt (sample-rule .fits v (c .before .pre))
 
 round-away-requires : tie.Need-round-away-requires
 round-away-requires c κs =
@@ -28,13 +32,15 @@ round-away-requires c κs =
 
 cast-result : tie.Need-cast-result
 cast-result c =
-    let v = c .before .args .v in
-    subst (SFits w16) (sym (rounded c)) (fits16 (sampleOf v) (sample-rule .fits v (c .before .pre)) tt)
+    let a = c .before .before in
+    let v = a .before .args .v in
+    subst (SFits w16) (sym (rounded a)) (fits16 (sampleOf v) (sample-rule .fits v (a .before .pre)) tt)
 
 returns : tie.Need-returns
 returns c =
-    let v = c .before .args .v in
-    ap (λ (z : ℤ). toZ w16 (ofZ w16 z)) (rounded c) ∙ back16 (sampleOf v) (sample-rule .fits v (c .before .pre)) tt
+    let a = c .before .before in
+    let v = a .before .args .v in
+    ap (λ (z : ℤ). toZ w16 (ofZ w16 z)) (rounded a) ∙ back16 (sampleOf v) (sample-rule .fits v (a .before .pre)) tt
 
 pub sample-spec : {M : Type 1} → statement M
 sample-spec = tie.close (tie.spec round-away-requires cast-result returns)

@@ -10,19 +10,18 @@ use Rattle.kinds.specs.Runs.{runOf}
 use Rattle.steps.specs.Edges.{runAt}
 use Rattle.steps.specs.Roles.{Steppable}
 use Rattle.steps.proofs.PlanLaws.{few-rows, few-points}
-use Rattle.steps.proofs.FillLaws.{ran-fine}
 use Rattle.steps.proofs.RowLaws.{RowRun, Rows, rows-start, rows-done, steppable-ready, run-here, row-room, run-moves, rows-stop}
-use Rattle.steps.proofs.RowLaws.{rows-more, stepped-all, stepped-not}
+use Rattle.steps.proofs.RowLaws.{rows-more, rows-most, stepped-all, stepped-not}
 use Rattle.steps.proofs.level.level_run.Statement.{statement}
 use Rattle.steps.proofs.level.level_run.Tie as tie
 
 -- the rows passed have their next values
 abbrev Inv-loop : tie.InvT-loop
-Inv-loop plan from to older newer out₀ hit columns rows row₀ start₀ out row start =
-    Rows (plan .instrument) hit older newer out₀ out row start
+Inv-loop plan from to older newer out₀ hit columns rows inexact₀ row₀ start₀ out inexact row start =
+    Rows (plan .instrument) hit older newer out₀ out row start inexact
 
 abbrev μ-loop : tie.MeasureT-loop
-μ-loop plan from to older newer out₀ hit columns rows row₀ start₀ out row start = rows - row
+μ-loop plan from to older newer out₀ hit columns rows inexact₀ row₀ start₀ out inexact row start = rows - row
 
 -- what the caller showed
 module _ (s : tie.Start Inv-loop μ-loop) where
@@ -39,7 +38,7 @@ module _ (c : tie.In-loop Inv-loop μ-loop) where
 
   abbrev inv : Rows (start .args .plan .instrument) (start .args .hit) (start .args .older .now) (start .args .newer .now)
       (start .args .out .now)
-      (c .before .loop .out) (c .before .loop .row) (c .before .loop .start)
+      (c .before .loop .out) (c .before .loop .row) (c .before .loop .start) (c .before .loop .inexact)
   inv = c .before .loop .inv
 
   below : c .before .loop .row < g start .rows
@@ -68,29 +67,29 @@ module _ (c : tie.In-loop Inv-loop μ-loop) where
 loop-holds : tie.Need-loop-holds Inv-loop μ-loop
 loop-holds c = rows-start _ _ _ _ _
 
-mul-t14 : tie.Need-mul-t14 Inv-loop μ-loop
-mul-t14 c = record { fits = omega (arith, few c) }
+mul-t16 : tie.Need-mul-t16 Inv-loop μ-loop
+mul-t16 c = record { fits = omega (arith, few c) }
 
-element-copy-out-t17 : tie.Need-element-copy-out-t17 Inv-loop μ-loop
-element-copy-out-t17 c = few c
+element-copy-out-t19 : tie.Need-element-copy-out-t19 Inv-loop μ-loop
+element-copy-out-t19 c = few c
 
-cast-t18 : tie.Need-cast-t18 Inv-loop μ-loop
-cast-t18 c = let t = c .before in record { fits = omega (arith, room t, small t, moves t .inside, moves t .rising) }
+cast-t20 : tie.Need-cast-t20 Inv-loop μ-loop
+cast-t20 c = let t = c .before in record { fits = omega (arith, room t, small t, moves t .inside, moves t .rising) }
 
-add-t19 : tie.Need-add-t19 Inv-loop μ-loop
-add-t19 c = let t = c .before in record { fits = omega (arith, room t, small t, moves t .inside, moves t .rising) }
+add-t21 : tie.Need-add-t21 Inv-loop μ-loop
+add-t21 c = let t = c .before in record { fits = omega (arith, room t, small t, moves t .inside, moves t .rising) }
 
-mul-t20 : tie.Need-mul-t20 Inv-loop μ-loop
-mul-t20 c = record { fits = omega (arith, few (c .before)) }
+mul-t22 : tie.Need-mul-t22 Inv-loop μ-loop
+mul-t22 c = record { fits = omega (arith, few (c .before)) }
 
-element-copy-out-t23 : tie.Need-element-copy-out-t23 Inv-loop μ-loop
-element-copy-out-t23 c = few (c .before)
+element-copy-out-t25 : tie.Need-element-copy-out-t25 Inv-loop μ-loop
+element-copy-out-t25 c = few (c .before)
 
-cast-t24 : tie.Need-cast-t24 Inv-loop μ-loop
-cast-t24 c = let t = c .before .before in record { fits = omega (arith, room t, small t, moves t .inside) }
+cast-t26 : tie.Need-cast-t26 Inv-loop μ-loop
+cast-t26 c = let t = c .before .before in record { fits = omega (arith, room t, small t, moves t .inside) }
 
-add-t25 : tie.Need-add-t25 Inv-loop μ-loop
-add-t25 c = let t = c .before .before in record { fits = omega (arith, room t, small t, moves t .inside) }
+add-t27 : tie.Need-add-t27 Inv-loop μ-loop
+add-t27 c = let t = c .before .before in record { fits = omega (arith, room t, small t, moves t .inside) }
 
 row-run-requires : tie.Need-row-run-requires Inv-loop μ-loop
 row-run-requires c κs =
@@ -112,29 +111,42 @@ abbrev at-row : tie.After-out Inv-loop μ-loop → tie.In-loop Inv-loop μ-loop
 at-row c = c .before .before .before .before .before
 
 same-length : tie.Need-same-length Inv-loop μ-loop
-same-length c = let t = at-row (c .before) in c .before .before .row-run .ensures .long ∙ inv t .ran .long
+same-length c = let o = c .before .before in o .before .row-run .ensures .long ∙ inv (at-row o) .ran .long
 
 returns : tie.Need-returns Inv-loop μ-loop
 returns c =
-    let t = at-row (c .before) in
+    let o = c .before .before in
+    let t = at-row o in
     let p = given (start t) in
-    stepped-not p (rows-stop p (inv t) (below t) (here t) (here-is t)
-    (ran-fine (not-true _ (c .if1 .taken)) (c .before .before .row-run .ensures)))
+    let beyond = not-true _ (c .if1 .taken) in
+    stepped-not p (rows-stop p (inv t) (below t) (here t) (here-is t) (o .before .row-run .ensures) beyond) beyond
+
+-- its answer, once it was looked at
+abbrev looked : tie.After-struct-known2 Inv-loop μ-loop → tie.After-out Inv-loop μ-loop
+looked c = c .before .before .before
+
+add-inexact : tie.Need-add-inexact Inv-loop μ-loop
+add-inexact c =
+    let o = looked c in
+    let t = at-row o in
+    let most = rows-most (given (start t)) (inv t) (below t) (here t) (here-is t) (o .before .row-run .ensures)
+    (not-false _ (c .before .if1 .left)) in
+    record { fits = omega (arith, most, small t) }
 
 add-row : tie.Need-add-row Inv-loop μ-loop
-add-row c = record { fits = omega (arith, few (at-row (c .before))) }
+add-row c = record { fits = omega (arith, few (at-row (looked c))) }
 
 add-start : tie.Need-add-start Inv-loop μ-loop
-add-start c = let t = at-row (c .before) in record { fits = omega (arith, room t, small t) }
+add-start c = let t = at-row (looked c) in record { fits = omega (arith, room t, small t) }
 
 loop-less : tie.Need-loop-less Inv-loop μ-loop
-loop-less c = omega (arith, below (at-row (c .before)))
+loop-less c = omega (arith, below (at-row (looked c)))
 
 loop-again : tie.Need-loop-again Inv-loop μ-loop
 loop-again c =
-    let t = at-row (c .before) in
-    rows-more (given (start t)) (inv t) (below t) (here t) (here-is t)
-    (ran-fine (not-false _ (c .if1 .left)) (c .before .before .row-run .ensures))
+    let o = looked c in
+    let t = at-row o in
+    rows-more (given (start t)) (inv t) (below t) (here t) (here-is t) (o .before .row-run .ensures) (not-false _ (c .before .if1 .left))
 
 same-length-2 : tie.Need-same-length-2 Inv-loop μ-loop
 same-length-2 c = c .before .loop .inv .ran .long
@@ -149,17 +161,18 @@ level-run-spec =
     Inv-loop
     μ-loop
     loop-holds
-    mul-t14
-    element-copy-out-t17
-    cast-t18
-    add-t19
-    mul-t20
-    element-copy-out-t23
-    cast-t24
-    add-t25
+    mul-t16
+    element-copy-out-t19
+    cast-t20
+    add-t21
+    mul-t22
+    element-copy-out-t25
+    cast-t26
+    add-t27
     row-run-requires
     same-length
     returns
+    add-inexact
     add-row
     add-start
     loop-less

@@ -7,18 +7,19 @@ use borrow.Author.Tests.{not-true, not-false}
 use mir.Syntax.{w64}
 use mir.Val.{toZ, ofZ}
 use Rattle.bounded.proofs.Num.{back}
-use Rattle.scheme.specs.Step.{nextAt}
-use Rattle.steps.proofs.FillLaws.{Running, running-start, running-done, ran-fine}
-use Rattle.steps.proofs.HitLaws.{Struck, struck-ready, struck-placed, struck-moves, struck-on, struck-stops}
+use Rattle.steps.specs.Run.{nextOf}
+use Rattle.steps.proofs.PlanLaws.{few-points}
+use Rattle.steps.proofs.FillLaws.{Running, running-start, running-done}
+use Rattle.steps.proofs.HitLaws.{Struck, struck-ready, struck-placed, struck-moves, struck-on, struck-most, struck-stops, run-inside}
 use Rattle.steps.proofs.level.row_run.Statement.{statement}
 use Rattle.steps.proofs.level.row_run.Tie as tie
 
 abbrev Inv-loop : tie.InvT-loop
-Inv-loop plan older newer row hit out₀ at₀ out at =
-    Running (nextAt (plan .instrument) hit older newer) (row .write) (row .base) out₀ (row .from) (row .to) out at
+Inv-loop plan older newer row hit out₀ inexact₀ at₀ out inexact at =
+    Running (nextOf (plan .instrument) hit older newer) (row .write) (row .base) out₀ (row .from) (row .to) out at inexact
 
 abbrev μ-loop : tie.MeasureT-loop
-μ-loop plan older newer row hit out₀ at₀ out at = row .to - at
+μ-loop plan older newer row hit out₀ inexact₀ at₀ out inexact at = row .to - at
 
 -- the stretch of a turn, and the force on it as it was stored
 module _ (c : tie.After-force-at Inv-loop μ-loop) where
@@ -29,7 +30,7 @@ module _ (c : tie.After-force-at Inv-loop μ-loop) where
   s = loop .before
 
   struck : Struck (s .args .plan) (s .args .hit) (s .args .older .now) (s .args .newer .now) (s .args .row) (s .args .out .now)
-      (loop .loop .out) (loop .loop .at) (c .before .stretch-end .result) (toZ w64 (ofZ w64 (c .force-at .result)))
+      (loop .loop .out) (loop .loop .at) (loop .loop .inexact) (c .before .stretch-end .result) (toZ w64 (ofZ w64 (c .force-at .result)))
   struck = record {
     moves = s .pre .1 .0;
     inv = loop .loop .inv;
@@ -60,13 +61,26 @@ same-length : tie.Need-same-length Inv-loop μ-loop
 same-length c = search needs
 
 returns : tie.Need-returns Inv-loop μ-loop
-returns c = struck-stops (struck (done (c .before))) (ran-fine (not-true _ (c .if2 .taken)) (c .before .before .points-run .ensures))
+returns c = let o = c .before .before in struck-stops (struck (done o)) (o .before .points-run .ensures) (not-true _ (c .if2 .taken))
+
+-- its answer, once it was looked at
+abbrev looked : tie.After-struct-known3 Inv-loop μ-loop → tie.After-out Inv-loop μ-loop
+looked c = c .before .before .before
+
+add-inexact : tie.Need-add-inexact Inv-loop μ-loop
+add-inexact c =
+    let o = looked c in
+    let t = struck (done o) in
+    let r = s (done o) .pre .0 .0 in
+    let most = struck-most t (o .before .points-run .ensures) (not-false _ (c .before .if2 .left)) in
+    let last = run-inside (struck-moves t) (t .ends .some) in
+    record { fits = omega (arith, most, last, few-points (r .planned)) }
 
 loop-less : tie.Need-loop-less Inv-loop μ-loop
-loop-less c = let e = struck (done (c .before)) .ends in omega (arith, e .some, e .upto)
+loop-less c = let e = struck (done (looked c)) .ends in omega (arith, e .some, e .upto)
 
 loop-again : tie.Need-loop-again Inv-loop μ-loop
-loop-again c = struck-on (struck (done (c .before))) (ran-fine (not-false _ (c .if2 .left)) (c .before .before .points-run .ensures))
+loop-again c = let o = looked c in struck-on (struck (done o)) (o .before .points-run .ensures) (not-false _ (c .before .if2 .left))
 
 same-length-2 : tie.Need-same-length-2 Inv-loop μ-loop
 same-length-2 c = search needs
@@ -86,6 +100,7 @@ row-run-spec =
     points-run-requires
     same-length
     returns
+    add-inexact
     loop-less
     loop-again
     same-length-2

@@ -1,5 +1,6 @@
 -- `plate_level` meets its contract: the rows passed have their next values, the sums of the row and of the one above it stand.
 use mathlib.Core.Path.{_≡_, refl, sym, _∙_}
+use mathlib.Core.Bool.{true}
 use Prim.Native.Nat.{_+_, _-_, _≤_, _<_, zero-le}
 use native.Mathlib.Omega.{arith}
 use borrow.Author.Needs.{needs}
@@ -8,23 +9,22 @@ use Rattle.types.specs.declared.Grid.{Grid}
 use Rattle.types.specs.declared.Hit.the-variants.{Absent}
 use Rattle.scheme.specs.Instruments.{plate, kind, points}
 use Rattle.slices.proofs.SliceLaws.{zeros}
-use Rattle.steps.specs.Run.{Moves}
+use Rattle.steps.specs.Run.{Stepping, Moves}
 use Rattle.steps.specs.Roles.{Steppable}
 use Rattle.steps.proofs.PlanLaws.{few-rows, few-points}
-use Rattle.steps.proofs.FillLaws.{ran-fine}
 use Rattle.steps.proofs.HitLaws.{no-force, hit-nowhere}
 use Rattle.steps.proofs.RowLaws.{steppable-ready}
 use Rattle.steps.proofs.PlateRowLaws.{PlateRows, some-columns, some-rows, few-columns, three-rows, plate-start, in-level, in-row}
-use Rattle.steps.proofs.PlateRowLaws.{two-rows, plate-next, plate-stops, plate-done}
+use Rattle.steps.proofs.PlateRowLaws.{two-rows, plate-next, plate-most, plate-stops, plate-done}
 use Rattle.steps.proofs.plates.plate_level.Statement.{statement}
 use Rattle.steps.proofs.plates.plate_level.Tie as tie
 
 abbrev Inv-loop : tie.InvT-loop
-Inv-loop plan older newer out₀ columns right last sums₀ other₀ here₀ row₀ start₀ out sums other here row start =
-    PlateRows (plan .instrument) Absent older newer out₀ out sums other here row start
+Inv-loop plan older newer out₀ columns right last sums₀ inexact₀ other₀ here₀ row₀ start₀ out sums inexact other here row start =
+    PlateRows (plan .instrument) Absent older newer out₀ out sums other here row start inexact
 
 abbrev μ-loop : tie.MeasureT-loop
-μ-loop plan older newer out₀ columns right last sums₀ other₀ here₀ row₀ start₀ out sums other here row start = last - row
+μ-loop plan older newer out₀ columns right last sums₀ inexact₀ other₀ here₀ row₀ start₀ out sums inexact other here row start = last - row
 
 -- what the caller showed
 module _ (s : tie.Start Inv-loop μ-loop) where
@@ -47,7 +47,7 @@ module _ (c : tie.In-loop Inv-loop μ-loop) where
 
   abbrev inv : PlateRows (start .args .plan .instrument) Absent (start .args .older .now) (start .args .newer .now)
       (start .args .out .now) (c .before .loop .out) (c .before .loop .sums) (c .before .loop .other) (c .before .loop .here)
-      (c .before .loop .row) (c .before .loop .start)
+      (c .before .loop .row) (c .before .loop .start) (c .before .loop .inexact)
   inv = c .before .loop .inv
 
   last : c .before .loop .row + 1 < g start .rows
@@ -93,11 +93,11 @@ loop-holds c =
 add-if1 : tie.Need-add-if1 Inv-loop μ-loop
 add-if1 c = record { fits = omega (arith, last c, few c) }
 
-add-t21 : tie.Need-add-t21 Inv-loop μ-loop
-add-t21 c = record { fits = omega (arith, room c, small (start c), wide c) }
+add-t23 : tie.Need-add-t23 Inv-loop μ-loop
+add-t23 c = record { fits = omega (arith, room c, small (start c), wide c) }
 
-add-t22 : tie.Need-add-t22 Inv-loop μ-loop
-add-t22 c = record { fits = omega (arith, room c, small (start c)) }
+add-t24 : tie.Need-add-t24 Inv-loop μ-loop
+add-t24 c = record { fits = omega (arith, room c, small (start c)) }
 
 slice-aggregate-plate-run : tie.Need-slice-aggregate-plate-run Inv-loop μ-loop
 slice-aggregate-plate-run c = sym (inv (c .before) .long)
@@ -118,31 +118,50 @@ plate-run-requires c κs =
     )
 
 same-length : tie.Need-same-length Inv-loop μ-loop
-same-length c = let t = done (c .before) in c .before .before .before .plate-run .ensures .0 .long ∙ inv t .rows .ran .long
+same-length c = let o = c .before .before in o .before .before .plate-run .ensures .0 .long ∙ inv (done o) .rows .ran .long
+
+-- its values, by the definitions
+module _ (o : tie.After-out Inv-loop μ-loop) where
+  abbrev s : tie.Start Inv-loop μ-loop
+  s = start (done o)
+
+  ran : Stepping (s .args .plan .instrument) Absent true 0 (s .args .older .now) (s .args .newer .now) (done o .before .loop .out)
+      (o .before .before .plate-run .last .1 .1 .1 .1 .1 .1 .0) (done o .before .loop .start + 1)
+      (done o .before .loop .start + (g s .columns - 1)) (o .before .before .plate-run .result)
+  ran = no-force _ Absent _ _ _ (moves (done o)) (hit-nowhere _ _) refl (o .before .before .plate-run .ensures .0)
 
 returns : tie.Need-returns Inv-loop μ-loop
 returns c =
-    let t = done (c .before) in
-    plate-stops (given (start t)) (is-plate (start t)) (inv t) (last t)
-    (no-force _ Absent _ _ _ (moves t) (hit-nowhere _ _) refl
-    (ran-fine (not-true _ (c .if1 .taken)) (c .before .before .before .plate-run .ensures .0)))
+    let o = c .before .before in
+    let t = done o in
+    plate-stops (given (s o)) (is-plate (s o)) (inv t) (last t) (ran o) (not-true _ (c .if1 .taken))
+
+-- its answer, once it was looked at
+abbrev looked : tie.After-struct-known3 Inv-loop μ-loop → tie.After-out Inv-loop μ-loop
+looked c = c .before .before .before
+
+add-inexact : tie.Need-add-inexact Inv-loop μ-loop
+add-inexact c =
+    let o = looked c in
+    let most = plate-most (given (s o)) (is-plate (s o)) (inv (done o)) (last (done o)) (ran o) (not-false _ (c .before .if1 .left)) in
+    record { fits = omega (arith, most, small (s o)) }
 
 add-row : tie.Need-add-row Inv-loop μ-loop
-add-row c = let t = done (c .before) in record { fits = omega (arith, last t, few t) }
+add-row c = let t = done (looked c) in record { fits = omega (arith, last t, few t) }
 
 add-start : tie.Need-add-start Inv-loop μ-loop
-add-start c = let t = done (c .before) in record { fits = omega (arith, room t, small (start t)) }
+add-start c = let t = done (looked c) in record { fits = omega (arith, room t, small (start t)) }
 
 loop-less : tie.Need-loop-less Inv-loop μ-loop
-loop-less c = let t = done (c .before) in omega (arith, t .loop-test .taken)
+loop-less c = let t = done (looked c) in omega (arith, t .loop-test .taken)
 
 loop-again : tie.Need-loop-again Inv-loop μ-loop
 loop-again c =
-    let t = done (c .before) in
-    let p = c .before .before .before .plate-run .ensures in
-    let fine = not-false _ (c .if1 .left) in
-    plate-next (given (start t)) (is-plate (start t)) (inv t) (last t)
-    (no-force _ Absent _ _ _ (moves t) (hit-nowhere _ _) refl (ran-fine fine (p .0))) (p .1 fine) (search needs)
+    let o = looked c in
+    let t = done o in
+    let within = not-false _ (c .before .if1 .left) in
+    plate-next (given (s o)) (is-plate (s o)) (inv t) (last t) (ran o) within (o .before .before .plate-run .ensures .1 within)
+    (search needs)
 
 same-length-2 : tie.Need-same-length-2 Inv-loop μ-loop
 same-length-2 c = c .before .loop .inv .rows .ran .long
@@ -164,12 +183,13 @@ plate-level-spec =
     put-first-requires
     loop-holds
     add-if1
-    add-t21
-    add-t22
+    add-t23
+    add-t24
     slice-aggregate-plate-run
     plate-run-requires
     same-length
     returns
+    add-inexact
     add-row
     add-start
     loop-less

@@ -20,12 +20,12 @@ use Rattle.steps.proofs.play.play.Statement.{statement}
 use Rattle.steps.proofs.play.play.Tie as tie
 
 abbrev Inv-loop : tie.InvT-loop
-Inv-loop plan from to older₀ newer₀ work₀ samples₀ pick hit phase₀ j₀ older newer work samples phase j =
+Inv-loop plan from to older₀ newer₀ work₀ samples₀ pick hit inexact₀ phase₀ j₀ older newer work samples inexact phase j =
     Playing (plan .instrument) pick hit (Calls.play (plan .instrument) pick hit older₀ newer₀ samples₀) (length samples₀)
-    (olderOf phase older newer work) (newerOf phase older newer work) (outOf phase older newer work) samples j
+    (olderOf phase older newer work) (newerOf phase older newer work) (outOf phase older newer work) samples j inexact
 
 abbrev μ-loop : tie.MeasureT-loop
-μ-loop plan from to older₀ newer₀ work₀ samples₀ pick hit phase₀ j₀ older newer work samples phase j =
+μ-loop plan from to older₀ newer₀ work₀ samples₀ pick hit inexact₀ phase₀ j₀ older newer work samples inexact phase j =
     length samples₀ - j
 
 -- what the caller showed
@@ -61,7 +61,7 @@ module _ (c : tie.At-loop Inv-loop μ-loop) where
   abbrev inv : Playing (start .args .plan .instrument) (start .args .pick) (start .args .hit) whole (length (start .args .samples .now))
       (olderOf (c .loop .phase) (c .loop .older) (c .loop .newer) (c .loop .work))
       (newerOf (c .loop .phase) (c .loop .older) (c .loop .newer) (c .loop .work))
-      (outOf (c .loop .phase) (c .loop .older) (c .loop .newer) (c .loop .work)) (c .loop .samples) (c .loop .j)
+      (outOf (c .loop .phase) (c .loop .older) (c .loop .newer) (c .loop .work)) (c .loop .samples) (c .loop .j) (c .loop .inexact)
   inv = c .loop .inv
 
   loop-longs : Longs start (c .loop .older) (c .loop .newer) (c .loop .work)
@@ -104,16 +104,19 @@ module _ (c : tie.After-work Inv-loop μ-loop) where
 
 -- one that was done
 module _ (c : tie.Else1 Inv-loop μ-loop) where
-  passes : LevelPasses (g (start (at (c .before))))
-      (outOf (at (c .before) .loop .phase) (older (c .before)) (newer (c .before)) (work (c .before)))
-  passes = let w = c .before in stepped-passes (inv (at w)) (place w) (struck w .hit-of .ensures) (left w .stepped) (c .if1 .left)
+  abbrev step : tie.After-work Inv-loop μ-loop
+  step = c .before .before
 
-  place-low : at (c .before) .loop .j < 2 ^ 62
-  place-low = omega (arith, place (c .before), start (at (c .before)) .good .1 .1 .1 .1 .1 .1 .0 .1)
+  passes : LevelPasses (g (start (at step)))
+      (outOf (at step .loop .phase) (older step) (newer step) (work step))
+  passes = let w = step in stepped-passes (inv (at w)) (place w) (struck w .hit-of .ensures) (left w .stepped) (c .if1 .left)
+
+  place-low : at step .loop .j < 2 ^ 62
+  place-low = omega (arith, place step, start (at step) .good .1 .1 .1 .1 .1 .1 .0 .1)
 
 -- its sample is read, and written
 abbrev done : tie.After-sample-in-roles Inv-loop μ-loop → tie.Else1 Inv-loop μ-loop
-done c = c .before .before .before .before
+done c = c .before .before .before .before .before
 
 abbrev written : tie.After-turned Inv-loop μ-loop → tie.After-put Inv-loop μ-loop
 written c = c .before .before
@@ -131,30 +134,33 @@ step-in-roles-requires c κs =
     (playing-steppable (given (start t)) (h .hit-of .ensures) (inv t), start t .pre .1)
 
 same-length : tie.Need-same-length Inv-loop μ-loop
-same-length c = step-longs (c .before) .older
+same-length c = step-longs (c .before .before) .older
 
 same-length-2 : tie.Need-same-length-2 Inv-loop μ-loop
-same-length-2 c = step-longs (c .before) .newer
+same-length-2 c = step-longs (c .before .before) .newer
 
 same-length-3 : tie.Need-same-length-3 Inv-loop μ-loop
-same-length-3 c = step-longs (c .before) .work
+same-length-3 c = step-longs (c .before .before) .work
 
 same-length-4 : tie.Need-same-length-4 Inv-loop μ-loop
-same-length-4 c = samples-long (inv (at (c .before)))
+same-length-4 c = samples-long (inv (at (c .before .before)))
 
 returns : tie.Need-returns Inv-loop μ-loop
 returns c =
-    let w = c .before in
-    played-kept (left w) (playing-ends (inv (at w)) (place w) (struck w .hit-of .ensures) (left w .stepped) (c .if1 .taken))
+    let w = c .before .before in
+    played-kept (left w) (playing-ends (inv (at w)) (place w) (struck w .hit-of .ensures) (left w .stepped) _ (c .if1 .taken))
+
+held-sum-requires : tie.Need-held-sum-requires Inv-loop μ-loop
+held-sum-requires c κs = tt
 
 sample-in-roles-requires : tie.Need-sample-in-roles-requires Inv-loop μ-loop
 sample-in-roles-requires c κs =
-    let e = c .before .before .before in
-    let s = start (at (e .before)) in
+    let e = c .before .before .before .before in
+    let s = start (at (step e)) in
     (omega (arith, passes e .long, s .pre .0 .1), passes-low (g s) _ (passes e))
 
 put-requires : tie.Need-put-requires Inv-loop μ-loop
-put-requires c κs = omega (arith, struck (done (c .before) .before) .before .loop-test .taken)
+put-requires c κs = omega (arith, struck (step (done (c .before))) .before .loop-test .taken)
 
 turned-requires : tie.Need-turned-requires Inv-loop μ-loop
 turned-requires c κs = tt
@@ -163,23 +169,24 @@ add-j : tie.Need-add-j Inv-loop μ-loop
 add-j c = omega (arith, place-low (done (written c .before .before)))
 
 loop-less : tie.Need-loop-less Inv-loop μ-loop
-loop-less c = omega (arith, place (done (written c .before .before) .before))
+loop-less c = omega (arith, place (step (done (written c .before .before))))
 
 loop-again : tie.Need-loop-again Inv-loop μ-loop
 loop-again c =
     let p = written c in
     let r = p .before .before .sample-in-roles in
     let e = done (p .before .before) in
-    let w = e .before in
+    let w = step e in
+    let h = p .before .before .before .before .before .before .held-sum in
     let s = start (at w) in
     subst
     (λ (xs : List ℤ). Playing (s .args .plan .instrument) (s .args .pick) (s .args .hit) (whole (at w)) (length (s .args .samples .now))
     (olderOf (c .turned .result) (older w) (newer w) (work w)) (newerOf (c .turned .result) (older w) (newer w) (work w))
-    (outOf (c .turned .result) (older w) (newer w) (work w)) xs (at w .loop .j + 1))
+    (outOf (c .turned .result) (older w) (newer w) (work w)) xs (at w .loop .j + 1) (h .result))
     (sym (p .put .ensures))
     (playing-turned (left w) (c .turned .ensures)
     (playing-on (inv (at w)) (place w) (struck w .hit-of .ensures) (left w .stepped) (e .if1 .left) _
-    (toZ-ofZ w16 (r .result) (record { sfits = r .ok }) ∙ r .ensures)))
+    (toZ-ofZ w16 (r .result) (record { sfits = r .ok }) ∙ r .ensures) _ (h .ensures)))
 
 same-length-5 : tie.Need-same-length-5 Inv-loop μ-loop
 same-length-5 c = loop-longs (c .before) .older
@@ -194,7 +201,7 @@ same-length-8 : tie.Need-same-length-8 Inv-loop μ-loop
 same-length-8 c = samples-long (inv (c .before))
 
 returns-2 : tie.Need-returns-2 Inv-loop μ-loop
-returns-2 c = playing-done (inv (c .before)) (omega (arith, c .loop-test .left, samples-long (inv (c .before))))
+returns-2 c = playing-done (inv (c .before)) _ (omega (arith, c .loop-test .left, samples-long (inv (c .before))))
 
 pub play-spec : {M : Type 1} → statement M
 play-spec =
@@ -210,6 +217,7 @@ play-spec =
     same-length-3
     same-length-4
     returns
+    held-sum-requires
     sample-in-roles-requires
     put-requires
     turned-requires

@@ -12,21 +12,22 @@ use Rattle.bounded.proofs.Num.{back}
 use Rattle.bounded.proofs.Expr.{E, _⊞_, fits, is, red}
 use Rattle.scheme.specs.Instruments.{bar, kind}
 use Rattle.steps.specs.Plan.{Ready, Neighbouring}
-use Rattle.steps.specs.Run.{valueAt, OnLine, barSum}
+use Rattle.steps.specs.Run.{Next, nextBy, OnLine, barSum}
+use Rattle.steps.proofs.PlanLaws.{few-points}
 use Rattle.steps.proofs.KindLaws.{line-long}
 use Rattle.steps.proofs.BendLaws.{bar#, bar-beside}
-use Rattle.steps.proofs.FillLaws.{placed-after, Running, running-start, running-on, running-stops, running-done, ran-fine}
+use Rattle.steps.proofs.FillLaws.{placed-after, Running, running-start, running-on, running-most, running-stops, running-done}
 use Rattle.steps.proofs.points.bar_run.Statement.{statement}
 use Rattle.steps.proofs.points.bar_run.Tie as tie
 
 -- the points before `at` are done; left is the sum before it, here the one at it
 abbrev Inv-loop : tie.InvT-loop
-Inv-loop plan older newer s out₀ at₀ left₀ here₀ out at left here =
-    Running (valueAt (plan .instrument) (s .force) older newer) (s .write) (s .base) out₀ (s .from) (s .to) out at
+Inv-loop plan older newer s out₀ inexact₀ at₀ left₀ here₀ out inexact at left here =
+    Running (nextBy (plan .instrument) (s .force) older newer) (s .write) (s .base) out₀ (s .from) (s .to) out at inexact
     × (toZ w64 left ≡ barSum newer (at - 1)) × (toZ w64 here ≡ barSum newer at)
 
 abbrev μ-loop : tie.MeasureT-loop
-μ-loop plan older newer s out₀ at₀ left₀ here₀ out at left here = s .to - at
+μ-loop plan older newer s out₀ inexact₀ at₀ left₀ here₀ out inexact at left here = s .to - at
 
 -- what the caller showed
 module _ (s : tie.Start Inv-loop μ-loop) where
@@ -39,8 +40,8 @@ module _ (s : tie.Start Inv-loop μ-loop) where
   is-bar : kind (s .args .plan .instrument .grid) ≡ bar
   is-bar = s .pre .1 .1
 
-  abbrev value : ℕ → ℤ
-  value = valueAt (s .args .plan .instrument) (s .args .s .force) (s .args .older .now) (s .args .newer .now)
+  abbrev next : ℕ → Next
+  next = nextBy (s .args .plan .instrument) (s .args .s .force) (s .args .older .now) (s .args .newer .now)
 
   -- the last place that is read is there
   room : s .args .s .to + 1 ≤ length (s .args .newer .now)
@@ -58,9 +59,9 @@ module _ (c : tie.Then1 Inv-loop μ-loop) where
   abbrev k : ℕ
   k = c .before .before .loop .at
 
-  abbrev inv : Running (value start) (start .args .s .write) (start .args .s .base) (start .args .out .now) (start .args .s .from)
+  abbrev inv : Running (next start) (start .args .s .write) (start .args .s .base) (start .args .out .now) (start .args .s .from)
       (start .args .s .to)
-      (c .before .before .loop .out) k
+      (c .before .before .loop .out) k (c .before .before .loop .inexact)
   inv = c .before .before .loop .inv .0
 
   first : start .args .s .from ≤ k
@@ -141,25 +142,37 @@ next-point-requires c κs =
 same-length : tie.Need-same-length Inv-loop μ-loop
 same-length c = search needs
 
+-- its answer, once it was looked at
+abbrev done : tie.After-struct-known3 Inv-loop μ-loop → tie.After-out Inv-loop μ-loop
+done c = c .before .before .before
+
 returns : tie.Need-returns Inv-loop μ-loop
 returns c =
-    let t = turn (right (c .before)) in
-    running-stops (inv t) (omega arith) (omega (arith, last t))
-    (ran-fine (not-true _ (c .if2 .taken)) (c .before .before .next-point .ensures))
+    let o = c .before .before in
+    let t = turn (right o) in
+    running-stops (inv t) (omega arith) (o .before .next-point .ensures) (omega (arith, last t)) (not-true _ (c .if2 .taken))
+
+add-inexact : tie.Need-add-inexact Inv-loop μ-loop
+add-inexact c =
+    let o = done c in
+    let t = turn (right o) in
+    let r = ready (start t) in
+    let most = running-most (inv t) (omega arith) (o .before .next-point .ensures) (not-false _ (c .before .if2 .left)) in
+    record { fits = omega (arith, most, inside t, r .newer-long, few-points (r .planned)) }
 
 add-at : tie.Need-add-at Inv-loop μ-loop
-add-at c = let h = inside (turn (right (c .before))) in search needs
+add-at c = let h = inside (turn (right (done c))) in search needs
 
 loop-less : tie.Need-loop-less Inv-loop μ-loop
-loop-less c = omega (arith, last (turn (right (c .before))))
+loop-less c = omega (arith, last (turn (right (done c))))
 
 loop-again : tie.Need-loop-again Inv-loop μ-loop
 loop-again c =
-    let r = right (c .before) in
+    let o = done c in
+    let r = right o in
     let t = turn r in
     let before : k t ≡ k t + 1 - 1 = omega arith in (
-      running-on (inv t) (omega arith) (omega (arith, last t))
-          (ran-fine (not-false _ (c .if2 .left)) (c .before .before .next-point .ensures)),
+      running-on (inv t) (omega arith) (o .before .next-point .ensures) (not-false _ (c .before .if2 .left)) (omega (arith, last t)),
       t .before .before .loop .inv .2 ∙ ap (S (start t)) before,
       right-is r,
     )
@@ -186,6 +199,7 @@ bar-run-spec =
     next-point-requires
     same-length
     returns
+    add-inexact
     add-at
     loop-less
     loop-again

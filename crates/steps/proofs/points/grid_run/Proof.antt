@@ -13,19 +13,20 @@ use Rattle.bounded.proofs.Num.{back}
 use Rattle.types.specs.declared.Grid.{Grid}
 use Rattle.scheme.specs.Instruments.{inTable, moving}
 use Rattle.steps.specs.Plan.{Ready, Neighbouring}
-use Rattle.steps.specs.Run.{valueAt, Moves}
+use Rattle.steps.specs.Run.{Next, nextBy, Moves}
+use Rattle.steps.proofs.PlanLaws.{few-points}
 use Rattle.steps.proofs.KindLaws.{wide}
 use Rattle.steps.proofs.BesideLaws.{around-above, around-below, grid-beside}
-use Rattle.steps.proofs.FillLaws.{placed-after, Running, running-start, running-on, running-stops, running-done, ran-fine}
+use Rattle.steps.proofs.FillLaws.{placed-after, Running, running-start, running-on, running-most, running-stops, running-done}
 use Rattle.steps.proofs.points.grid_run.Statement.{statement}
 use Rattle.steps.proofs.points.grid_run.Tie as tie
 
 abbrev Inv-loop : tie.InvT-loop
-Inv-loop plan older newer s out₀ columns at₀ out at =
-    Running (valueAt (plan .instrument) (s .force) older newer) (s .write) (s .base) out₀ (s .from) (s .to) out at
+Inv-loop plan older newer s out₀ columns inexact₀ at₀ out inexact at =
+    Running (nextBy (plan .instrument) (s .force) older newer) (s .write) (s .base) out₀ (s .from) (s .to) out at inexact
 
 abbrev μ-loop : tie.MeasureT-loop
-μ-loop plan older newer s out₀ columns at₀ out at = s .to - at
+μ-loop plan older newer s out₀ columns inexact₀ at₀ out inexact at = s .to - at
 
 -- what the caller showed
 module _ (s : tie.Start Inv-loop μ-loop) where
@@ -41,8 +42,8 @@ module _ (s : tie.Start Inv-loop μ-loop) where
   moves : Moves g (s .args .s .from) (s .args .s .to)
   moves = s .pre .1 .2
 
-  abbrev value : ℕ → ℤ
-  value = valueAt (s .args .plan .instrument) (s .args .s .force) (s .args .older .now) (s .args .newer .now)
+  abbrev next : ℕ → Next
+  next = nextBy (s .args .plan .instrument) (s .args .s .force) (s .args .older .now) (s .args .newer .now)
 
 -- a point of the run
 module _ (c : tie.Then1 Inv-loop μ-loop) where
@@ -52,9 +53,9 @@ module _ (c : tie.Then1 Inv-loop μ-loop) where
   abbrev k : ℕ
   k = c .before .before .loop .at
 
-  abbrev inv : Running (value start) (start .args .s .write) (start .args .s .base) (start .args .out .now) (start .args .s .from)
+  abbrev inv : Running (next start) (start .args .s .write) (start .args .s .base) (start .args .out .now) (start .args .s .from)
       (start .args .s .to)
-      (c .before .before .loop .out) k
+      (c .before .before .loop .out) k (c .before .before .loop .inexact)
   inv = c .before .before .loop .inv
 
   first : start .args .s .from ≤ k
@@ -107,23 +108,35 @@ next-point-requires c κs =
 same-length : tie.Need-same-length Inv-loop μ-loop
 same-length c = search needs
 
+-- its answer, once it was looked at
+abbrev done : tie.After-struct-known3 Inv-loop μ-loop → tie.After-out Inv-loop μ-loop
+done c = c .before .before .before
+
 returns : tie.Need-returns Inv-loop μ-loop
 returns c =
-    let t = turn (c .before) in
-    running-stops (inv t) (omega arith) (omega (arith, last t))
-    (ran-fine (not-true _ (c .if2 .taken)) (c .before .before .next-point .ensures))
+    let o = c .before .before in
+    let t = turn o in
+    running-stops (inv t) (omega arith) (o .before .next-point .ensures) (omega (arith, last t)) (not-true _ (c .if2 .taken))
+
+add-inexact : tie.Need-add-inexact Inv-loop μ-loop
+add-inexact c =
+    let o = done c in
+    let t = turn o in
+    let r = ready (start t) in
+    let most = running-most (inv t) (omega arith) (o .before .next-point .ensures) (not-false _ (c .before .if2 .left)) in
+    record { fits = omega (arith, most, below t, r .newer-long, few-points (r .planned)) }
 
 add-at : tie.Need-add-at Inv-loop μ-loop
-add-at c = let h = below (turn (c .before)) in search needs
+add-at c = let h = below (turn (done c)) in search needs
 
 loop-less : tie.Need-loop-less Inv-loop μ-loop
-loop-less c = omega (arith, last (turn (c .before)))
+loop-less c = omega (arith, last (turn (done c)))
 
 loop-again : tie.Need-loop-again Inv-loop μ-loop
 loop-again c =
-    let t = turn (c .before) in
-    running-on (inv t) (omega arith) (omega (arith, last t))
-    (ran-fine (not-false _ (c .if2 .left)) (c .before .before .next-point .ensures))
+    let o = done c in
+    let t = turn o in
+    running-on (inv t) (omega arith) (o .before .next-point .ensures) (not-false _ (c .before .if2 .left)) (omega (arith, last t))
 
 same-length-2 : tie.Need-same-length-2 Inv-loop μ-loop
 same-length-2 c = search needs
@@ -142,6 +155,7 @@ grid-run-spec =
     next-point-requires
     same-length
     returns
+    add-inexact
     add-at
     loop-less
     loop-again

@@ -1,11 +1,12 @@
 -- `next_point` meets its contract: its numerator is the scheme's, and so is the value that it is rounded to.
 use mathlib.Core.Path.{_≡_, sym, ap, _∙_, subst}
-use mathlib.Core.Bool.{not, Bool·not-not}
-use Prim.Native.Nat.{ℕ, _*_, _^_, _≤_, _<_}
+use mathlib.Core.Bool.{Bool, true, false, cond, not, Bool·not-not}
+use Prim.Native.Nat.{ℕ, _+_, _-_, _*_, _^_, _≤_, _<_}
 use native.Mathlib.Omega.{arith}
 use borrow.Author.Needs.{needs}
+use borrow.Author.Tests.{ltb-false, not-true, not-false}
 use lib.IntN.{ℤ, pos, natAbs, _-ℤ_, _*ℤ_}
-use lib.ListN.{length}
+use lib.ListN.{length, set}
 use mir.Syntax.{w64}
 use mir.Val.{toZ, ofZ}
 use Rattle.bounded.proofs.Num.{back}
@@ -13,14 +14,15 @@ use Rattle.types.specs.declared.Settings.{Settings}
 use Rattle.types.specs.Numbers.{ceiling}
 use Rattle.scheme.specs.Lists.{point}
 use Rattle.scheme.specs.Instruments.{beyond}
-use Rattle.scheme.specs.Step.{numeratorOf, roundAway, divisor}
+use Rattle.scheme.specs.Step.{numeratorOf, roundAway, restOf, divisor, isMultiple}
+use Rattle.scheme.proofs.Laws.Rounding.{rest-rule, rest-none, rest-some}
 use Rattle.scheme.proofs.Laws.Step.{moving-inside}
 use Rattle.steps.specs.Plan.{countOf, bendingOf, Updatable, Ready, Neighbouring}
-use Rattle.steps.specs.Run.{valueAt}
+use Rattle.steps.specs.Run.{Next, nextOver, nextBy, Ran}
 use Rattle.steps.proofs.Held.{held, held-below}
-use Rattle.steps.proofs.FillLaws.{point-beyond, point-written, point-tested}
+use Rattle.steps.proofs.FillLaws.{passed, point-beyond, point-written, point-tested}
 use Rattle.steps.proofs.NumeratorLaws.{numerator-below}
-use Rattle.steps.proofs.PointLaws.{updatable, value-is}
+use Rattle.steps.proofs.PointLaws.{updatable, next-is}
 use Rattle.steps.proofs.PlanLaws.{dividable}
 use Rattle.steps.proofs.points.next_point.Statement.{statement}
 use Rattle.steps.proofs.points.next_point.Tie as tie
@@ -77,8 +79,8 @@ module _ (s : tie.Start) where
   abbrev numerator-there : ℤ
   numerator-there = numeratorOf c u (s .args .sum -ℤ count *ℤ u) (bendingOf count (s .args .sum) (s .args .second) u) p f
 
-  abbrev value : ℕ → ℤ
-  value = valueAt (s .args .plan .instrument) f (s .args .older .now) (s .args .newer .now)
+  abbrev next : ℕ → Next
+  next = nextBy (s .args .plan .instrument) f (s .args .older .now) (s .args .newer .now)
 
 -- the numerator is the scheme's
 module _ (c : tie.After-numerator) where
@@ -95,10 +97,18 @@ module _ (c : tie.After-numerator) where
       (λ j. numeratorOf (s .args .plan .instrument .settings) (u-is s j) (sum-is s j -ℤ count s *ℤ u-is s j)
       (bendingOf (count s) (sum-is s j) (second-is s j) (u-is s j)) (p-is s j) (f-is s j))
 
-  -- what it is rounded to is the point's value
-  rounded : roundAway stored (divisor (start .args .plan .instrument .settings)) ≡ value start (start .args .at)
-  rounded = ap (λ (n : ℤ). roundAway n (divisor (start .args .plan .instrument .settings))) numerator-is
-      ∙ value-is (ready start) (beside start)
+  abbrev d : ℕ
+  d = divisor (start .args .plan .instrument .settings)
+
+  -- what is made of it is what is made of the point
+  made : nextOver stored d ≡ next start (start .args .at)
+  made = ap (λ (n : ℤ). nextOver n d) numerator-is ∙ next-is (ready start) (beside start)
+
+  rounded : roundAway stored d ≡ next start (start .args .at) .value
+  rounded = ap (λ (x : Next). x .value) made
+
+  counted : cond {A = ℕ} (not (isMultiple stored d)) 1 0 ≡ cond (next start (start .args .at) .inexact) 1 0
+  counted = ap (λ (x : Next). cond {A = ℕ} (x .inexact) 1 0) made
 
   numerator-low : natAbs stored ≤ 2 ^ 62
   numerator-low = subst (λ (z : ℤ). natAbs z ≤ 2 ^ 62) (sym numerator-is) (numerator-below (ready start .planned) (given start))
@@ -108,7 +118,7 @@ module _ (c : tie.After-is-within) where
   abbrev s : tie.Start
   s = start (c .before)
 
-  beyond-is : beyond (value s (s .args .at)) ≡ not (c .is-within .result)
+  beyond-is : beyond (next s (s .args .at) .value) ≡ not (c .is-within .result)
   beyond-is =
       ap beyond (sym (rounded (c .before))) ∙ sym (Bool·not-not _) ∙ ap not (sym (c .is-within .ensures))
 
@@ -137,37 +147,78 @@ is-within-requires c κs = (ready (start c) .planned, numerator-low c)
 returns : tie.Need-returns
 returns c = point-beyond _ _ (beyond-is (c .before) ∙ c .if1 .taken)
 
+returns-2 : tie.Need-returns-2
+returns-2 c =
+    let e = c .before .before in
+    point-tested _ _ (not-true _ (c .if2 .taken)) (beyond-is (e .before) ∙ e .if1 .left)
+
 round-away-requires : tie.Need-round-away-requires
-round-away-requires c κs = let n = c .before .before .before in dividable (ready (start n) .planned) (stored n) (numerator-low n)
+round-away-requires c κs = let n = c .before .before .before .before in dividable (ready (start n) .planned) (stored n) (numerator-low n)
 
-sub-t19 : tie.Need-sub-t19
-sub-t19 c = search needs
+-- once it is rounded
+module _ (c : tie.After-round-away) where
+  abbrev within : tie.After-is-within
+  within = c .before .before .before .before
 
-mul-t20 : tie.Need-mul-t20
-mul-t20 c =
-    let s = start (c .before .before .before .before .before) in
+  abbrev there : tie.Start
+  there = start (within .before)
+
+  abbrev n : ℤ
+  n = stored (within .before)
+
+  whole-is : toZ w64 (ofZ w64 (c .round-away .result .whole)) ≡ next there (there .args .at) .value
+  whole-is =
+      let told = c .round-away .ensures .0 ∙ ap (roundAway n) (ready there .planned .divisor-is) ∙ rounded (within .before) in
+      let low = ltb-false ceiling _ (beyond-is within ∙ c .before .before .before .if1 .left) in
+      ap (λ (z : ℤ). toZ w64 (ofZ w64 z)) told ∙ held low
+
+  rest-is : c .round-away .result .rest ≡ restOf n (d (within .before))
+  rest-is = c .round-away .ensures .1 ∙ ap (restOf n) (ready there .planned .divisor-is)
+
+  -- as it was stored
+  rest-held : toZ w64 (ofZ w64 (c .round-away .result .rest)) ≡ restOf n (d (within .before))
+  rest-held =
+      let small = rest-rule n (d (within .before)) (omega arith) .small in
+      let few = dividable (ready there .planned) n (numerator-low (within .before)) .2 in
+      ap (λ (z : ℤ). toZ w64 (ofZ w64 z)) rest-is ∙ held (omega (arith, small, few, ready there .planned .divisor-is))
+
+  -- written, and counted
+  written : (t : Bool) → isMultiple n (d (within .before)) ≡ t
+      → Ran (next there) (there .args .s .write) (there .args .s .base) (there .args .out .now)
+      (set (there .args .out .now) (there .args .at - there .args .s .base) (toZ w64 (ofZ w64 (c .round-away .result .whole))))
+      (there .args .at) (there .args .at + 1) (passed (cond (not t) 1 0))
+  written t e =
+      point-written _ _ _ _ (not-false _ (c .before .if2 .left)) (omega (arith, there .pre .1)) (omega (arith, there .pre .1)) whole-is
+      (ap (λ (t : Bool). cond {A = ℕ} (not t) 1 0) (sym e) ∙ counted (within .before)) (beyond-is within ∙ c .before .before .before .if1 .left)
+
+sub-whole : tie.Need-sub-whole
+sub-whole c = search needs
+
+mul-whole : tie.Need-mul-whole
+mul-whole c =
+    let s = there (c .before .before) in
     let out-good = s .good .1 .1 .1 .1 .1 .1 .1 .0 in
     let placed = s .pre .1 in
     search needs
 
-slice-set-from-out : tie.Need-slice-set-from-out
-slice-set-from-out c = search needs
+slice-set-from-whole : tie.Need-slice-set-from-whole
+slice-set-from-whole c = search needs
 
 same-length : tie.Need-same-length
 same-length c = search needs
 
-returns-2 : tie.Need-returns-2
-returns-2 c =
-    let w = c .before .before .before .before in
-    let n = w .before in
-    let s = start n in
-    point-written _ _ _ (c .before .before .if2 .taken) (omega (arith, s .pre .1)) (omega (arith, s .pre .1))
-    (back (c .before .round-away .result) (c .before .round-away .ok) ∙ c .before .round-away .ensures ∙
-    ap (roundAway (stored n)) (ready s .planned .divisor-is) ∙ rounded n)
-    (beyond-is w ∙ c .before .before .before .if1 .left)
-
 returns-3 : tie.Need-returns-3
-returns-3 c = point-tested _ _ (c .if2 .left) (beyond-is (c .before .before) ∙ c .before .if1 .left)
+returns-3 c =
+    let r = c .before .before .before .before .before in
+    written r true (rest-none (n r) (d (within r .before)) (omega arith) (sym (rest-held r) ∙ ap (toZ w64) (c .if3 .taken)))
+
+same-length-2 : tie.Need-same-length-2
+same-length-2 c = search needs
+
+returns-4 : tie.Need-returns-4
+returns-4 c =
+    let r = c .before .before .before .before .before in
+    written r false (rest-some (n r) (d (within r .before)) (omega arith) (λ e. c .if3 .left (ap (ofZ w64) (rest-is r ∙ e))))
 
 pub next-point-spec : {M : Type 1} → statement M
 next-point-spec =
@@ -180,10 +231,12 @@ next-point-spec =
     numerator-requires
     is-within-requires
     returns
-    round-away-requires
-    sub-t19
-    mul-t20
-    slice-set-from-out
-    same-length
     returns-2
-    returns-3)
+    round-away-requires
+    sub-whole
+    mul-whole
+    slice-set-from-whole
+    same-length
+    returns-3
+    same-length-2
+    returns-4)
