@@ -1,5 +1,6 @@
 -- What a C program learns from the promises of `buvcsolta_block` and `buvcsolta_pluck` is what the claim about a program asks of its calls:
--- a call was made and kept, with these arguments and slices, and C got its count of steps and its refusal's number.
+-- a call was made and kept, with these arguments and slices, and C got its counts of steps and of inexact points
+-- and its refusal's number.
 use mathlib.Core.Path.{_≡_, ap}
 use contract.Lifetimes.{Lfts}
 use borrow.Fn.Kinds.{endedOf}
@@ -21,9 +22,9 @@ use Rattle.c_api.proofs.buvcsolta_pluck as pluck
 use Rattle.c_api.proofs.buvcsolta_pluck.Kinds as pluck-kinds
 use Rattle.c_api.proofs.buvcsolta_pluck.Reads as pluck-reads
 
--- kind, columns, rows, q, m, s, older, newer, work, samples, pick-up, hit, point, force, steps
-module _ (κs : Lfts 5) (a : ArgsD block.signature κs) (r : ResD block.signature κs)
-    (s : AtExit (endedOf 5 block-kinds.ps block-kinds.r) κs) (learnt : block-reads.Learnt κs a r s) where
+-- kind, columns, rows, q, m, s, older, newer, work, samples, pick-up, hit, point, force, steps, inexact
+module _ (κs : Lfts 6) (a : ArgsD block.signature κs) (r : ResD block.signature κs)
+    (s : AtExit (endedOf 6 block-kinds.ps block-kinds.r) κs) (learnt : block-reads.Learnt κs a r s) where
   abbrev instrument : Instrument
   instrument = let c = a .1 .1 .1 in instrumentOf (a .0) (a .1 .0) (a .1 .1 .0) (c .0) (c .1 .0) (c .1 .1 .0)
 
@@ -54,6 +55,9 @@ module _ (κs : Lfts 5) (a : ArgsD block.signature κs) (r : ResD block.signatur
 
   pub block-steps : (s .1 .1 .1 .1 .1 .1 .1 .1 .1 .1 .1 .1 .1 .1 .0 .now) ≡ done .answer .steps
   block-steps = ap (λ (x : BlockLeft). x .steps) learnt
+
+  pub block-inexact : (s .1 .1 .1 .1 .1 .1 .1 .1 .1 .1 .1 .1 .1 .1 .1 .0 .now) ≡ done .answer .inexact
+  block-inexact = ap (λ (x : BlockLeft). x .inexact) learnt
 
   pub block-refusal : r ≡ number (done .answer .refusal)
   block-refusal = ap (λ (x : BlockLeft). x .refusal) learnt

@@ -16,15 +16,17 @@ use Rattle.packing.specs.Packing.{gridOf, instrumentOf, hitOf, sheetOf}
 pub record BlockLeft : Type 0 where
   pub refusal : ℕ
   pub steps : ℕ
+  pub inexact : ℕ
   pub older : List ℤ
   pub newer : List ℤ
   pub work : List ℤ
   pub samples : List ℤ
 
-abbrev pub blockLeft : (refusal steps : ℕ) → (older newer work samples : List ℤ) → BlockLeft
-blockLeft refusal steps older newer work samples = record {
+abbrev pub blockLeft : (refusal steps inexact : ℕ) → (older newer work samples : List ℤ) → BlockLeft
+blockLeft refusal steps inexact older newer work samples = record {
   refusal = refusal;
   steps = steps;
+  inexact = inexact;
   older = older;
   newer = newer;
   work = work;
@@ -32,7 +34,7 @@ blockLeft refusal steps older newer work samples = record {
 }
 
 abbrev pub blockNumbers : AfterBlock → BlockLeft
-blockNumbers a = blockLeft (number (a .answer .refusal)) (a .answer .steps) (a .older) (a .newer) (a .work) (a .samples)
+blockNumbers a = blockLeft (number (a .answer .refusal)) (a .answer .steps) (a .answer .inexact) (a .older) (a .newer) (a .work) (a .samples)
 
 abbrev pub block : (kind columns rows q m s : ℕ) → (older newer work samples : List ℤ) → (pickUp hit point : ℕ) → ℤ → BlockLeft
 block kind columns rows q m s older newer work samples pickUp hit point force =

@@ -11,7 +11,7 @@ use packing::hit_of;
 use packing::instrument_of;
 use packing::sheet_of;
 
-// A block. Ruled out: the count of steps not told; a hit where its flag is 0 (`hit_of`).
+// A block. Ruled out: the count of steps not told; the steps told as the inexact points; a hit where its flag is 0 (`hit_of`).
 #[no_mangle]
 pub extern "C" fn buvcsolta_block(
     kind: u64,
@@ -29,9 +29,10 @@ pub extern "C" fn buvcsolta_block(
     point: usize,
     force: i64,
     steps: &mut usize,
+    inexact: &mut u64,
 ) -> u64
-    ensures { λ r. ⌜ Exports.blockLeft r (now (steps .exit)) (now (older .exit)) (now (newer .exit)) (now (work .exit))
-        (now (samples .exit))
+    ensures { λ r. ⌜ Exports.blockLeft r (now (steps .exit)) (now (inexact .exit)) (now (older .exit)) (now (newer .exit))
+        (now (work .exit)) (now (samples .exit))
         ≡ Exports.block kind columns rows q m s (now (older .entry)) (now (newer .entry)) (now (work .entry)) (now (samples .entry))
         «pick_up» hit point force ⌝ }
 {
@@ -39,6 +40,7 @@ pub extern "C" fn buvcsolta_block(
     let h = hit_of(hit, point, force);
     let answer = block(i, older, newer, work, samples, pick_up, h);
     *steps = answer.steps;
+    *inexact = answer.inexact;
     let refusal = answer.refusal;
     refusal.number()
 }

@@ -60,7 +60,7 @@ abbrev code : Setup → List ℤ → (pick : ℕ) → AfterBlock
 code s samples pick = blockAtRest (s .instrument) (s .length) samples pick (s .hit)
 
 module _ (n : Numbers) (samples : List ℤ) where
-  pub too-large : isTooLarge (gridOf n) ≡ true → heard (record { steps = 0; refusal = WrongSize }) samples ≡ played n samples
+  pub too-large : isTooLarge (gridOf n) ≡ true → heard (record { steps = 0; inexact = 0; refusal = WrongSize }) samples ≡ played n samples
   unfolding played
   too-large e = simp e
 

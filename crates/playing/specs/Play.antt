@@ -36,4 +36,4 @@ fromRest n samples = blockAtRest (instrumentOf n) (points (gridOf n)) samples (n
 unfoldable pub played : Numbers → List ℤ → Heard
 played n samples =
     let block = heardOf (fromRest n samples) in
-    cond (isTooLarge (gridOf n)) (heard (record { steps = 0; refusal = WrongSize }) samples) block
+    cond (isTooLarge (gridOf n)) (heard (record { steps = 0; inexact = 0; refusal = WrongSize }) samples) block

@@ -53,6 +53,7 @@ pub fn play(n: Numbers, samples: &mut [i16]) -> BlockAnswer
     if asked.is_too_large {
         return BlockAnswer {
             steps: 0,
+            inexact: 0,
             refusal: Refusal::WrongSize,
         };
     }

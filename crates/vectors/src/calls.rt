@@ -23,7 +23,7 @@ fn grid_in(n: Numbers) -> Grid {
     Grid::new(n.n1, n.n2 as usize, n.n3 as usize)
 }
 
-// 3 kind columns rows q m s pickup hit point force steps refusal
+// 3 kind columns rows q m s pickup hit point force steps inexact refusal
 fn instrument_in(n: Numbers) -> Instrument {
     instrument_of(n.n1, n.n2 as usize, n.n3 as usize, n.n4, n.n5, n.n6)
 }
@@ -34,7 +34,7 @@ fn hit_in(n: Numbers) -> Hit {
 
 fn is_block(n: Numbers, answer: BlockAnswer) -> bool {
     let refusal = answer.refusal;
-    (answer.steps as u64 == n.n11) & (refusal.number() == n.n12)
+    (answer.steps as u64 == n.n11) & (answer.inexact == n.n12) & (refusal.number() == n.n13)
 }
 
 fn block_agrees(

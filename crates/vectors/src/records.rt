@@ -115,7 +115,7 @@ impl Numbers {
             0 => 1,
             1 => self.size_on_buffer(),
             2 => self.size_on_buffer(),
-            3 => 13,
+            3 => 14,
             4 => 8,
             5 => 7,
             6 => 16,

@@ -42,7 +42,8 @@ returns c =
     let left = called .block .last .1 in
     let answered : Instrument → Hit → _ =
     λ i h. blockNumbers (Calls.block i (a .older .now) (a .newer .now) (a .work .now) (a .samples .now) (a .pick-up) h) in
-    ap (λ (n : ℕ). blockLeft n (called .block .result .steps) (left .0) (left .1 .0) (left .1 .1 .0) (left .1 .1 .1 .0))
+    ap (λ (n : ℕ). blockLeft n (called .block .result .steps) (called .block .result .inexact) (left .0) (left .1 .0) (left .1 .1 .0)
+    (left .1 .1 .1 .0))
     (c .number .ensures)
     ∙ ap blockNumbers (called .block .ensures)
     ∙ ap₂ answered (packed .before .instrument-of .ensures) (packed .hit-of .ensures ∙ ap (hitOf (a .hit) (a .point)) (search needs))
