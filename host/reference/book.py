@@ -35,7 +35,10 @@ def energy(grid, settings, older, newer):
 
 
 class Book:
-    """"Beside it runs a book of the unrounded scheme."""
+    """"Beside it runs a book of the unrounded scheme."
+
+    inexact is the sum of the blocks' answered counts of inexact points since the book last took its levels.
+    """
 
     def __init__(self, older, newer):
         # "It starts with n 0, no last step, and the two levels that the list starts from."
@@ -43,7 +46,7 @@ class Book:
         self.take(older, newer)
 
     def take(self, older, newer):
-        self.n = 0
+        self.n = self.inexact = 0
         self.scale = 1
         self.older, self.newer = list(older), list(newer)
 
@@ -53,8 +56,8 @@ class Book:
             grid, settings, self.older, self.newer, self.scale, hit)
         self.n += 1
 
-    def block(self, kind, columns, rows, q, m, s, older, newer, hit, steps, each_step=lambda number: None):
-        """A block's arguments, the two levels lent to it and its answered count of steps."""
+    def block(self, kind, columns, rows, q, m, s, older, newer, hit, steps, inexact, each_step=lambda number: None):
+        """A block's arguments, the two levels lent to it and its answered counts of steps and of inexact points."""
         if steps == 0:
             # "A block with no step done, refused or not, changes nothing in the book".
             return
@@ -66,6 +69,7 @@ class Book:
             # "the block's hit in the first of them".
             self.step(hit if number == 0 else None)
             each_step(number)
+        self.inexact += inexact
 
     def pluck(self, kind, columns, rows, older, newer, centre, half_width, height):
         """"An accepted pluck puts the levels its rule gives into the book, with n 0."""
@@ -96,3 +100,16 @@ class Book:
         size = columns * rows
         return (len(newer) == size and
                 8 * self.distance(newer) <= size * (self.n * (self.n + 1) * self.scale) ** 2)
+
+    def is_exact(self, older, newer):
+        """Both levels times (D+s)^n are the book's, point by point."""
+        return all([value * self.scale for value in level] == own
+                   for level, own in ((older, self.older), (newer, self.newer)))
+
+    def as_counted(self, older, newer):
+        """Request 3: "A user whose sum stays 0 from the start may read the levels as the unrounded scheme itself"."""
+        return self.inexact > 0 or self.is_exact(older, newer)
+
+    def count_tells(self, older, newer):
+        """Whether as_counted says something: steps done, the sum 0 and a level that is not all zeros."""
+        return self.n > 0 and self.inexact == 0 and any((*older, *newer))

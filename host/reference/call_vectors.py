@@ -16,10 +16,11 @@ LARGEST = ((1, 1024, 1), (2, 1024, 1), (3, 1024, 1), (4, 1024, 1), (5, 64, 64), 
 
 
 class Records(list):
-    """Records and the lent buffers as they stand after them."""
+    """Records, the lent buffers as they stand after them, and the last block's count of inexact points."""
 
     def __init__(self):
         self.lent = [[], [], [], []]
+        self.inexact = None
 
     def lend(self, *buffers):
         """older, newer, work, samples; only those that differ are written."""
@@ -37,7 +38,8 @@ class Records(list):
         answer, *self.lent = calls.block(kind, columns, rows, q, m, s, *self.lent, pick_up, hit)
         self.append((3, kind, columns, rows, q, m, s, pick_up, int(hit is not None), *(hit or unused), *answer))
         self.check()
-        return answer
+        steps, self.inexact, refusal = answer
+        return steps, refusal
 
     def pluck(self, kind, columns, rows, centre, half_width, height):
         refusal, *self.lent[:2] = calls.pluck(kind, columns, rows, *self.lent[:2], centre, half_width, height)
@@ -66,26 +68,26 @@ def filled(grid, value):
 def examples(records):
     """The paper's table, the slip at free ends, the plates of test_reference.py, the limits of stability, the listing of ring."""
     middle = lambda value: [0, 0, 0, 0, value, 0, 0, 0, 0]
-    for grid, settings, older, newer in (
-            ((1, 3, 1), (65536, 0, 0), [0, 1000, 0], [0, 1000, 0]),
-            ((5, 3, 3), (32768, 0, 0), middle(1000), middle(1000)),
-            ((1, 3, 1), (16384, 0, 0), [0, 1, 0], [0, 1, 0]),
-            ((1, 3, 1), (16384, 0, 0), [0, -1, 0], [0, -1, 0]),
-            ((1, 3, 1), (0, 0, 65536), [0, 7, 0], [0, 3, 0]),
-            ((3, 3, 1), (65536, 0, 0), [0, 0, 0], [4, 0, 0]),
-            ((3, 3, 1), (65536, 0, 0), [0, 0, 0], [0, 4, 0]),
-            ((2, 3, 1), (65536, 0, 0), [0, 0, 0], [0, 4, 0]),
-            ((4, 5, 1), (0, 16384, 0), [0] * 5, [0, 0, 8, 0, 0]),
-            ((4, 5, 1), (0, 16384, 0), [0] * 5, [0, 8, 0, 0, 0]),
-            ((6, 3, 3), (32768, 0, 0), middle(1000), middle(1000)),
-            ((7, 3, 3), (16384, 2048, 0), middle(1000), middle(1000)),
-            ((7, 3, 3), (0, 2048, 0), middle(0), middle(-1)),
-            ((7, 5, 5), (0, 4096, 0), [0] * 25, with_value([0] * 25, 6, 16)),
-            ((7, 5, 5), (0, 4096, 0), [0] * 25, with_value([0] * 25, 12, 16)),
-            ((7, 4, 3), (16384, 2048, 0), [0] * 12, with_value([0] * 12, 5, 16)),
-            ((7, 3, 4), (16384, 2048, 0), [0] * 12, with_value([0] * 12, 7, -16))):
+    for grid, settings, older, newer, inexact in (
+            ((1, 3, 1), (65536, 0, 0), [0, 1000, 0], [0, 1000, 0], 0),
+            ((5, 3, 3), (32768, 0, 0), middle(1000), middle(1000), 0),
+            ((1, 3, 1), (16384, 0, 0), [0, 1, 0], [0, 1, 0], 1),
+            ((1, 3, 1), (16384, 0, 0), [0, -1, 0], [0, -1, 0], 1),
+            ((1, 3, 1), (0, 0, 65536), [0, 7, 0], [0, 3, 0], 0),
+            ((3, 3, 1), (65536, 0, 0), [0, 0, 0], [4, 0, 0], 0),
+            ((3, 3, 1), (65536, 0, 0), [0, 0, 0], [0, 4, 0], 0),
+            ((2, 3, 1), (65536, 0, 0), [0, 0, 0], [0, 4, 0], 0),
+            ((4, 5, 1), (0, 16384, 0), [0] * 5, [0, 0, 8, 0, 0], 0),
+            ((4, 5, 1), (0, 16384, 0), [0] * 5, [0, 8, 0, 0, 0], 0),
+            ((6, 3, 3), (32768, 0, 0), middle(1000), middle(1000), 0),
+            ((7, 3, 3), (16384, 2048, 0), middle(1000), middle(1000), 0),
+            ((7, 3, 3), (0, 2048, 0), middle(0), middle(-1), 1),
+            ((7, 5, 5), (0, 4096, 0), [0] * 25, with_value([0] * 25, 6, 16), 0),
+            ((7, 5, 5), (0, 4096, 0), [0] * 25, with_value([0] * 25, 12, 16), 0),
+            ((7, 4, 3), (16384, 2048, 0), [0] * 12, with_value([0] * 12, 5, 16), 1),
+            ((7, 3, 4), (16384, 2048, 0), [0] * 12, with_value([0] * 12, 7, -16), 1)):
         records.lend(older, newer, [9] * len(newer), [5])
-        assert records.block(*grid, *settings, 1) == (1, 0)
+        assert (records.block(*grid, *settings, 1), records.inexact) == ((1, 0), inexact)
     for kind, q, m in ((4, 65532, 1), (4, 65533, 1), (5, 32768, 0), (5, 32769, 0), (6, 32769, 0), (5, 0, 1), (6, 0, 1),
                        (7, 32768, 0), (7, 32769, 0), (7, 0, 4096), (7, 0, 4097), (7, 1, 4096), (7, 16384, 2048),
                        (7, 16385, 2048), (7, 16384, 2049)):
@@ -122,6 +124,64 @@ def fading(records):
         records.lend([0] * 3, [0] * 3, [7] * 3, [9] * 150)
         assert records.block(1, 3, 1, 8192, 0, 12000, 1, (1, force)) == (150, 0)
         assert records.lent[:2] == [level, level] and records.lent[3][50:] == [0] * 100
+
+
+def remainders(records):
+    """Point 1 has the numerator that stands at point 2: multiples of D and of D+s, halves, and beside them."""
+    for s in (0, 1, 2, 255, D // 2, D - 1, D):
+        near = {0, D, D + s, 3 * (D + s), (D + s) // 2, 5 * (D + s) + (D + s) // 2}
+        for value in sorted({value + change for value in near for change in (-1, 0, 1, 2)}):
+            sign = -1 if value % 3 else 1
+            records.lend([0] * 4, [0, 0, sign * value, 0], [7] * 4, [9])
+            assert records.block(1, 4, 1, 1, 0, s, 1) == (1, 0)
+            assert records.inexact == (value % (D + s) != 0) + (2 * (D - 1) * value % (D + s) != 0)
+
+
+def never_inexact(records):
+    """R = 1 without loss, at rest but for the hit; levels that are multiples of (D+s)^2, for two steps."""
+    for kind in (1, 2, 3):
+        size = 7 + kind
+        records.lend([0] * size, [0] * size, [7] * size, [9] * 60)
+        assert records.block(kind, size, 1, D, 0, 0, 2, (3, 12345677)) == (60, 0)
+        assert records.inexact == 0 and any(records.lent[0]) and any(records.lent[1])
+    for grid in ((2, 6, 1), (4, 6, 1), (5, 4, 5), (6, 5, 5), (7, 4, 4)):
+        for s in (1, 30, D - 1):
+            m = 99 if grid[0] in STIFF_KINDS else 0
+            level = filled(grid, lambda point: (point % 3 - 1) * (D + s) ** 2)
+            for steps in (2, 3):
+                records.lend(level, level, [7] * len(level), [9] * steps)
+                assert records.block(*grid, largest_q(grid[0], m) - 3, m, s, 0) == (steps, 0)
+                assert (records.inexact > 0) == (steps == 3)
+
+
+def inexact_later(records):
+    """Each step takes so many factors 2 from the levels: the first steps are exact, later ones are not."""
+    for grid, settings, factors, exact in (
+            ((5, 5, 5), (32768, 0, 0), 1, 7), ((6, 7, 7), (32768, 0, 0), 1, 5), ((4, 7, 1), (0, 16384, 0), 2, 5),
+            ((7, 5, 6), (0, 4096, 0), 4, 3), ((1, 6, 1), (16384, 0, 0), 2, 4), ((3, 5, 1), (32768, 0, D), 2, 4)):
+        unit = 2 ** (factors * exact)
+        level = filled(grid, lambda point: point * point % 7 * unit)
+        for steps in (exact, 24):
+            records.lend([0] * len(level), level, [7] * len(level), [9] * steps)
+            assert records.block(*grid, *settings, 1, (moving_points(grid)[1], unit)) == (steps, 0)
+            assert (records.inexact > 0) == (steps == 24)
+
+
+def counts(records):
+    """Every moving point inexact and no fixed one counted, over 0, 1 and 5 steps; 13 after 0, 3 and 5 inexact steps."""
+    for grid in ((1, 3, 1), (1, 6, 1), (2, 3, 1), (2, 6, 1), (3, 6, 1), (4, 6, 1), (5, 3, 3), (5, 5, 4), (6, 3, 3),
+                 (6, 7, 7), (7, 3, 3), (7, 4, 5)):
+        size, grow, loud = grid[1] * grid[2], CEILING // 9, moving_points(grid)[-1]
+        uneven = filled(grid, lambda point: 1000 + 7 * point * point)
+        for steps in (0, 1, 5):
+            records.lend([0] * size, uneven, [7] * size, [9] * steps)
+            assert records.block(*grid, 3, 0, D - 1, 0) == (steps, 0)
+            assert records.inexact == steps * len(moving_points(grid))
+        for done in (0, 3, 5):
+            newer = CEILING - 5 - done * grow
+            records.lend(with_value(uneven, loud, newer - grow), with_value(uneven, loud, newer), [7] * size, [9] * 6)
+            assert records.block(*grid, 1, 0, 0, loud) == (done, 13)
+            assert records.inexact == done * len(moving_points(grid))
 
 
 def small_sizes(records, draw):
@@ -251,7 +311,7 @@ def given_block(records, case):
 def block_refusals(records):
     for base in (BLOCK_BASE, MEMBRANE_BASE):
         causes = list(block_causes(base))
-        assert given_block(records, base) == (2, 0)
+        assert given_block(records, base) == (2, 0) and records.inexact > 0
         for low, first in causes:
             assert given_block(records, {**base, **first}) == (0, low)
             empty = given_block(records, {**base, **first, "samples": []})
@@ -418,6 +478,10 @@ def call_records():
     rounding(records)
     sample_corners(records)
     fading(records)
+    remainders(records)
+    never_inexact(records)
+    inexact_later(records)
+    counts(records)
     small_sizes(records, draw)
     extremes(records, draw)
     thirteen(records, draw)

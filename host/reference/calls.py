@@ -9,11 +9,19 @@ length. A refused call gives back what it was lent, except for 13.
 import refusals as r
 import sheet as sheets
 from pluck import pluck_level
-from step import next_level, reading as float_reading, sample
+from step import one_step, reading as float_reading, sample
+
+# "held at 2^64 - 1 once it would pass that".
+LARGEST_SUM = 2**64 - 1
+
+
+def sum_held(so_far, count):
+    """The sum of the counts so far and of one more step."""
+    return min(so_far + count, LARGEST_SUM)
 
 
 def block(kind, columns, rows, q, m, s, older, newer, work, samples, pick_up, hit):
-    """((steps, refusal), older, newer, work, samples); hit is None or (point, force)."""
+    """((steps, inexact, refusal), older, newer, work, samples); hit is None or (point, force)."""
     grid, settings = (kind, columns, rows), (q, m, s)
     refusal = r.lowest({
         1: lambda: r.unknown_kind(kind),
@@ -30,13 +38,13 @@ def block(kind, columns, rows, q, m, s, older, newer, work, samples, pick_up, hi
     })
     if refusal:
         # "For 1 to 12: zero steps, ... every lent level and sample unchanged."
-        return (0, refusal), older, newer, work, samples
+        return (0, 0, refusal), older, newer, work, samples
     # "A block has as many steps as the lent sample buffer has places".
     samples = list(samples)
-    steps = 0
+    steps = inexact = 0
     for place in range(len(samples)):
         # "the hit, if any, acts in its first step".
-        following = next_level(grid, settings, older, newer, hit if place == 0 else None)
+        following, count = one_step(grid, settings, older, newer, hit if place == 0 else None)
         if r.some_beyond((following,)):
             # "For 13: the count of steps done, the levels after exactly those".
             refusal = 13
@@ -44,8 +52,10 @@ def block(kind, columns, rows, q, m, s, older, newer, work, samples, pick_up, hi
         older, newer = newer, following
         samples[place] = sample(newer[pick_up])
         steps += 1
+        # "A block reports the sum over its steps done".
+        inexact = sum_held(inexact, count)
     # "Work is all zeros after 13 and after every accepted block."
-    return (steps, refusal), older, newer, [0] * len(work), samples
+    return (steps, inexact, refusal), older, newer, [0] * len(work), samples
 
 
 def pluck(kind, columns, rows, older, newer, centre, half_width, height):

@@ -118,12 +118,14 @@ def summary(counts, seconds, jobs):
     print(f"{counts['lists']} lists, {counts['calls in lists']} calls in lists "
           f"({counts['far']} with the book at a distance), {counts['samples beside the book']} samples beside the book, "
           f"energy watched at {counts['energy watched']} steps")
+    print(f"{counts['inexact points']} inexact points in {counts['inexact blocks']} blocks; after steps without any, "
+          f"both levels the book's and not all 0: {counts['exact calls']} calls in {counts['exact lists']} lists")
 
 
 def each_wrong_edit(seed, jobs, calls, seconds):
     """Every wrong edit of the engine must be found."""
     survived = []
-    edits = [edit for edit in must_fail.EDITS if edit[1] not in must_fail.BESIDE]
+    edits = must_fail.seen_by_calls()
     for edit in edits:
         _, difference = compare(lambda: wrong_stand_in(edit), seed, jobs, calls, seconds)
         if difference is None:

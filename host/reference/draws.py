@@ -6,6 +6,7 @@ import struct
 
 from instrument import (CEILING, D, GRID_KINDS, KINDS, LINE_KINDS, RECTANGULAR_KINDS, STABILITY, STIFF_KINDS, fixed_points,
                         moving, size_in_table)
+from pluck import cut_toward_zero
 from sheet import Sheet, nearest
 
 U64 = 2**64
@@ -42,9 +43,10 @@ def largest_q(kind, m=0):
 
 
 class Draws(random.Random):
-    """A seeded source; odds is the share of spoiled arguments."""
+    """A seeded source; odds is the share of spoiled arguments, unit what points and forces are multiples of."""
 
     odds = 0.02
+    unit = 1
 
     def rarely(self, share=None):
         return self.random() < (self.odds if share is None else share)
@@ -102,6 +104,21 @@ class Draws(random.Random):
             s = self.choice((D + 1, self.wild()))
         return q, m, s
 
+    def even_settings(self, kind):
+        """(q, m, s), accepted, of high powers of two: a step takes few factors 2 from the levels."""
+        m = self.choice((0, largest_m(kind), largest_m(kind) // 2)) if kind in STIFF_KINDS else 0
+        limit = largest_q(kind, m)
+        return self.choice((0, limit, limit, limit // 2)), m, self.choice((0, 0, 0, D))
+
+    def unit_of(self, settings):
+        """A power of two or of D+s, within the ceiling; with the k-th power of D+s the first k steps are exact."""
+        divisor = D + min(settings[2], D)
+        return self.choice((2**20, 2**30, 2**36, divisor, divisor**2, divisor**2))
+
+    def in_units(self, value):
+        """Cut toward zero to a multiple of the unit."""
+        return cut_toward_zero(value, self.unit) * self.unit
+
     def level(self, grid, length=None):
         """A level, most of the time of the right length, within the ceiling and 0 at fixed points."""
         kind, columns, rows = grid
@@ -111,10 +128,11 @@ class Draws(random.Random):
             if self.rarely(self.odds / 2):
                 length = self.choice((0, 1, max(length - 1, 0), length + 1, length + 2))
         reach = self.choice((0, 1, 3, 1000, 2**28, 2**40, CEILING // 8, CEILING // 3, CEILING))
+        reach = max(reach // self.unit, int(self.unit > 1))
         if self.rarely(0.2):
-            level = [self.choice((-reach, reach, 0)) for _ in range(length)]
+            level = [self.choice((-reach, reach, 0)) * self.unit for _ in range(length)]
         else:
-            level = [self.randint(-reach, reach) for _ in range(length)]
+            level = [self.randint(-reach, reach) * self.unit for _ in range(length)]
         if known and length == columns * rows:
             for point in fixed_points(*grid):
                 level[point] = 0
@@ -128,7 +146,7 @@ class Draws(random.Random):
         if self.rarely(0.4):
             return older, self.level(grid)
         step = self.choice((0, 1, 5, 2**20, 2**36))
-        newer = [value + self.randint(-step, step) if value else 0 for value in older]
+        newer = [self.in_units(value + self.randint(-step, step)) if value else 0 for value in older]
         return older, [max(-2**63, min(2**63 - 1, value)) for value in newer]
 
     def point(self, grid, must_move=False):
@@ -145,7 +163,7 @@ class Draws(random.Random):
         if self.rarely():
             return self.wild_signed()
         reach = self.choice((0, 1, 1000, 2**28, 2**36, CEILING // 2, CEILING))
-        return self.choice((reach, -reach, self.randint(-reach, reach)))
+        return self.in_units(self.choice((reach, -reach, self.randint(-reach, reach))))
 
     def hit(self, grid):
         return None if self.rarely(0.4) else (self.point(grid, True), self.force())

@@ -6,7 +6,7 @@
 A file is a sequence of decimal numbers, one record per line, ended by 0:
     1 which length v0 v1 ..   the lent buffer (0 older, 1 newer, 2 work, 3 samples) is now this
     2 which length v0 v1 ..   the lent buffer must be this now
-    3 kind columns rows q m s pickup hit point force steps refusal
+    3 kind columns rows q m s pickup hit point force steps inexact refusal
     4 kind columns rows centre halfwidth height refusal
     5 kind columns rows pickup valuebits refusal
     6 kind columns rows rate length bending speedkind speed1 speed2 losskind loss q m s refusal

@@ -1,7 +1,7 @@
 """The C library through ctypes, the reference in the same form, and stand-ins for the library.
 
 Both sides take the C functions' plain arguments, with buffers as lists, and give back
-    block:   (refusal, steps, older, newer, work, samples)
+    block:   (refusal, steps, inexact, older, newer, work, samples)
     pluck:   (refusal, older, newer)
     reading: (refusal, bits of the value, newer)
     sheet:   (refusal, q, m, s)
@@ -22,7 +22,8 @@ U64, I64, SIZE, F64, PLACE = (ctypes.c_uint64, ctypes.c_int64, ctypes.c_size_t, 
                               ctypes.c_void_p)
 LEVEL = (PLACE, SIZE)
 SIGNATURES = {
-    "block": (U64, SIZE, SIZE, U64, U64, U64, *LEVEL, *LEVEL, *LEVEL, PLACE, SIZE, SIZE, U64, SIZE, I64, PLACE),
+    "block": (U64, SIZE, SIZE, U64, U64, U64, *LEVEL, *LEVEL, *LEVEL, PLACE, SIZE, SIZE, U64, SIZE, I64, PLACE,
+              PLACE),
     "pluck": (U64, SIZE, SIZE, *LEVEL, *LEVEL, SIZE, SIZE, I64),
     "reading": (U64, SIZE, SIZE, *LEVEL, SIZE, PLACE),
     "sheet": (U64, SIZE, SIZE, F64, F64, F64, U64, F64, F64, U64, F64, PLACE, PLACE, PLACE),
@@ -57,12 +58,12 @@ class Library:
         self.functions = functions
 
     def block(self, kind, columns, rows, q, m, s, older, newer, work, samples, pick_up, hit, point, force):
-        a, b, c, d, steps = (Lent("q", older), Lent("q", newer), Lent("q", work), Lent("h", samples),
-                             Lent("Q", [GUARD]))
+        a, b, c, d = Lent("q", older), Lent("q", newer), Lent("q", work), Lent("h", samples)
+        steps, inexact = Lent("Q", [GUARD]), Lent("Q", [GUARD])
         refusal = self.functions["block"](
             kind, columns, rows, q, m, s, a.place, a.length, b.place, b.length, c.place, c.length,
-            d.place, d.length, pick_up, hit, point, force, steps.place)
-        return refusal, steps.values()[0], a.values(), b.values(), c.values(), d.values()
+            d.place, d.length, pick_up, hit, point, force, steps.place, inexact.place)
+        return refusal, steps.values()[0], inexact.values()[0], a.values(), b.values(), c.values(), d.values()
 
     def pluck(self, kind, columns, rows, older, newer, centre, half_width, height):
         a, b = Lent("q", older), Lent("q", newer)
@@ -99,9 +100,9 @@ class Reference:
         self.calls = module
 
     def block(self, kind, columns, rows, q, m, s, older, newer, work, samples, pick_up, hit, point, force):
-        (steps, refusal), *after = self.calls.block(
+        (steps, inexact, refusal), *after = self.calls.block(
             kind, columns, rows, q, m, s, older, newer, work, samples, pick_up, (point, force) if hit else None)
-        return (refusal, steps, *after)
+        return (refusal, steps, inexact, *after)
 
     def pluck(self, *arguments):
         return self.calls.pluck(*arguments)
@@ -127,10 +128,10 @@ def stand_in(module=calls):
     reference = Reference(module)
 
     def block(kind, columns, rows, q, m, s, older, older_length, newer, newer_length, work, work_length,
-              samples, samples_length, pick_up, hit, point, force, steps):
+              samples, samples_length, pick_up, hit, point, force, steps, inexact):
         lent = [cells(I64, older, older_length), cells(I64, newer, newer_length),
                 cells(I64, work, work_length), cells(ctypes.c_int16, samples, samples_length)]
-        refusal, cells(SIZE, steps, 1)[0], *after = reference.block(
+        refusal, cells(SIZE, steps, 1)[0], cells(U64, inexact, 1)[0], *after = reference.block(
             kind, columns, rows, q, m, s, *(list(buffer) for buffer in lent), pick_up, hit, point, force)
         for buffer, values in zip(lent, after):
             buffer[:] = values

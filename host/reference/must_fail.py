@@ -13,23 +13,41 @@ import tempfile
 HERE = pathlib.Path(__file__).resolve().parent
 
 # (what is wrong, file, text, text in its place)
+# No call shows these: none answers a remainder, and no sample buffer is long enough for such a sum.
+UNSEEN = (
+    ("remainder of the other sign", "step.py", "numerator - whole * denominator", "whole * denominator - numerator"),
+    ("remainder without its sign", "step.py", "whole, numerator - whole", "whole, abs(numerator) - abs(whole)"),
+    ("remainder of rounding down", "step.py", "whole, numerator - whole * denominator",
+     "whole, numerator % denominator"),
+    ("sum held at 2^63 - 1", "calls.py", "LARGEST_SUM = 2**64 - 1", "LARGEST_SUM = 2**63 - 1"),
+    ("sum held at 2^32 - 1", "calls.py", "LARGEST_SUM = 2**64 - 1", "LARGEST_SUM = 2**32 - 1"),
+    ("sum held at 2^64 - 2", "calls.py", "LARGEST_SUM = 2**64 - 1", "LARGEST_SUM = 2**64 - 2"),
+    ("sum that wraps", "calls.py", "min(so_far + count, LARGEST_SUM)", "(so_far + count) % 2**64"),
+    ("sum not held", "calls.py", "min(so_far + count, LARGEST_SUM)", "so_far + count"),
+    ("sum held at what it was before", "calls.py", "min(so_far + count, LARGEST_SUM)",
+     "so_far + count if so_far + count <= LARGEST_SUM else so_far"),
+    ("sum begun again after 2^64 - 1", "calls.py", "min(so_far + count, LARGEST_SUM)",
+     "min(so_far + count, LARGEST_SUM) if so_far < LARGEST_SUM else 0"),
+    ("sum of a block not held", "calls.py", "inexact = sum_held(inexact, count)", "inexact += count"),
+)
+
 EDITS = (
     ("negative halves upward", "step.py", "-magnitude if numerator < 0 else magnitude",
      "(2 * numerator + denominator) // (2 * denominator)"),
     ("halves toward zero", "step.py", "(2 * abs(numerator) + denominator) //",
      "(2 * abs(numerator) + denominator - 1) //"),
-    ("divided by D", "step.py", "round_half_away(value, D + s)", "round_half_away(value, D)"),
+    ("divided by D", "step.py", "round_half_away(value, divisor)", "round_half_away(value, D)"),
     ("D+s for D-s", "step.py", "- (D - s) * older", "- (D + s) * older"),
     ("B added", "step.py", "- m * second", "+ m * second"),
     ("B without its second Laplacian", "step.py", "laplacians(grid, first) if m else first", "first"),
     ("force divided by D", "step.py", "result[point] += D * force", "result[point] += force"),
-    ("sample rounded down", "step.py", "return round_half_away(value, 2**28)", "return value // 2**28"),
-    ("sample toward zero", "step.py", "return round_half_away(value, 2**28)", "return int(value / 2**28)"),
-    ("sample's negative halves upward", "step.py", "return round_half_away(value, 2**28)",
+    ("sample rounded down", "step.py", "return round_half_away(value, 2**28)[0]", "return value // 2**28"),
+    ("sample toward zero", "step.py", "return round_half_away(value, 2**28)[0]", "return int(value / 2**28)"),
+    ("sample's negative halves upward", "step.py", "return round_half_away(value, 2**28)[0]",
      "return (value + 2**27) >> 28"),
-    ("sample's halves toward zero", "step.py", "return round_half_away(value, 2**28)",
+    ("sample's halves toward zero", "step.py", "return round_half_away(value, 2**28)[0]",
      "return (abs(value) + 2**27 - 1) // 2**28 * (-1 if value < 0 else 1)"),
-    ("sample's halves to even", "step.py", "return round_half_away(value, 2**28)", "return round(value / 2**28)"),
+    ("sample's halves to even", "step.py", "return round_half_away(value, 2**28)[0]", "return round(value / 2**28)"),
     ("sample over 2^27", "step.py", "round_half_away(value, 2**28)", "round_half_away(value, 2**27)"),
     ("reading over 2^42", "step.py", "2.0**43", "2.0**42"),
     ("free end takes its neighbour once", "instrument.py", "return 2 * (level[near[0]] - u)",
@@ -94,6 +112,68 @@ EDITS = (
     ("half of the half of a sample unit", "bounds.py", "2**27 * book.scale", "2**26 * book.scale"),
     ("a sample allowed half a unit alone", "bounds.py", "> 2 * bound.numerator", "> 0 * bound.numerator"),
     ("free end counts whole at a sample", "bounds.py", "weight = 1 if", "weight = 2 if"),
+    ("fixed points counted", "step.py", "sum(values[point] % divisor != 0 for",
+     "len(values) - sum(values[point] % divisor == 0 for"),
+    ("fixed points counted by numerators of their own", "step.py",
+     "return level, inexact_points(grid, divisor, values)",
+     "free = (3, *grid[1:])\n"
+     "    return level, inexact_points(free, divisor, numerators(free, settings, older, newer, hit))"),
+    ("multiples of D in the place of D+s", "step.py", "level, inexact_points(grid, divisor, values)",
+     "level, inexact_points(grid, D, values)"),
+    ("only remainders beyond 1 counted", "step.py", "sum(values[point] % divisor != 0 for",
+     "sum(abs(round_half_away(values[point], divisor)[1]) > 1 for"),
+    ("only remainders above 0 counted", "step.py", "sum(values[point] % divisor != 0 for",
+     "sum(round_half_away(values[point], divisor)[1] > 0 for"),
+    ("only halves counted", "step.py", "sum(values[point] % divisor != 0 for",
+     "sum(2 * abs(values[point]) % (2 * divisor) == divisor for"),
+    ("exact points counted", "step.py", "% divisor != 0 for", "% divisor == 0 for"),
+    ("multiples of 2(D+s) in the place of D+s", "step.py", "% divisor != 0 for", "% (2 * divisor) != 0 for"),
+    ("remainders summed, not counted", "step.py", "sum(values[point] % divisor != 0 for",
+     "sum(abs(round_half_away(values[point], divisor)[1]) for"),
+    ("at most one point of a step counted", "step.py", "return sum(values[point] %", "return any(values[point] %"),
+    ("hit left out of the numerators counted", "step.py", "level, inexact_points(grid, divisor, values)",
+     "level, inexact_points(grid, divisor, numerators(grid, settings, older, newer, None))"),
+    ("points counted twice", "calls.py", "inexact = sum_held(inexact, count)",
+     "inexact = sum_held(inexact, 2 * count)"),
+    ("step ended by 13 counted", "calls.py", "refusal = 13\n", "refusal, inexact = 13, sum_held(inexact, count)\n"),
+    ("nothing counted after 13", "calls.py", "return (steps, inexact, refusal)",
+     "return (steps, 0 if refusal else inexact, refusal)"),
+    ("only the last step counted", "calls.py", "inexact = sum_held(inexact, count)", "inexact = count"),
+    ("only the first step counted", "calls.py", "inexact = sum_held(inexact, count)",
+     "inexact = inexact if place else count"),
+    ("only the worst step counted", "calls.py", "inexact = sum_held(inexact, count)", "inexact = max(inexact, count)"),
+    ("inexact steps counted, not points", "calls.py", "sum_held(inexact, count)", "sum_held(inexact, int(count > 0))"),
+    ("step left out of the count where the hit acts", "calls.py", "sum_held(inexact, count)",
+     "sum_held(inexact, count if place or hit is None else 0)"),
+    ("refused blocks count", "calls.py", "return (0, 0, refusal)", "return (0, len(newer), refusal)"),
+    ("blocks refused by 11 and 12 count the step not done", "calls.py", "return (0, 0, refusal)",
+     "return (0, one_step(grid, settings, older, newer, hit)[1] if refusal > 10 else 0, refusal)"),
+    ("blocks of no steps count the step not done", "calls.py", "steps = inexact = 0\n",
+     "steps, inexact = 0, 0 if samples else one_step(grid, settings, older, newer, hit)[1]\n"),
+    ("counts of steps and points in each other's place", "calls.py", "return (steps, inexact, refusal)",
+     "return (inexact, steps, refusal)"),
+    ("book takes a block of no steps", "book.py", "if steps == 0:", "if steps < 0:"),
+    ("sum kept at a pluck", "book.py", "if refusal == 0:\n            self.take(older, newer)\n",
+     "if refusal == 0:\n            kept = self.inexact\n            self.take(older, newer)\n"
+     "            self.inexact = kept\n"),
+    ("sum kept at a change of settings", "book.py",
+     "            self.take(older, newer)\n            self.last = used\n",
+     "            kept = self.inexact\n            self.take(older, newer)\n            self.inexact = kept\n"
+     "            self.last = used\n"),
+    ("sum set to 0 by every block", "book.py", "self.inexact += inexact", "self.inexact = inexact"),
+    ("sum of the steps", "book.py", "self.inexact += inexact", "self.inexact += steps"),
+    ("newer alone beside the book", "book.py", "((older, self.older), (newer, self.newer))",
+     "((newer, self.newer),)"),
+    ("older alone beside the book", "book.py", "((older, self.older), (newer, self.newer))", "((older, self.older),)"),
+    ("levels times D^n beside the book's", "book.py", "value * self.scale for value in level",
+     "value * D**self.n for value in level"),
+    ("levels that moved need not be the book's", "book.py", "self.inexact > 0 or", "self.n > 0 or"),
+    ("levels never need be the book's", "book.py", "self.inexact > 0 or", "True or"),
+    ("levels at rest taken for a check", "book.py", " and any((*older, *newer))", ""),
+    ("counts not looked at in lists", "run.py", "self.counted(book, older, newer)", "book.count_tells(older, newer)"),
+    ("count read at the place of the steps", "library.py", "inexact.values()[0], a.values()",
+     "steps.values()[0], a.values()"),
+    ("steps for counts in lists", "run.py", "*outcome[1:3], heard", "outcome[1], outcome[1], heard"),
     ("256 bytes taken", "ring.py", "len(line) > 255", "len(line) > 256"),
     ("two spaces taken", "ring.py", "[0-9]+ )", "[0-9]+ +)"),
     ("minus on every number", "ring.py", "(?:[0-9]+ )", "(?:-?[0-9]+ )"),
@@ -107,10 +187,16 @@ EDITS = (
     ("unknown kind answered 2", "ring.py", "columns * rows if kind in KINDS else 0", "columns * rows"),
     ("numbered from 0", "ring.py", "f\"{number} {samples", "f\"{number - 1} {samples"),
     ("steps asked for the count", "ring.py", "done {count} ", "done {numbers[7]} "),
+    *UNSEEN,
 )
 
 # The files that a library has no part in.
-BESIDE = ("book.py", "bounds.py", "ring.py")
+BESIDE = ("book.py", "bounds.py", "library.py", "ring.py", "run.py")
+
+
+def seen_by_calls():
+    """The edits that a library's answers can show."""
+    return [edit for edit in EDITS if edit[1] not in BESIDE and edit not in UNSEEN]
 
 
 def wrong_copy(edit, folder):

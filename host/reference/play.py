@@ -28,10 +28,10 @@ def play(library, numbers):
                 lent[which] = values
             holds = lent[which] == values
         elif opcode == 3:
-            kind, columns, rows, q, m, s, pick_up, hit, point, force, steps, refusal = take(12)
+            kind, columns, rows, q, m, s, pick_up, hit, point, force, steps, inexact, refusal = take(13)
             *found, lent[0], lent[1], lent[2], lent[3] = library.block(
                 kind, columns, rows, q, m, s, *lent, pick_up, hit, point, force)
-            holds = found == [refusal, steps]
+            holds = found == [refusal, steps, inexact]
         elif opcode == 4:
             *arguments, refusal = take(7)
             found, lent[0], lent[1] = library.pluck(*arguments[:3], lent[0], lent[1], *arguments[3:])
@@ -66,7 +66,7 @@ def main():
         fault = play_file(library, sys.argv[2])
         print(fault or "every record holds")
         return 1 if fault else 0
-    edits = [edit for edit in must_fail.EDITS if edit[1] not in must_fail.BESIDE]
+    edits = must_fail.seen_by_calls()
     files = [f"{sys.argv[2]}/{name}.txt" for name in ("calls", "sheets")]
     survived = [edit[0] for edit in edits if not any(play_file(wrong_stand_in(edit), path) for path in files)]
     print(*(f"not found: {name}" for name in survived), sep="\n", end="\n" if survived else "")

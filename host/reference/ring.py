@@ -35,7 +35,7 @@ def played(kind, columns, rows, q, m, s, pick_up, steps, point, force):
         return 0, 2, []
     # "It starts at rest, always gives the hit, force 0 too".
     rest = [0] * points
-    (count, refusal), _, _, _, samples = calls.block(
+    (count, _, refusal), _, _, _, samples = calls.block(
         kind, columns, rows, q, m, s, rest, rest, rest, [0] * steps, pick_up, (point, force))
     return count, refusal, samples
 

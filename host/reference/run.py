@@ -63,6 +63,8 @@ class Run:
         if name == "block" and expected[0] in (0, 13):
             kind, _, _, _, m = arguments[:5]
             self.counts[f"kind {kind}{', stiff' if m else ''}"] += 1
+            self.counts["inexact points"] += expected[2]
+            self.counts["inexact blocks"] += expected[2] > 0
         return expected
 
     def block(self, grid, settings, older, newer):
@@ -95,30 +97,46 @@ class Run:
         hit, pick_up, outcome = self.block(grid, settings, older, newer)
 
         def heard(number):
-            sample = outcome[5][number]
+            sample = outcome[6][number]
             passed = bounds.sample_passed(book, pick_up, sample)
             if passed:
                 raise Difference(f"sample beyond {passed[0]}: n {book.n}, last step {book.last}\n"
                                  f"sample {sample}\nbook {book.newer[pick_up]}\nscale {book.scale}")
             self.counts["samples beside the book"] += 1
 
-        book.block(*grid, *settings, older, newer, hit, outcome[1], heard)
+        book.block(*grid, *settings, older, newer, hit, *outcome[1:3], heard)
         return outcome
 
-    def one_list(self):
-        """A list of calls with its book; the bound is checked at every call, and at every sample."""
+    def settings(self, kind):
+        return self.draw.even_settings(kind) if self.draw.rarely(0.3) else self.draw.settings(kind)
+
+    def start(self):
+        """A grid, settings and two levels; often the steps from there are exact for a while."""
         draw = self.draw
         kind = draw.kind()
-        grid = (kind, *draw.size(kind))
-        used = [(grid, draw.settings(kind))]
-        older, newer = draw.levels(grid)
+        grid, settings = (kind, *draw.size(kind)), self.settings(kind)
+        draw.unit = draw.unit_of(settings) if draw.rarely(0.4) else 1
+        return grid, settings, *draw.levels(grid)
+
+    def counted(self, book, older, newer):
+        """Checks that levels whose counts were 0 are the book's; whether there was something to check."""
+        if not book.as_counted(older, newer):
+            raise Difference(f"no inexact point counted: n {book.n}, last step {book.last}\n"
+                             f"older {older}\nnewer {newer}\nbook {book.older}\n{book.newer}\nscale {book.scale}")
+        return book.count_tells(older, newer)
+
+    def one_list(self):
+        """A list of calls with its book; bound and counts are checked at every call, the bound at every sample too."""
+        draw = self.draw
+        grid, settings, older, newer = self.start()
+        used, exact = [(grid, settings)], 0
         book = (WatchedBook if draw.rarely(0.25) else Book)(older, newer)
         length = draw.randint(1, 10) if draw.rarely(0.95) else draw.randint(10, 50)
         for _ in range(length):
             grid, settings = draw.choice(used)
             if draw.rarely(0.15) and len(newer) < 1025:
                 grid = draw.choice(same_size_grids((1, len(newer), 1)) or [grid])
-                settings = draw.settings(grid[0])
+                settings = self.settings(grid[0])
                 used = [used[-1], (grid, settings)]
             if draw.rarely(0.12):
                 arguments = self.pluck_arguments(grid, older, newer)
@@ -127,7 +145,7 @@ class Run:
                 older, newer = outcome[1:3]
             else:
                 outcome = self.block_beside(book, grid, settings, older, newer)
-                older, newer = outcome[2:4]
+                older, newer = outcome[3:5]
             passed = [] if book.within_bound(newer) else ["the bound"]
             if book.n and not passed:
                 passed = bounds.passed(book, newer)
@@ -135,8 +153,12 @@ class Run:
                 raise Difference(f"distance beyond {passed[0]}: n {book.n}, last step {book.last}\n"
                                  f"newer {newer}\nbook {book.newer}\nscale {book.scale}")
             self.counts["far"] += book.n > 0 and book.distance(newer) > 0
+            exact += self.counted(book, older, newer)
         self.counts["lists"] += 1
         self.counts["calls in lists"] += length
+        self.counts["exact lists"] += exact > 0
+        self.counts["exact calls"] += exact
+        draw.unit = 1
 
     def one_call(self):
         """A single call outside a list."""

@@ -1,4 +1,4 @@
-"""One step: the numerator, its rounding, the sample and the float reading."""
+"""One step: the numerator, its rounding, the count of inexact points, the sample and the float reading."""
 
 from instrument import D, laplacians, moving
 
@@ -25,21 +25,31 @@ def numerators(grid, settings, older, newer, hit):
 
 
 def round_half_away(numerator, denominator):
-    """"rounded to nearest, halves away from zero", for a denominator above 0."""
+    """(whole number, remainder): "rounded to nearest, halves away from zero", for a denominator above 0.
+
+    Request 3: "its remainder (numerator less whole number x (D+s)) as well as the whole number".
+    """
     magnitude = (2 * abs(numerator) + denominator) // (2 * denominator)
-    return -magnitude if numerator < 0 else magnitude
+    whole = -magnitude if numerator < 0 else magnitude
+    return whole, numerator - whole * denominator
 
 
-def next_level(grid, settings, older, newer, hit):
-    """"divided by D+s and rounded"; "Fixed points remain 0"."""
-    s = settings[2]
-    return [round_half_away(value, D + s)
-            for value in numerators(grid, settings, older, newer, hit)]
+def inexact_points(grid, divisor, values):
+    """"the count: moving points whose numerator was not a multiple of D+s"; values has the numerators."""
+    return sum(values[point] % divisor != 0 for point, _ in moving(*grid))
+
+
+def one_step(grid, settings, older, newer, hit):
+    """(the next level, the count of inexact points): "divided by D+s and rounded"; "Fixed points remain 0"."""
+    divisor = D + settings[2]
+    values = numerators(grid, settings, older, newer, hit)
+    level = [round_half_away(value, divisor)[0] for value in values]
+    return level, inexact_points(grid, divisor, values)
 
 
 def sample(value):
     """"newer at the pick-up point divided by 2^28"; request 2: "the nearest whole number, halves away from zero"."""
-    return round_half_away(value, 2**28)
+    return round_half_away(value, 2**28)[0]
 
 
 def reading(value):

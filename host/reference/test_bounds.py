@@ -10,7 +10,7 @@ from fractions import Fraction
 import bounds
 from book import Book, energy
 from instrument import D, moving_set
-from step import next_level, round_half_away, sample
+from step import one_step, round_half_away, sample
 
 
 def run(grid, settings, older, newer, steps, hits=lambda book, older, newer: None):
@@ -19,7 +19,7 @@ def run(grid, settings, older, newer, steps, hits=lambda book, older, newer: Non
     book.last = grid, settings
     for _ in range(steps):
         hit = hits(book, older, newer)
-        older, newer = newer, next_level(grid, settings, older, newer, hit)
+        older, newer = newer, one_step(grid, settings, older, newer, hit)[0]
         book.step(hit)
     return Fraction(book.distance(newer), 2 * book.scale**2), book, newer
 
@@ -28,7 +28,7 @@ def resonance(book, older, newer):
     """Kind 1, 3 points, q D - 1, s 0: a hit after which the next step rounds away from the error of now."""
     error = newer[1] * book.scale - book.newer[1]
     wanted = 16384 if error <= 0 else 16383
-    return 1, wanted - round_half_away(2 * newer[1] - D * older[1], D)
+    return 1, wanted - round_half_away(2 * newer[1] - D * older[1], D)[0]
 
 
 class Bounds(unittest.TestCase):

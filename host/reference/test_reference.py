@@ -1,17 +1,21 @@
-"""Tests of the reference: the paper's examples, its rules for T, energy and distance, each refusal."""
+"""Tests of the reference: the paper's examples, its rules for T, energy, distance and counts, each refusal."""
 
 import math
+import multiprocessing
 import unittest
 from fractions import Fraction
+from unittest import mock
 
 import book
 import calls
 import draws
 import instrument
 import pluck
+import run
 import sheet
 import step
 from instrument import CEILING, D, KINDS
+from library import Reference, stand_in
 from sheet import Sheet
 
 PLAIN = Sheet(1.0, 2.0, 0.0, ("tension", 0.25, 1.0), ("per second", 0.0))
@@ -20,7 +24,7 @@ PLAIN = Sheet(1.0, 2.0, 0.0, ("tension", 0.25, 1.0), ("per second", 0.0))
 def one_step(grid, settings, older, newer, hit=None):
     """The level after one accepted step."""
     size = len(newer)
-    (steps, refusal), left, new, work, samples = calls.block(
+    (steps, _, refusal), left, new, work, samples = calls.block(
         *grid, *settings, older, newer, [7] * size, [5], 0, hit)
     assert (steps, refusal, left, work) == (1, 0, newer, [0] * size)
     return new
@@ -39,7 +43,7 @@ def on_grid(columns, rows, values):
 def refusal_at_rest(kind, columns, rows, q, m):
     """The refusal of a block of no steps, all levels 0."""
     level = [0] * (columns * rows)
-    return calls.block(kind, columns, rows, q, m, 0, level, level, level, [], 0, None)[0][1]
+    return calls.block(kind, columns, rows, q, m, 0, level, level, level, [], 0, None)[0][2]
 
 
 class Examples(unittest.TestCase):
@@ -98,8 +102,9 @@ class Examples(unittest.TestCase):
         kind, columns, rows, q, m, s, pick_up, steps, point, force = map(
             int, "1 3 1 65536 0 0 1 4 1 268435456".split())
         rest = [0] * (columns * rows)
-        (done, refusal), _, _, _, samples = calls.block(
+        (done, inexact, refusal), _, _, _, samples = calls.block(
             kind, columns, rows, q, m, s, rest, rest, rest, [0] * steps, pick_up, (point, force))
+        self.assertEqual(inexact, 0)
         lines = [f"{number} {value}" for number, value in enumerate(samples[:done], 1)]
         lines.append(f"done {done} {refusal}")
         self.assertEqual(lines, ["1 1", "2 0", "3 -1", "4 0", "done 4 0"])
@@ -113,7 +118,7 @@ class Steps(unittest.TestCase):
             numerator = draw.choice((draw.randint(-9, 9) * denominator + denominator // 2,
                                      draw.randint(-10**20, 10**20)))
             away = away_from_zero(Fraction(numerator, denominator))
-            self.assertEqual(step.round_half_away(numerator, denominator), away)
+            self.assertEqual(step.round_half_away(numerator, denominator)[0], away)
 
     def test_sample_and_reading(self):
         grid, level = (3, 3, 1), [-1, CEILING, -CEILING]
@@ -122,12 +127,12 @@ class Steps(unittest.TestCase):
         for point, expected in enumerate((0, 32767, -32767)):
             answer, _, newer, _, samples = calls.block(
                 *grid, 0, 0, 0, level, level, [0] * 3, [9, 9], point, None)
-            self.assertEqual((answer, newer, samples), ((2, 0), level, [expected] * 2))
+            self.assertEqual((answer, newer, samples), ((2, 0, 0), level, [expected] * 2))
 
     def test_hit_acts_once(self):
         answer, older, newer, _, _ = calls.block(
             1, 3, 1, 0, 0, 0, [0] * 3, [0] * 3, [0] * 3, [0] * 3, 1, (1, 10))
-        self.assertEqual((answer, older, newer), ((3, 0), [0, 20, 0], [0, 30, 0]))
+        self.assertEqual((answer, older, newer), ((3, 0, 0), [0, 20, 0], [0, 30, 0]))
 
     def test_loss(self):
         # (2D*100 - (D-s)*40) / (D+s) with s = D/2: (200 - 20) / 1.5 = 120.
@@ -139,7 +144,7 @@ class Steps(unittest.TestCase):
     def test_no_steps(self):
         level = [0, CEILING, 0]
         answer = calls.block(1, 3, 1, D, 0, 0, [0] * 3, level, [1, 2, 3], [], 1, (1, CEILING))
-        self.assertEqual(answer, ((0, 0), [0] * 3, level, [0] * 3, []))
+        self.assertEqual(answer, ((0, 0, 0), [0] * 3, level, [0] * 3, []))
 
     def test_thirteen(self):
         # With q 0 and s 0 the middle grows by a fixed amount; the ceiling is met exactly, then passed.
@@ -149,7 +154,7 @@ class Steps(unittest.TestCase):
             older = [0, newer - grow, 0]
             answer, left, new, work, samples = calls.block(
                 1, 3, 1, 0, 0, 0, older, [0, newer, 0], [4, 5, 6], [77] * 5, 1, None)
-            self.assertEqual(answer, (steps_before, 13))
+            self.assertEqual(answer, (steps_before, 0, 13))
             self.assertEqual(new, [0, CEILING, 0])
             self.assertEqual(left, [0, CEILING - grow, 0])
             self.assertEqual(work, [0] * 3)
@@ -165,7 +170,7 @@ class Samples(unittest.TestCase):
         """The sample of a step that leaves value at the pick-up: q, m and s 0, older as newer."""
         level = [0, value, 0]
         answer, older, newer, _, samples = calls.block(1, 3, 1, 0, 0, 0, level, level, [0] * 3, [9], 1, None)
-        self.assertEqual((answer, older, newer), ((1, 0), level, level))
+        self.assertEqual((answer, older, newer), ((1, 0, 0), level, level))
         return samples[0]
 
     def test_corners(self):
@@ -204,8 +209,9 @@ class Samples(unittest.TestCase):
     def faded(self, grid, settings, pick_up, hit):
         """The level for ever at the pick-up after a hit at rest, and the samples before."""
         rest = [0] * (grid[1] * grid[2])
-        answer, older, newer, _, samples = calls.block(*grid, *settings, rest, rest, rest, [9] * 200, pick_up, hit)
-        self.assertEqual((answer, older), ((200, 0), newer))
+        (steps, _, refusal), older, newer, _, samples = calls.block(
+            *grid, *settings, rest, rest, rest, [9] * 200, pick_up, hit)
+        self.assertEqual((steps, refusal, older), (200, 0, newer))
         self.assertEqual(one_step(grid, settings, newer, newer), newer)
         return newer[pick_up], samples
 
@@ -279,7 +285,7 @@ class Plate(unittest.TestCase):
             moves = point in (6, 7, 8, 11, 12, 13)
             self.assertEqual(calls.reading(7, 5, 4, on_grid(5, 4, {point: 1}), 0)[0], 0 if moves else 12)
             hit = calls.block(7, 5, 4, 0, 4096, 0, rest, rest, rest, [0], point, (point, 2**28))
-            self.assertEqual((hit[0], hit[4]), ((1, 0), [1]) if moves else ((0, 7), [0]))
+            self.assertEqual((hit[0], hit[4]), ((1, 0, 0), [1]) if moves else ((0, 0, 7), [0]))
 
     def test_sizes(self):
         for columns, rows in ((3, 3), (64, 3), (3, 64), (64, 64), (5, 4), (4, 5)):
@@ -445,26 +451,28 @@ class Refusals(unittest.TestCase):
     def test_block(self):
         for refusal, change in self.block_causes():
             case = {**self.block_base, **change}
-            expected = ((0, refusal), case["older"], case["newer"], case["work"], case["samples"])
+            expected = ((0, 0, refusal), case["older"], case["newer"], case["work"], case["samples"])
             self.assertEqual(calls.block(**case), expected, change)
-            self.assertEqual(calls.block(**{**case, "samples": []})[0], (0, refusal), change)
+            self.assertEqual(calls.block(**{**case, "samples": []})[0], (0, 0, refusal), change)
 
     def test_block_accepted(self):
         for change in ({}, dict(hit=None), dict(pick_up=0), dict(hit=(1, CEILING - 200)), dict(s=D),
                        dict(hit=(1, -CEILING + 200)), dict(kind=4), dict(kind=4, m=D // 4, q=0)):
-            answer, *_, work, _ = calls.block(**{**self.block_base, **change})
-            self.assertEqual((answer, work), ((2, 0), [0] * 4), change)
+            (steps, inexact, refusal), *_, work, _ = calls.block(**{**self.block_base, **change})
+            self.assertEqual((steps, refusal, work), (2, 0, [0] * 4), change)
+            # A refused one counts nothing of this.
+            self.assertGreater(inexact, 0, change)
 
     def test_block_pairs(self):
         for low, first in self.block_causes():
             for high, second in self.block_causes():
                 if low < high and not set(first) & set(second):
                     answer = calls.block(**{**self.block_base, **second, **first})[0]
-                    self.assertEqual(answer, (0, low), (first, second))
+                    self.assertEqual(answer, (0, 0, low), (first, second))
 
     def test_no_hit_no_7_or_8(self):
         case = {**self.block_base, "hit": None, "pick_up": 9}
-        self.assertEqual(calls.block(**case)[0], (0, 9))
+        self.assertEqual(calls.block(**case)[0], (0, 0, 9))
 
     def test_pluck(self):
         base = dict(kind=4, columns=4, rows=1, older=[9] * 4, newer=[8] * 4, centre=1, half_width=2, height=5)
@@ -506,6 +514,209 @@ def accepted_start(draw, kinds):
     return grid, draw.settings(kind), *draw.levels(grid)
 
 
+def even_start(draw, kinds):
+    """The same; often the first steps from there are exact."""
+    draw.odds = 0.0
+    kind = draw.choice(kinds)
+    grid = (kind, *draw.size(kind, large=0.0))
+    settings = draw.choice((draw.settings, draw.even_settings))(kind)
+    draw.unit = draw.choice((1, draw.unit_of(settings)))
+    return grid, settings, *draw.levels(grid)
+
+
+def exact_step(grid, settings, older, newer, hit=None):
+    """One step in fractions: (2u + R L - mu^2 B - (1 - loss) p + f) / (1 + loss) at moving points, 0 at fixed ones."""
+    r, stiffness, loss = (Fraction(x, D) for x in settings)
+    first = instrument.laplacians(grid, newer)
+    second = instrument.laplacians(grid, first)
+    level = [Fraction(0)] * len(newer)
+    for point in instrument.moving_set(*grid):
+        force = hit[1] if hit is not None and hit[0] == point else 0
+        level[point] = (2 * newer[point] + r * first[point] - stiffness * second[point]
+                        - (1 - loss) * older[point] + force) / (1 + loss)
+    return level
+
+
+class Inexact(unittest.TestCase):
+    """Request 3: "moving points whose numerator was not a multiple of D+s"."""
+
+    def test_remainder(self):
+        """"numerator less whole number x (D+s)", at most half of it, and 0 exactly for its multiples."""
+        draw = draws.Draws("remainders")
+        cases = [(n, d) for d in range(1, 24) for n in range(-80, 81)]
+        for _ in range(3000):
+            d = draw.choice((D, D + 1, 2 * D - 1, 2 * D, 2**28, draw.randint(D, 2 * D)))
+            whole = draw.randint(-9, 9) if draw.rarely(0.5) else draw.randint(-2**50, 2**50)
+            cases.append((whole * d + draw.choice((0, 1, -1, d // 2, -(d // 2), d // 2 + 1, draw.randint(-d, d))), d))
+        exact = 0
+        for n, d in cases:
+            whole, remainder = step.round_half_away(n, d)
+            self.assertEqual(whole, away_from_zero(Fraction(n, d)), (n, d))
+            self.assertEqual(remainder, n - whole * d, (n, d))
+            self.assertLessEqual(2 * abs(remainder), d, (n, d))
+            self.assertEqual(remainder == 0, Fraction(n, d).denominator == 1, (n, d))
+            exact += remainder == 0
+        self.assertGreater(exact, 300)
+
+    def test_remainder_by_hand(self):
+        for n, d, whole, remainder in ((32768, D, 1, -32768), (-32768, D, -1, 32768), (32767, D, 0, 32767),
+                                       (-32767, D, 0, -32767), (32769, D, 1, -32767), (0, D, 0, 0), (-D, D, -1, 0),
+                                       (32768, D + 1, 0, 32768), (32769, D + 1, 1, -32768), (D + 1, D + 1, 1, 0),
+                                       (D, D + 1, 1, -1), (-D, D + 1, -1, 1), (D, 2 * D, 1, -D), (-D, 2 * D, -1, D)):
+            self.assertEqual(step.round_half_away(n, d), (whole, remainder), (n, d))
+
+    def test_examples(self):
+        """A to G; in C and D the numerators are 32768 and -32768."""
+        middle = lambda value: on_grid(3, 3, {4: value})
+        for grid, settings, older, newer, following, inexact in (
+                ((1, 3, 1), (65536, 0, 0), [0, 1000, 0], [0, 1000, 0], [0, -1000, 0], 0),
+                ((5, 3, 3), (32768, 0, 0), middle(1000), middle(1000), middle(-1000), 0),
+                ((1, 3, 1), (16384, 0, 0), [0, 1, 0], [0, 1, 0], [0, 1, 0], 1),
+                ((1, 3, 1), (16384, 0, 0), [0, -1, 0], [0, -1, 0], [0, -1, 0], 1),
+                ((1, 3, 1), (0, 0, 65536), [0, 7, 0], [0, 3, 0], [0, 3, 0], 0),
+                ((3, 3, 1), (65536, 0, 0), [0, 0, 0], [4, 0, 0], [0, 4, 0], 0),
+                ((4, 5, 1), (0, 16384, 0), [0] * 5, [0, 0, 8, 0, 0], [0, 8, 4, 8, 0], 0)):
+            self.assertEqual(step.one_step(grid, settings, older, newer, None), (following, inexact))
+            answer = calls.block(*grid, *settings, older, newer, [7] * len(newer), [5], 0, None)
+            self.assertEqual(answer, ((1, inexact, 0), newer, following, [0] * len(newer), [0]))
+        for value in (1, -1):
+            level = [0, value, 0]
+            self.assertEqual(step.numerators((1, 3, 1), (16384, 0, 0), level, level, None), [0, 32768 * value, 0])
+
+    def test_remainders_of_one(self):
+        """With q 1 point 1 has the numerator that stands at point 2, here a multiple of D+s or beside it."""
+        for s in (0, 1, 2, D - 1, D):
+            for value, inexact in ((D + s, 0), (D + s - 1, 1), (D + s + 1, 1), (3 * (D + s), 0), (-(D + s), 0)):
+                _, count = step.one_step((1, 4, 1), (1, 0, s), [0] * 4, [0, 0, value, 0], None)
+                self.assertEqual(count, inexact + (2 * (D - 1) * value % (D + s) != 0), (s, value))
+
+    def test_multiples_of_d(self):
+        """With s D/2 twice D is no multiple of 3/2 D; with s D a hit of 1 is half of D+s, one of 2 is D+s."""
+        rest = [0] * 3
+        self.assertEqual(step.one_step((1, 3, 1), (0, 0, D // 2), rest, [0, 1, 0], None), ([0, 1, 0], 1))
+        self.assertEqual(step.one_step((1, 3, 1), (0, 0, D // 2), rest, [0, 3, 0], None), ([0, 4, 0], 0))
+        self.assertEqual(step.one_step((1, 3, 1), (0, 0, D), rest, rest, (1, 1)), ([0, 1, 0], 1))
+        self.assertEqual(step.one_step((1, 3, 1), (0, 0, D), rest, rest, (1, 2)), ([0, 1, 0], 0))
+
+    def uneven(self, grid):
+        return on_grid(*grid[1:], {point: 1000 + 7 * point * point for point in instrument.moving_set(*grid)})
+
+    def test_fixed_points_are_not_counted(self):
+        """q 3 and s D-1: every moving point is inexact, and so would be the fixed ones beside them."""
+        for grid, moving in (((1, 6, 1), 4), ((2, 6, 1), 5), ((3, 6, 1), 6), ((4, 6, 1), 4), ((5, 3, 3), 1),
+                             ((5, 5, 4), 6), ((6, 7, 7), 25), ((6, 8, 8), 32), ((7, 4, 5), 6)):
+            level = self.uneven(grid)
+            rest = [0] * len(level)
+            for steps in (0, 1, 5):
+                answer = calls.block(*grid, 3, 0, D - 1, rest, level, rest, [9] * steps, 0, None)
+                self.assertEqual(answer[0], (steps, steps * moving, 0), grid)
+
+    def test_thirteen(self):
+        """The step that would pass the ceiling adds nothing, inexact as it is."""
+        for grid, moving in (((1, 6, 1), 4), ((3, 4, 1), 4), ((5, 4, 4), 4), ((7, 3, 3), 1)):
+            for done in (0, 3, 5):
+                older, newer, grow = self.uneven(grid), self.uneven(grid), CEILING // 9
+                loud = max(instrument.moving_set(*grid))
+                newer[loud] = CEILING - 5 - done * grow
+                older[loud] = newer[loud] - grow
+                answer, older, newer, _, _ = calls.block(
+                    *grid, 1, 0, 0, older, newer, [7] * len(newer), [9] * 6, loud, None)
+                self.assertEqual(answer, (done, done * moving, 13))
+                following, count = step.one_step(grid, (1, 0, 0), older, newer, None)
+                self.assertGreater(following[loud], CEILING)
+                self.assertEqual(count, moving)
+
+    def test_sum_held(self):
+        """"held at 2^64 - 1 once it would pass that"."""
+        most = 2**64 - 1
+        for so_far, count, expected in (
+                (0, 0, 0), (0, 4096, 4096), (5, 6, 11), (2**63 - 1, 1, 2**63), (2**63, 2**63 - 1, most),
+                (2**63, 2**63, most), (most - 1, 0, most - 1), (most - 1, 1, most), (most - 1, 2, most),
+                (most, 0, most), (most, 1, most), (most, 4096, most), (most - 4096, 4095, most - 1),
+                (most - 4096, 4096, most)):
+            self.assertEqual(calls.sum_held(so_far, count), expected)
+
+    def test_sum_of_a_block_is_held(self):
+        """A block whose steps count as given, for no real one comes near."""
+        level = [0, 5, 0]
+        for given, expected in (([2**63, 2**63 - 2], 2**64 - 2), ([2**63, 2**63 - 1], 2**64 - 1),
+                                ([2**63, 2**63], 2**64 - 1), ([2**64 - 1, 0, 7], 2**64 - 1),
+                                ([2**62] * 3, 3 * 2**62), ([2**62] * 9, 2**64 - 1)):
+            with mock.patch.object(calls, "one_step", side_effect=[(level, count) for count in given]):
+                answer = calls.block(1, 3, 1, 0, 0, 0, level, level, level, [0] * len(given), 1, None)
+            self.assertEqual(answer[0], (len(given), expected, 0))
+
+    def test_sum_over_the_steps(self):
+        """A block counts what its steps one by one count, and each what the fractions show that are not whole."""
+        draw, larger = draws.Draws("sums"), 0
+        for _ in range(150):
+            grid, settings, older, newer = even_start(draw, KINDS)
+            hit, samples, size = draw.hit(grid), draw.samples(), len(newer)
+            (steps, inexact, _), after_older, after_newer, _, _ = calls.block(
+                *grid, *settings, older, newer, [7] * size, samples, 0, hit)
+            counts = []
+            for _ in range(steps):
+                exact = exact_step(grid, settings, older, newer, hit)
+                answer, older, newer, _, _ = calls.block(*grid, *settings, older, newer, [7] * size, [0], 0, hit)
+                self.assertEqual(answer, (1, sum(value.denominator > 1 for value in exact), 0))
+                self.assertEqual(newer, [away_from_zero(value) for value in exact])
+                counts.append(answer[1])
+                hit = None
+            self.assertEqual((inexact, after_older, after_newer), (sum(counts), older, newer))
+            larger += inexact > max(counts, default=0)
+        self.assertGreater(larger, 30)
+
+    def test_string_without_loss(self):
+        """R = 1, no loss: never inexact, and the levels are those of the fractions."""
+        for kind in (1, 2, 3):
+            grid, settings = (kind, 9, 1), (D, 0, 0)
+            older, newer = self.uneven(grid), self.uneven(grid)[::-1] if kind != 2 else [0] * 9
+            hit = (4, 12345677)
+            answer, after_older, after_newer, _, _ = calls.block(
+                *grid, *settings, older, newer, [7] * 9, [0] * 200, 0, hit)
+            self.assertEqual(answer, (200, 0, 0))
+            for _ in range(200):
+                older, newer, hit = newer, exact_step(grid, settings, older, newer, hit), None
+            self.assertEqual((after_older, after_newer), (older, newer))
+            self.assertTrue(any(older) and any(newer))
+
+    def test_first_inexact_step(self):
+        """Before the first inexact step the levels are the fractions'; there as many points as counted leave them."""
+        draw, exact_steps, with_loss, left = draws.Draws("first inexact"), 0, 0, 0
+        for _ in range(200):
+            grid, settings, older, newer = even_start(draw, KINDS)
+            exact_older, exact_newer = older, newer
+            for number in range(12):
+                hit = draw.hit(grid) if draw.rarely(0.2) else None
+                answer, after_older, after_newer, _, _ = calls.block(
+                    *grid, *settings, older, newer, [7] * len(newer), [0], 0, hit)
+                if answer[2]:
+                    break
+                older, newer = after_older, after_newer
+                exact_older, exact_newer = exact_newer, exact_step(grid, settings, exact_older, exact_newer, hit)
+                self.assertEqual(older, exact_older)
+                self.assertEqual(sum(a != b for a, b in zip(newer, exact_newer)), answer[1])
+                if answer[1]:
+                    left += number > 0
+                    break
+                exact_steps += any(newer)
+                with_loss += any(newer) and settings[2] > 0
+        self.assertGreater(exact_steps, 300)
+        self.assertGreater(with_loss, 30)
+        self.assertGreater(left, 20)
+
+    def test_step_of_count_0(self):
+        """Where no point is inexact the step is the fraction's; else it is not."""
+        draw, found = draws.Draws("count 0"), [0, 0]
+        for _ in range(300):
+            grid, settings, older, newer = even_start(draw, KINDS)
+            hit = draw.hit(grid)
+            level, count = step.one_step(grid, settings, older, newer, hit)
+            self.assertEqual(level == exact_step(grid, settings, older, newer, hit), count == 0)
+            found[count > 0] += any(level)
+        self.assertGreater(min(found), 80)
+
+
 class Book(unittest.TestCase):
     def watch_energy(self, draw, kinds, starts):
         """Never negative, never raised without a hit, kept without loss."""
@@ -542,7 +753,7 @@ class Book(unittest.TestCase):
 
     def test_distance_by_hand(self):
         kept = book.Book([0] * 3, [0] * 3)
-        kept.block(3, 3, 1, 0, 0, 0, [0] * 3, [0] * 3, None, 1)
+        kept.block(3, 3, 1, 0, 0, 0, [0] * 3, [0] * 3, None, 1, 0)
         self.assertEqual((kept.n, kept.scale, kept.newer), (1, D, [0] * 3))
         self.assertEqual(kept.distance([2, 3, 0]), (4 + 2 * 9) * D**2)
         # The bound is 3 * 1 * 4 / 16 = 3/4: a free end may be 1 away, the middle may not.
@@ -554,28 +765,74 @@ class Book(unittest.TestCase):
         kept = book.Book(zeros, ones)
         self.assertTrue(kept.within_bound(ones))
         self.assertFalse(kept.within_bound(zeros))
-        kept.block(1, 3, 1, D, 0, 0, zeros, zeros, (1, 5), 0)
+        kept.block(1, 3, 1, D, 0, 0, zeros, zeros, (1, 5), 0, 0)
         self.assertEqual((kept.n, kept.last, kept.newer), (0, None, ones))
-        kept.block(1, 3, 1, D, 0, 1, zeros, ones, (1, 5), 2)
+        kept.block(1, 3, 1, D, 0, 1, zeros, ones, (1, 5), 2, 2)
         self.assertEqual((kept.n, kept.scale), (2, (D + 1) ** 2))
         # u1 = 5 D/(D+1); u2 = 0 - (D-1)/(D+1), both times (D+1)^2.
         self.assertEqual((kept.older, kept.newer), ([0, 5 * D * (D + 1), 0], [0, -(D - 1) * (D + 1), 0]))
         kept.pluck(1, 3, 1, zeros, zeros, 0, 1, 9)
         self.assertEqual(kept.n, 2)
-        kept.block(1, 3, 1, D, 0, 1, [0, 9, 0], [0, 9, 0], None, 1)
+        kept.block(1, 3, 1, D, 0, 1, [0, 9, 0], [0, 9, 0], None, 1, 1)
         self.assertEqual(kept.n, 3)
-        kept.block(1, 3, 1, D, 0, 2, [0, 4, 0], [0, 3, 0], None, 1)
+        kept.block(1, 3, 1, D, 0, 2, [0, 4, 0], [0, 3, 0], None, 1, 1)
         self.assertEqual((kept.n, kept.newer), (1, [0, -(D - 2) * 4, 0]))
-        kept.block(3, 3, 1, D, 0, 2, zeros, zeros, None, 1)
+        kept.block(3, 3, 1, D, 0, 2, zeros, zeros, None, 1, 0)
         self.assertEqual((kept.n, kept.last), (1, ((3, 3, 1), (D, 0, 2))))
         kept.pluck(3, 3, 1, zeros, zeros, 0, 1, 9)
         self.assertEqual((kept.n, kept.scale, kept.older, kept.newer), (0, 1, [9, 0, 0], [9, 0, 0]))
 
-    def keep_lists(self, draw, kinds, lists):
-        """Random lists within the bound; the number of calls with the book at a distance."""
-        far = 0
+    def test_sum(self):
+        """The counts since the book last took its levels: at its start, a pluck, a change of kind, grid or settings."""
+        rest = [0] * 12
+        plate, other = (7, 4, 3, 100, 10, 1), (7, 3, 4, 100, 10, 1)
+        kept = book.Book(rest, rest)
+        self.assertEqual(kept.inexact, 0)
+        kept.block(*plate, rest, rest, None, 1, 2)
+        kept.block(*plate, rest, rest, None, 2, 3)
+        kept.block(*plate, rest, rest, None, 1, 0)
+        self.assertEqual(kept.inexact, 5)
+        # Nothing is taken: no step, or a refused pluck.
+        kept.block(*plate, rest, rest, None, 0, 0)
+        kept.block(*other, rest, rest, None, 0, 0)
+        kept.pluck(1, 12, 1, rest, rest, 0, 1, 9)
+        self.assertEqual(kept.inexact, 5)
+        for used, count in ((other, 4), ((7, 4, 3, 101, 10, 1), 2), ((7, 4, 3, 101, 11, 1), 0),
+                            ((7, 4, 3, 101, 11, 2), 1), ((7, 4, 3, 101, 0, 2), 3), ((5, 4, 3, 101, 0, 2), 2),
+                            (plate, 3)):
+            kept.block(*used, rest, rest, None, 1, count)
+            self.assertEqual(kept.inexact, count, used)
+        kept.pluck(1, 12, 1, rest, rest, 1, 1, 9)
+        self.assertEqual(kept.inexact, 0)
+        # The same settings as before the pluck.
+        kept.block(*plate, rest, rest, None, 1, 1)
+        self.assertEqual(kept.inexact, 1)
+
+    def test_as_counted(self):
+        """With a sum of 0 both levels times (D+s)^n must be the book's, with another sum need not."""
+        zeros, ones, string = [0] * 3, [0, 1, 0], (1, 3, 1, D, 0, 0)
+        for count in (0, 1):
+            kept = book.Book(zeros, ones)
+            self.assertFalse(kept.count_tells(zeros, ones))
+            kept.block(*string, zeros, ones, (1, 5), 1, count)
+            self.assertTrue(kept.as_counted(ones, [0, 5, 0]))
+            self.assertEqual(kept.count_tells(ones, [0, 5, 0]), count == 0)
+            for older, newer in ((ones, [0, 4, 0]), (zeros, [0, 5, 0]), (ones, [0, 5, 1]), ([0, 5, 0], ones),
+                                 (ones, [0, 5])):
+                self.assertEqual(kept.as_counted(older, newer), count > 0)
+        kept = book.Book(zeros, zeros)
+        kept.block(*string, zeros, zeros, None, 3, 0)
+        self.assertTrue(kept.as_counted(zeros, zeros))
+        self.assertFalse(kept.count_tells(zeros, zeros))
+        kept.block(1, 3, 1, 0, 0, 1, zeros, [0, D + 1, 0], None, 1, 0)
+        self.assertTrue(kept.as_counted([0, D + 1, 0], [0, 2 * D, 0]))
+        self.assertTrue(kept.count_tells([0, D + 1, 0], [0, 2 * D, 0]))
+
+    def keep_lists(self, draw, kinds, lists, start=accepted_start):
+        """Random lists within the bound; the calls with the book at a distance, and those whose counts are 0."""
+        far = exact = 0
         for _ in range(lists):
-            grid, settings, older, newer = accepted_start(draw, kinds)
+            grid, settings, older, newer = start(draw, kinds)
             kept = book.Book(older, newer)
             for _ in range(6):
                 if draw.rarely(0.25):
@@ -590,17 +847,73 @@ class Book(unittest.TestCase):
                     hit = draw.hit(grid)
                     answer, after_older, after_newer, _, _ = calls.block(
                         *grid, *settings, older, newer, [0] * len(newer), draw.samples(), 0, hit)
-                    kept.block(*grid, *settings, older, newer, hit, answer[0])
+                    kept.block(*grid, *settings, older, newer, hit, *answer[:2])
                     older, newer = after_older, after_newer
                 self.assertTrue(kept.within_bound(newer))
+                self.assertTrue(kept.as_counted(older, newer))
                 far += kept.n > 0 and kept.distance(newer) > 0
-        return far
+                exact += kept.count_tells(older, newer)
+        return far, exact
 
     def test_bound_on_random_lists(self):
-        self.assertGreater(self.keep_lists(draws.Draws("lists"), KINDS, 150), 50)
+        self.assertGreater(self.keep_lists(draws.Draws("lists"), KINDS, 150)[0], 50)
 
     def test_bound_on_random_lists_of_plates(self):
-        self.assertGreater(self.keep_lists(draws.Draws("lists of plates"), (7,), 100), 50)
+        self.assertGreater(self.keep_lists(draws.Draws("lists of plates"), (7,), 100)[0], 50)
+
+    def test_counts_on_random_lists(self):
+        self.assertGreater(min(self.keep_lists(draws.Draws("counts"), KINDS, 150, even_start)), 100)
+
+
+class Counting(Reference):
+    """A reference whose blocks answer another count of inexact points."""
+
+    def __init__(self, count):
+        super().__init__()
+        self.count = count
+
+    def block(self, *arguments):
+        refusal, steps, inexact, *after = super().block(*arguments)
+        return (refusal, steps, self.count(inexact), *after)
+
+
+class Comparison(unittest.TestCase):
+    """run.py: the lists of the comparison."""
+
+    def play(self, library, lists=200):
+        playing = run.Run(library, "comparison", multiprocessing.Value("Q", 0, lock=False))
+        playing.draw.odds = 0.0
+        for _ in range(lists):
+            playing.one_list()
+        return playing.counts
+
+    def test_draws(self):
+        """Lists whose counts stay 0 over steps, and blocks with inexact points, are drawn often enough."""
+        counts = self.play(Reference())
+        self.assertGreater(counts["exact lists"], counts["lists"] // 5)
+        self.assertGreater(counts["exact calls"], counts["exact lists"])
+        self.assertGreater(counts["inexact blocks"], 300)
+        self.assertGreater(counts["inexact points"], 3 * counts["inexact blocks"])
+
+    def test_stand_in(self):
+        """The reference behind C functions, and its count of 0 written where a block is refused."""
+        self.play(stand_in(), 40)
+        arguments = 1, 3, 1, 16384, 0, 0, [0, 1, 0], [0, 1, 0], [7] * 3, [9] * 2
+        self.assertEqual(stand_in().block(*arguments, 1, 0, 0, 0), (0, 2, 2, [0, 1, 0], [0, 1, 0], [0] * 3, [0] * 2))
+        self.assertEqual(stand_in().block(*arguments, 3, 0, 0, 0), (9, 0, 0, *arguments[6:]))
+
+    def test_another_count_is_found(self):
+        for count in (lambda inexact: 0, lambda inexact: inexact + 1, lambda inexact: min(inexact, 9),
+                      lambda inexact: int(inexact > 0)):
+            with self.assertRaisesRegex(run.Difference, "^block"):
+                self.play(Counting(count))
+
+    def test_levels_that_are_not_as_counted(self):
+        """Where both sides agree on too small a count, the lists find it."""
+        for count in (lambda inexact: 0, lambda inexact: max(inexact - 1, 0), lambda inexact: inexact // 3):
+            with mock.patch.object(run, "REFERENCE", Counting(count)), \
+                    self.assertRaisesRegex(run.Difference, "^no inexact point counted"):
+                self.play(Counting(count))
 
 
 if __name__ == "__main__":

@@ -15,7 +15,8 @@ use Rattle.scheme.specs.Book.{unroundedAt, unroundedStep, unroundedSteps
 use Rattle.scheme.specs.Book.{leaves, bookCall, sumCall, calls}
 use Rattle.scheme.specs.Examples.{A, B, C, D, E, F, G, H, I, J, ExamplesHold}
 use Rattle.scheme.specs.FurtherExamples.{freeEndTwice, halfFree, barWithLoss, freeWithHit, fixedRing, roundRing, membraneStep}
-use Rattle.scheme.specs.FurtherExamples.{wholes, rests, countsOfExamples, fixedNotCounted, countOfSteps, countBeforeEnd, countHeld}
+use Rattle.scheme.specs.FurtherExamples.{wholes, rests, countsOfExamples, fixedNotCounted, smallRests, countOfSteps}
+use Rattle.scheme.specs.FurtherExamples.{countBeforeEnd, countHeld}
 use Rattle.scheme.specs.FurtherExamples.{numbers, kinds, lineSizes, membraneSizes, roundSizes, coefficients, stability, stiffness}
 use Rattle.scheme.specs.FurtherExamples.{lengths, hits, forces, pickUps, highPoints, fixedPoints, pluckKinds, pluckLengths}
 use Rattle.scheme.specs.FurtherExamples.{pluckCentres, pluckHeights, widths, readingRefusals, lowestFirst, samples, readings, plucked}
@@ -55,6 +56,7 @@ further-hold wholes = (refl, refl)
 further-hold rests = (refl, refl)
 further-hold countsOfExamples = refl
 further-hold fixedNotCounted = refl
+further-hold smallRests = refl
 further-hold countOfSteps = refl
 further-hold countBeforeEnd = refl
 further-hold countHeld = refl

@@ -118,7 +118,7 @@ pub data Further : Type 0 where
   -- one step
   freeEndTwice halfFree barWithLoss freeWithHit fixedRing roundRing membraneStep : Further
   -- remainders and counts
-  wholes rests countsOfExamples fixedNotCounted countOfSteps countBeforeEnd countHeld : Further
+  wholes rests countsOfExamples fixedNotCounted smallRests countOfSteps countBeforeEnd countHeld : Further
   -- 1, 2, 4 and 5
   numbers kinds lineSizes membraneSizes roundSizes coefficients stability stiffness : Further
   -- the refusals of a block, a pluck and a reading
@@ -183,6 +183,11 @@ shows countsOfExamples =
     ≡ 0 ∷ 0 ∷ 1 ∷ 1 ∷ 0 ∷ 0 ∷ 0 ∷ []
 -- "moving points": at the fixed ends the numerator would be 16384
 shows fixedNotCounted = count (instrument 1 4 1 16384 0 0) (level (0 ∷ 1 ∷ 1 ∷ 0 ∷ [])) rest ≡ 2
+-- remainders of −2 and 1, of 2 and −1
+shows smallRests =
+    count (instrument 1 4 1 1 0 0) (level (0 ∷ 1 ∷ 0 ∷ 0 ∷ [])) rest ∷
+    count (instrument 1 4 1 1 0 0) (pos 0 ∷ minus 1 ∷ pos 0 ∷ pos 0 ∷ []) rest ∷ []
+    ≡ 2 ∷ 2 ∷ []
 -- "the sum over its steps done": 0, 0, 2 and 3
 shows countOfSteps =
     block (instrument 1 5 1 16384 0 0) five five five (level (7 ∷ 7 ∷ 7 ∷ 7 ∷ [])) 1 (At 1 (pos 4))

@@ -138,24 +138,24 @@ module _ {v : ℕ → Next} {write : Bool} {base : ℕ} where
   ran-passed {out₀} {out} {a} {b} {r} e q = coe 0 1 (j. Ran v write base out₀ out a b (record { within = e j; inexact = r .inexact })) q
 
   module _ {out₀ out₁ out₂ : List ℤ} {a b c m : ℕ} (above : base ≤ a) (l : a ≤ b) (h : b ≤ c) (p : Ran v write base out₀ out₁ a b (passed m))
-      where
-    -- one run after the other
-    pub ran-append : {n : ℕ} → Ran v write base out₁ out₂ b c (passed n) → Ran v write base out₀ out₂ a c (passed (m + n))
-    ran-append q = record {
-      long = q .long ∙ p .long;
-      filled = λ t. filled-append (valueOf v) write base above l h (p .filled refl) (q .filled refl);
-      low = λ t k s h. by k (λ u. p .low refl k s u) (λ u. q .low refl k u h);
-      counted = λ t. counted-append (p .counted refl) (q .counted refl);
-      stopped = λ t. absurd (true≢false t);
-    }
+    where
+      -- one run after the other
+      pub ran-append : {n : ℕ} → Ran v write base out₁ out₂ b c (passed n) → Ran v write base out₀ out₂ a c (passed (m + n))
+      ran-append q = record {
+        long = q .long ∙ p .long;
+        filled = λ t. filled-append (valueOf v) write base above l h (p .filled refl) (q .filled refl);
+        low = λ t k s h. by k (λ u. p .low refl k s u) (λ u. q .low refl k u h);
+        counted = λ t. counted-append (p .counted refl) (q .counted refl);
+        stopped = λ t. absurd (true≢false t);
+      }
 
-    -- the other one stopped
-    pub ran-stops : {d : ℕ} {r : Progress} → c ≤ d → Ran v write base out₁ out₂ b c r → r .within ≡ false
-        → Ran v write base out₀ out₂ a d r
-    ran-stops m q e =
-        let o = q .stopped e in
-        ran-not (q .long ∙ p .long)
-        (record { at = o .at; first = omega (arith, o .first); last = omega (arith, o .last); beyond-there = o .beyond-there }) e
+      -- the other one stopped
+      pub ran-stops : {d : ℕ} {r : Progress} → c ≤ d → Ran v write base out₁ out₂ b c r → r .within ≡ false
+          → Ran v write base out₀ out₂ a d r
+      ran-stops m q e =
+          let o = q .stopped e in
+          ran-not (q .long ∙ p .long)
+          (record { at = o .at; first = omega (arith, o .first); last = omega (arith, o .last); beyond-there = o .beyond-there }) e
 
 -- the same run, by other words for what is made of its points
 pub ran-same : {v w : ℕ → Next} {write : Bool} {base : ℕ} {out₀ out : List ℤ} {a b : ℕ} {r : Progress} → a ≤ b

@@ -1,16 +1,17 @@
 // The steps of a block.
 ghost use mathlib.Core.Path.{_≡_};
-ghost use Prim.Native.Nat.{_+_, _<_};
+ghost use Prim.Native.Nat.{_<_};
 ghost use lib.ListN.{length, set};
 ghost use Rattle.scheme.specs.Instruments.{points};
 ghost use Rattle.scheme.specs.Calls as Calls;
-ghost use Rattle.scheme.specs.Calls.{hitAfter, capped};
+ghost use Rattle.scheme.specs.Calls.{hitAfter};
 ghost use Rattle.steps.specs.Edges.{EdgesOf};
 ghost use Rattle.steps.specs.Roles.{Steppable, Played, olderOf, newerOf};
 use crate::plan::Plan;
 use crate::roles::sample_in_roles;
 use crate::roles::step_in_roles;
 use crate::roles::turned;
+use counts::held_sum;
 use types::Hit;
 
 // The hit acts in the first step alone.
@@ -26,13 +27,6 @@ fn put(samples: &mut [i16], place: usize, v: i16)
     ensures { λ _. ⌜ now (samples .exit) ≡ set (now (samples .entry)) place v ⌝ }
 {
     samples[place] = v;
-}
-
-// A sum of counts, held at the largest number.
-fn held_sum(a: u64, b: u64) -> u64
-    ensures { λ r. ⌜ r ≡ capped (a + b) ⌝ }
-{
-    if b < u64::MAX - a { a + b } else { u64::MAX }
 }
 
 // How many steps were done, how many points were inexact in them, and the phase that the three slices are in.

@@ -5,8 +5,8 @@ use native.Mathlib.Decide.{decLt}
 use native.Mathlib.Omega.{arith}
 use Rattle.scheme.specs.Calls.{capped}
 use Rattle.scheme.proofs.Laws.Calls.{capped-low, capped-full}
-use Rattle.steps.proofs.play.held_sum.Statement.{statement}
-use Rattle.steps.proofs.play.held_sum.Tie as tie
+use Rattle.counts.proofs.held_sum.Statement.{statement}
+use Rattle.counts.proofs.held_sum.Tie as tie
 
 sub-if1 : tie.Need-sub-if1
 sub-if1 c = omega (arith, c .fits .a .fits)
