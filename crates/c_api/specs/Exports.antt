@@ -34,7 +34,8 @@ blockLeft refusal steps inexact older newer work samples = record {
 }
 
 abbrev pub blockNumbers : AfterBlock → BlockLeft
-blockNumbers a = blockLeft (number (a .answer .refusal)) (a .answer .steps) (a .answer .inexact) (a .older) (a .newer) (a .work) (a .samples)
+blockNumbers a =
+    blockLeft (number (a .answer .refusal)) (a .answer .steps) (a .answer .inexact) (a .older) (a .newer) (a .work) (a .samples)
 
 abbrev pub block : (kind columns rows q m s : ℕ) → (older newer work samples : List ℤ) → (pickUp hit point : ℕ) → ℤ → BlockLeft
 block kind columns rows q m s older newer work samples pickUp hit point force =

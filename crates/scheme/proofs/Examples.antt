@@ -42,8 +42,8 @@ examples-hold J = (refl, refl)
 
 pub further-hold : FurtherHold
 unfolding sum sumOver tabulate someBelow countBelow only kindOf sizeIn stableIn roundEdge fixedIn moving freeIn beside neighbours
-    laplacian innerLaplacian numerator roundAway nextAt nextLevel inexactAt inexactIn someBeyond sampleOf floatOf table pluckAt pluckLevel fixedNotZero blockRefusal
-    pluckRefusal readingRefusal instrumentRefusal play capped block pluck reading weight squares later pairSum laplacianSum energy
+    laplacian innerLaplacian numerator roundAway nextAt nextLevel inexactAt inexactIn someBeyond sampleOf floatOf table pluckAt
+    pluckLevel fixedNotZero blockRefusal pluckRefusal readingRefusal instrumentRefusal play capped block pluck reading weight squares later pairSum laplacianSum energy
     unroundedAt unroundedStep unroundedSteps goesOn bookBlock bookPluck sumBlock sumPluck leaves bookCall sumCall calls ofBits div ofInt
 further-hold freeEndTwice = refl
 further-hold halfFree = (refl, refl)
@@ -104,8 +104,8 @@ further-hold halfOff = record { all-points = refl; near = record { le = tt } }
 
 pub plates-hold : PlatesHold
 unfolding sum sumOver tabulate someBelow only countBelow kindOf sizeIn stableIn roundEdge fixedIn moving freeIn beside neighbours laplacian
-    innerLaplacian numerator roundAway nextAt nextLevel inexactAt inexactIn someBeyond sampleOf fixedNotZero blockRefusal pluckRefusal readingRefusal
-    instrumentRefusal play capped block weight squares later pairSum laplacianSum energy unroundedAt unroundedStep unroundedSteps goesOn bookBlock
+    innerLaplacian numerator roundAway nextAt nextLevel inexactAt inexactIn someBeyond sampleOf fixedNotZero blockRefusal
+    pluckRefusal readingRefusal instrumentRefusal play capped block weight squares later pairSum laplacianSum energy unroundedAt unroundedStep unroundedSteps goesOn bookBlock
     sumBlock leaves bookCall sumCall calls
 plates-hold Plates.middle = refl
 plates-hold Plates.corner = refl

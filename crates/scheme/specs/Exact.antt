@@ -41,8 +41,8 @@ ProgramExactSince = (older newer : List ℤ) (ms : List Made) → AllKept ms (st
     let t = afterAll ms (start older newer) in t .inexact ≡ 0 → Unrounded t
 
 abbrev pub ProgramExactFromStart : Type 0
-ProgramExactFromStart = (older newer : List ℤ) (ms : List Made) → AllKept ms (start older newer) → EachMade NoneInexact ms (start older newer)
-    → Unrounded (afterAll ms (start older newer))
+ProgramExactFromStart = (older newer : List ℤ) (ms : List Made) → AllKept ms (start older newer) →
+    EachMade NoneInexact ms (start older newer) → Unrounded (afterAll ms (start older newer))
 
 -- R = 1 without stiffness and loss: no step has an inexact point
 abbrev pub NeverInexact : Type 0

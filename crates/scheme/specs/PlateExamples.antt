@@ -1,4 +1,5 @@
--- A table for plates, kind 7, beside the second one: a step on small plates and its count, both sides of every limit, refusals, a block, energy, book.
+-- A table for plates, kind 7, beside the second one: a step on small plates and its count, both sides of every limit, refusals, a block,
+-- energy, book.
 -- The numbers come by hand, or from the reference in another language under host/. `FurtherExamples` has a row of every kind's number.
 use mathlib.Core.Path.{_≡_}
 use mathlib.Core.Bool.{false}

@@ -98,7 +98,8 @@ testOf write v k = write && v k .inexact
 
 module _ {v : ℕ → Next} {write : Bool} {base : ℕ} where
   -- all of the points
-  pub ran-all : {out₀ out : List ℤ} {a b n : ℕ} → Filled (valueOf v) write base out₀ out a b → NoneBeyond (valueOf v) a b → Counted (testOf write v) a b n
+  pub ran-all : {out₀ out : List ℤ} {a b n : ℕ} → Filled (valueOf v) write base out₀ out a b → NoneBeyond (valueOf v) a b
+      → Counted (testOf write v) a b n
       → Ran v write base out₀ out a b (passed n)
   ran-all f low c = record { long = f .long; filled = λ t. f; low = λ t. low; counted = λ t. c; stopped = λ t. absurd (true≢false t) }
 
@@ -137,7 +138,8 @@ module _ {v : ℕ → Next} {write : Bool} {base : ℕ} where
       → Ran v write base out₀ out a b (passed (r .inexact))
   ran-passed {out₀} {out} {a} {b} {r} e q = coe 0 1 (j. Ran v write base out₀ out a b (record { within = e j; inexact = r .inexact })) q
 
-  module _ {out₀ out₁ out₂ : List ℤ} {a b c m : ℕ} (above : base ≤ a) (l : a ≤ b) (h : b ≤ c) (p : Ran v write base out₀ out₁ a b (passed m))
+  module _ {out₀ out₁ out₂ : List ℤ} {a b c m : ℕ} (above : base ≤ a) (l : a ≤ b) (h : b ≤ c)
+      (p : Ran v write base out₀ out₁ a b (passed m))
     where
       -- one run after the other
       pub ran-append : {n : ℕ} → Ran v write base out₁ out₂ b c (passed n) → Ran v write base out₀ out₂ a c (passed (m + n))

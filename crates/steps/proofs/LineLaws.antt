@@ -100,8 +100,7 @@ module _ (s : Stretch) {p : Plan} {older newer : List ℤ} (r : Ready p (s .forc
     pub first-stops : {r : Progress} → Advanced p s older newer out₀ out₁ (clamp (s .from) (s .to) 0) (clamp (s .from) (s .to) 1) r
         → r .within ≡ false → Advanced p s older newer out₀ out₁ (s .from) (s .to) r
     first-stops q e =
-        ran-stops placed (omega arith) (clamp-low (s .from) (s .to) order 1) (ran-none out₀ (s .from)) (clamp-high (s .from) (s .to) order 1)
-        (from-first q) e
+        ran-stops placed (omega arith) before (ran-none out₀ (s .from)) (clamp-high (s .from) (s .to) order 1) (from-first q) e
 
     module _ {m : ℕ} (first : Advanced p s older newer out₀ out₁ (clamp (s .from) (s .to) 0) (clamp (s .from) (s .to) 1) (passed m)) where
       pub inner-stops : {out₂ : List ℤ} {r : Progress}

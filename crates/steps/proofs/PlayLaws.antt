@@ -1,5 +1,5 @@
 -- The steps of a block one after the other: how they begin, go on and end.
-use mathlib.Core.Path.{_≡_, refl, sym, ap, ap₂, _∙_, subst}
+use mathlib.Core.Path.{_≡_, refl, sym, ap, _∙_, subst}
 use mathlib.Core.Bool.{Bool, true, false, cond, not}
 use mathlib.Core.List.{List, [], _∷_, _++_, append-assoc}
 use Prim.Native.Nat.{ℕ, zero, suc, _+_, _≤_, _<_}
@@ -75,8 +75,8 @@ set-next (y ∷ vs) x v xs (suc j) e = ap (y ∷_) (set-next vs x v xs j (omega 
 
 -- ---- the loop over the places: j steps are done
 
-pub record Playing (i : Instrument) (pick : ℕ) (hit : Hit) (whole : AfterSteps) (n : ℕ) (older newer out samples : List ℤ) (j held : ℕ) : Type
-    0 where
+pub record Playing (i : Instrument) (pick : ℕ) (hit : Hit) (whole : AfterSteps) (n : ℕ) (older newer out samples : List ℤ)
+    (j held : ℕ) : Type 0 where
   pub vs : List ℤ
   pub inexact : ℕ
   pub places : List ℤ
@@ -111,7 +111,8 @@ module _ {p : Plan} {hit : Hit} {older newer out : List ℤ} (s : Steppable p hi
   }
 
   -- the next step may be taken: its hit is the block's or none
-  pub playing-steppable : {pick n j held : ℕ} {whole : AfterSteps} {older′ newer′ out′ samples : List ℤ} {hit′ : Hit} → hit′ ≡ hitAfter hit j
+  pub playing-steppable : {pick n j held : ℕ} {whole : AfterSteps} {older′ newer′ out′ samples : List ℤ} {hit′ : Hit}
+      → hit′ ≡ hitAfter hit j
       → Playing (p .instrument) pick hit whole n older′ newer′ out′ samples j held → Steppable p hit′ older′ newer′ out′
   playing-steppable {j = j} same g = record {
     planned = s .planned;
@@ -206,7 +207,8 @@ module _ {i : Instrument} {pick n j held : ℕ} {hit : Hit} {whole : AfterSteps}
         }
 
     -- the next step would pass the ceiling
-    pub playing-ends : (phase : ℕ) → not (x .within) ≡ true → Played whole n (record { done = j; inexact = held; phase = phase }) older newer samples
+    pub playing-ends : (phase : ℕ) → not (x .within) ≡ true
+        → Played whole n (record { done = j; inexact = held; phase = phase }) older newer samples
     playing-ends phase d = go (g .places) (g .samples-are) (g .long) (g .whole-is)
       where
         go : (places : List ℤ) → samples ≡ g .vs ++ places → j + length places ≡ n → whole

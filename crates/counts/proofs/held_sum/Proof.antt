@@ -1,9 +1,7 @@
 -- `held_sum` meets its contract: there is room for the second number, or the sum is held.
-use mathlib.Core.Path.{_≡_, sym, _∙_}
-use Prim.Native.Nat.{_+_, _-_, _^_}
-use native.Mathlib.Decide.{decLt}
+use mathlib.Core.Path.{sym}
+use Prim.Native.Nat.{_+_}
 use native.Mathlib.Omega.{arith}
-use Rattle.scheme.specs.Calls.{capped}
 use Rattle.scheme.proofs.Laws.Calls.{capped-low, capped-full}
 use Rattle.counts.proofs.held_sum.Statement.{statement}
 use Rattle.counts.proofs.held_sum.Tie as tie

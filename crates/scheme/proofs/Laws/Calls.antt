@@ -23,7 +23,8 @@ use Rattle.scheme.specs.Step.{nextLevel, inexactIn, someBeyond, sampleOf
 use Rattle.scheme.specs.Pluck.{pluckLevel}
 use Rattle.scheme.specs.Refusals.{wrongLength, fixedNotZero, blockRefusal, pluckRefusal, readingRefusal}
 use Rattle.scheme.specs.Calls.{accepted, AfterSteps, ended, oneMore, play, levelsAfter, inexactAfter, hitAfter, StandsBehind}
-use Rattle.scheme.specs.Calls.{StepsStandBehind, AfterBlock, capped, withWorkZero, blockRefused, block, overwritten, pluckRefused, pluck, reading}
+use Rattle.scheme.specs.Calls.{StepsStandBehind, AfterBlock, capped, withWorkZero, blockRefused, block, overwritten, pluckRefused}
+use Rattle.scheme.specs.Calls.{pluck, reading}
 use Rattle.scheme.specs.Claims.{LevelPasses}
 use Rattle.scheme.proofs.Laws.Bools.{cases}
 use Rattle.scheme.proofs.Laws.Lists.{none-below}
@@ -186,7 +187,8 @@ capped-add a b = go (decLt a (2 ^ 64))
     go (yes h) = ap (λ (n : ℕ). capped (n + b)) (capped-low a h)
     go (no h) =
         let high : 2 ^ 64 ≤ a = omega (arith, h) in
-        ap (λ (n : ℕ). capped (n + b)) (capped-high a high) ∙ capped-full (2 ^ 64 - 1 + b) (omega arith) ∙ sym (capped-high (a + b) (omega arith))
+        ap (λ (n : ℕ). capped (n + b)) (capped-high a high) ∙ capped-full (2 ^ 64 - 1 + b) (omega arith) ∙
+        sym (capped-high (a + b) (omega arith))
 
 -- ---- a block
 

@@ -55,42 +55,43 @@ pub record Held (i : Instrument) (older newer : List ℤ) (b : Book) : Type 0 wh
   pub older-is : times (scale (i .settings) (b .n)) older ≡ b .older
   pub newer-is : times (scale (i .settings) (b .n)) newer ≡ b .newer
 
-module _ (i : Instrument) (h : Hit) (older newer : List ℤ) (b : Book) (v : Held i older newer b) (none : inexactIn i h older newer ≡ 0) where
-  abbrev c : Settings
-  c = i .settings
+module _ (i : Instrument) (h : Hit) (older newer : List ℤ) (b : Book) (v : Held i older newer b) (none : inexactIn i h older newer ≡ 0)
+  where
+    abbrev c : Settings
+    c = i .settings
 
-  abbrev p : ℤ
-  p = scale c (b .n)
+    abbrev p : ℤ
+    p = scale c (b .n)
 
-  next-older : times (scale c (suc (b .n))) newer ≡ unroundedStep i h b .older
-  unfolding unroundedStep
-  next-older =
-      ap (λ z. times z newer) (scale-suc c (b .n)) ∙ times-times (pos (divisor c)) p newer ∙ ap (times (pos (divisor c))) (v .newer-is)
+    next-older : times (scale c (suc (b .n))) newer ≡ unroundedStep i h b .older
+    unfolding unroundedStep
+    next-older =
+        ap (λ z. times z newer) (scale-suc c (b .n)) ∙ times-times (pos (divisor c)) p newer ∙ ap (times (pos (divisor c))) (v .newer-is)
 
-  next-newer : times (scale c (suc (b .n))) (nextLevel i h older newer) ≡ unroundedStep i h b .newer
-  unfolding nextLevel unroundedStep nextAt unroundedAt inexactIn
-  next-newer = times-tabulate (scale c (suc (b .n))) (points (i .grid)) _ _ (λ k l. go k l (moving (i .grid) k) refl)
-    where
-      scaled : (xs ys : List ℤ) → times p xs ≡ ys → p ⊡ point xs ≡ point ys
-      scaled xs ys e = fun-ext (λ k. sym (point-scaled p xs k) ∙ ap (λ (l : List ℤ). point l k) e)
+    next-newer : times (scale c (suc (b .n))) (nextLevel i h older newer) ≡ unroundedStep i h b .newer
+    unfolding nextLevel unroundedStep nextAt unroundedAt inexactIn
+    next-newer = times-tabulate (scale c (suc (b .n))) (points (i .grid)) _ _ (λ k l. go k l (moving (i .grid) k) refl)
+      where
+        scaled : (xs ys : List ℤ) → times p xs ≡ ys → p ⊡ point xs ≡ point ys
+        scaled xs ys e = fun-ext (λ k. sym (point-scaled p xs k) ∙ ap (λ (l : List ℤ). point l k) e)
 
-      num : ℕ → ℤ
-      num k = numerator i (point newer) (point older) (forceOf h) k
+        num : ℕ → ℤ
+        num k = numerator i (point newer) (point older) (forceOf h) k
 
-      go : (k : ℕ) → k < points (i .grid) → (t : Bool) → moving (i .grid) k ≡ t
-          → scale c (suc (b .n)) *ℤ cond t (roundAway (num k) (divisor c)) (pos 0)
-          ≡ cond t (numerator i (point (b .newer)) (point (b .older)) (p ⊡ forceOf h) k) (pos 0)
-      go k l true m =
-          ap (λ z. z *ℤ roundAway (num k) (divisor c)) (scale-suc c (b .n)) ∙
-          ring 3 (λ p d r. (p ⊗ d) ⊗ r ≈ p ⊗ (r ⊗ d)) refl p (pos (divisor c)) (roundAway (num k) (divisor c)) ∙
-          ap (λ z. p *ℤ z) (exact-point i h older newer k m (count-zero (inexactAt i h older newer) (points (i .grid)) none k l)) ∙
-          sym (numerator-scale i k p (point newer) (point older) (forceOf h)) ∙
-          ap₂ (λ u o. numerator i u o (p ⊡ forceOf h) k) (scaled newer (b .newer) (v .newer-is)) (scaled older (b .older) (v .older-is))
-      go k l false m = *ℤ-zero (scale c (suc (b .n)))
+        go : (k : ℕ) → k < points (i .grid) → (t : Bool) → moving (i .grid) k ≡ t
+            → scale c (suc (b .n)) *ℤ cond t (roundAway (num k) (divisor c)) (pos 0)
+            ≡ cond t (numerator i (point (b .newer)) (point (b .older)) (p ⊡ forceOf h) k) (pos 0)
+        go k l true m =
+            ap (λ z. z *ℤ roundAway (num k) (divisor c)) (scale-suc c (b .n)) ∙
+            ring 3 (λ p d r. (p ⊗ d) ⊗ r ≈ p ⊗ (r ⊗ d)) refl p (pos (divisor c)) (roundAway (num k) (divisor c)) ∙
+            ap (λ z. p *ℤ z) (exact-point i h older newer k m (count-zero (inexactAt i h older newer) (points (i .grid)) none k l)) ∙
+            sym (numerator-scale i k p (point newer) (point older) (forceOf h)) ∙
+            ap₂ (λ u o. numerator i u o (p ⊡ forceOf h) k) (scaled newer (b .newer) (v .newer-is)) (scaled older (b .older) (v .older-is))
+        go k l false m = *ℤ-zero (scale c (suc (b .n)))
 
-  held-next : Held i newer (nextLevel i h older newer) (unroundedStep i h b)
-  unfolding unroundedStep
-  held-next = record { older-is = next-older; newer-is = next-newer }
+    held-next : Held i newer (nextLevel i h older newer) (unroundedStep i h b)
+    unfolding unroundedStep
+    held-next = record { older-is = next-older; newer-is = next-newer }
 
 -- ---- the steps of a block
 
@@ -209,8 +210,9 @@ program-exact-from-start older newer ms kept each =
 
 pub never-inexact : NeverInexact
 unfolding inexactIn inexactAt numerator
-never-inexact i h older newer q m s = count-none (inexactAt i h older newer) (points (i .grid)) (λ k l. cases (λ b. (b && not (whole k)) ≡ false)
-    (moving (i .grid) k) (λ t. ap not (multiple k)) (λ t. refl))
+never-inexact i h older newer q m s =
+    count-none (inexactAt i h older newer) (points (i .grid))
+    (λ k l. cases (λ b. (b && not (whole k)) ≡ false) (moving (i .grid) k) (λ t. ap not (multiple k)) (λ t. refl))
   where
     num : ℕ → ℤ
     num k = numerator i (point newer) (point older) (forceOf h) k

@@ -4,7 +4,6 @@ use Prim.Native.Nat.{_+_, _^_}
 use native.Mathlib.Nat.{le-trans}
 use native.Mathlib.Omega.{arith}
 use borrow.Author.Needs.{needs}
-use lib.IntN.{ℤ}
 use mir.Syntax.{w64}
 use mir.Val.{toZ, ofZ}
 use Rattle.bounded.proofs.Num.{back}

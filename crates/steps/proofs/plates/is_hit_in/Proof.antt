@@ -5,7 +5,6 @@ use Prim.Native.Nat.{ℕ}
 use borrow.Author.Needs.{needs}
 use borrow.Author.Tests.{le-leb, lt-leb}
 use lib.Dec.{leb, ltb}
-use lib.IntN.{ℤ}
 use Rattle.types.specs.declared.Hit.{Hit}
 use Rattle.steps.specs.Run.{hitIn}
 use Rattle.steps.proofs.HitLaws.{hit-nowhere, hit-at}

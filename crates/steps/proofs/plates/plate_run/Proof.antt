@@ -34,7 +34,8 @@ module _ (c : tie.Then1 Inv-loop μ-loop) where
   k = loop .loop .at
 
   abbrev inv : Running (nextBy (s .args .plan .instrument) (s .args .s .force) (s .args .older .now) (s .args .newer .now))
-      (s .args .s .write) (s .args .s .base) (s .args .out .now) (s .args .s .from) (s .args .s .to) (loop .loop .out) k (loop .loop .inexact)
+      (s .args .s .write) (s .args .s .base) (s .args .out .now) (s .args .s .from) (s .args .s .to) (loop .loop .out) k
+      (loop .loop .inexact)
   inv = loop .loop .inv .0
 
   last : k < s .args .s .to

@@ -22,7 +22,8 @@ Inv-loop plan older newer out₀ hit columns right ring sums₀ inexact₀ other
     PlateRows (plan .instrument) hit older newer out₀ out sums other here row start inexact
 
 abbrev μ-loop : tie.MeasureT-loop
-μ-loop plan older newer out₀ hit columns right ring sums₀ inexact₀ other₀ here₀ row₀ start₀ out sums inexact other here row start = ring - row
+μ-loop plan older newer out₀ hit columns right ring sums₀ inexact₀ other₀ here₀ row₀ start₀ out sums inexact other here row start =
+    ring - row
 
 -- what the caller showed
 module _ (s : tie.Start Inv-loop μ-loop) where

@@ -142,7 +142,9 @@ module _ (c : tie.Else3) where
   last-passed = ran-passed (not-false _ (c .if3 .left)) (last-ran o₃)
 
   abbrev count : ℕ
-  count = o₁ (o₂ o₃) .before .free-end .result .inexact + o₂ o₃ .before .inner-points .result .inexact + o₃ .before .free-end2 .result .inexact
+  count =
+      o₁ (o₂ o₃) .before .free-end .result .inexact + o₂ o₃ .before .inner-points .result .inexact
+      + o₃ .before .free-end2 .result .inexact
 
   most : count ≤ 4096
   most =
@@ -194,7 +196,8 @@ returns-2 : tie.Need-returns-2
 returns-2 c =
     let o = c .before .before in
     let s₀ = s₂ o in
-    inner-stops (s s₀) (ready s₀) (line s₀) (all s₀) (some s₀) (placed s₀ .above) (first-passed o) (inner-ran o) (not-true _ (c .if2 .taken))
+    inner-stops (s s₀) (ready s₀) (line s₀) (all s₀) (some s₀) (placed s₀ .above) (first-passed o) (inner-ran o)
+    (not-true _ (c .if2 .taken))
 
 sub-free-end : tie.Need-sub-free-end
 sub-free-end c = omega (arith, wide (s₂ (c .before .before)))

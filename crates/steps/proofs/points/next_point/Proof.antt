@@ -189,7 +189,8 @@ module _ (c : tie.After-round-away) where
       (there .args .at) (there .args .at + 1) (passed (cond (not t) 1 0))
   written t e =
       point-written _ _ _ _ (not-false _ (c .before .if2 .left)) (omega (arith, there .pre .1)) (omega (arith, there .pre .1)) whole-is
-      (ap (λ (t : Bool). cond {A = ℕ} (not t) 1 0) (sym e) ∙ counted (within .before)) (beyond-is within ∙ c .before .before .before .if1 .left)
+      (ap (λ (t : Bool). cond {A = ℕ} (not t) 1 0) (sym e) ∙ counted (within .before))
+      (beyond-is within ∙ c .before .before .before .if1 .left)
 
 sub-whole : tie.Need-sub-whole
 sub-whole c = search needs
