@@ -42,7 +42,7 @@ struct state {
     int64_t older[ROOM], newer[ROOM], work[ROOM];
     int16_t samples[PLACES];
     size_t steps;
-    uint64_t refusal, q, m, s;
+    uint64_t refusal, inexact, q, m, s;
     double value;
 };
 
@@ -73,8 +73,10 @@ static void some_steps(const struct engine *e, struct state *x, const struct row
 {
     struct buvcsolta_instrument i = instrument_of(r);
     size_t n = i.columns * i.rows, at = middle(&i);
+    uint64_t inexact;
     x->refusal |= e->block(i.kind, i.columns, i.rows, i.q, i.m, i.s, x->older, n, x->newer, n, x->work, n, x->samples, places, at + 1, 1,
-                           at, force, &x->steps);
+                           at, force, &x->steps, &inexact);
+    x->inexact += inexact;
 }
 
 static void long_block(const struct engine *e, struct state *x, const struct row *r, int64_t force)

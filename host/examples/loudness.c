@@ -15,14 +15,14 @@ static void cell(const struct buvcsolta_instrument *string, int64_t loud, int is
     struct buvcsolta_levels levels = {older, newer, work, POINTS};
     struct buvcsolta_hit hit = {CENTRE, loud * BUVCSOLTA_UNITS_PER_SAMPLE};
     size_t steps;
-    uint64_t refusal = 0;
+    uint64_t refusal = 0, inexact;
     int most = 0;
     memset(older, 0, sizeof older);
     memset(newer, 0, sizeof newer);
     if (!is_hit)
         refusal = buvcsolta_instrument_pluck(string, &levels, CENTRE, HALF_WIDTH, hit.force);
     if (!refusal)
-        refusal = buvcsolta_instrument_block(string, &levels, samples, RATE, pick_up, is_hit ? &hit : NULL, &steps);
+        refusal = buvcsolta_instrument_block(string, &levels, samples, RATE, pick_up, is_hit ? &hit : NULL, &steps, &inexact);
     if (refusal) {
         printf(" refused, %d |", (int)refusal);
         return;

@@ -37,6 +37,7 @@ int main(int argc, char **argv)
     struct buvcsolta_levels levels = {older, newer, work, POINTS};
     int16_t samples[BLOCK];
     size_t steps;
+    uint64_t inexact;
     FILE *file = argc == 2 ? fopen(argv[1], "wb") : NULL;
     if (!file) {
         fputs("usage: pluck_wav FILE.wav\n", stderr);
@@ -46,7 +47,7 @@ int main(int argc, char **argv)
     check(buvcsolta_instrument_pluck(&string, &levels, PICK_UP, 25, LOUD * BUVCSOLTA_UNITS_PER_SAMPLE));
     put_header(file, RATE);
     for (int done = 0; done < RATE; done += BLOCK) {
-        check(buvcsolta_instrument_block(&string, &levels, samples, BLOCK, PICK_UP, NULL, &steps));
+        check(buvcsolta_instrument_block(&string, &levels, samples, BLOCK, PICK_UP, NULL, &steps, &inexact));
         for (int k = 0; k < BLOCK; k++)
             put(file, (uint16_t)samples[k], 2);
     }

@@ -30,9 +30,9 @@ extern "C" {
 #endif
 
 /* The version of this header: a new major number where a program must be changed, a new minor one where a call takes more or gives
- * another number: since 1.2 samples are rounded to the nearest. */
-#define BUVCSOLTA_VERSION_MAJOR 1
-#define BUVCSOLTA_VERSION_MINOR 2
+ * another number. Since 1.2 samples are rounded to the nearest; since 2.0 a block has an argument more, inexact, at its end. */
+#define BUVCSOLTA_VERSION_MAJOR 2
+#define BUVCSOLTA_VERSION_MINOR 0
 #define BUVCSOLTA_VERSION_PATCH 0
 #define BUVCSOLTA_VERSION (BUVCSOLTA_VERSION_MAJOR * 10000 + BUVCSOLTA_VERSION_MINOR * 100 + BUVCSOLTA_VERSION_PATCH)
 
@@ -77,14 +77,17 @@ enum buvcsolta_refusal {
  * pick_up:            the point whose value over 2^28, to the nearest whole number, halves away from zero, is a step's sample.
  * hit:                0 for none; any other number: force units at point, in the first step.
  * steps:              becomes the number of steps done.
+ * inexact:            becomes the sum, over the steps done, of each step's inexact points: moving points whose numerator was not a
+ *                     multiple of 65536 + s. It stays at 2^64 - 1 once it would pass that. While the counts of all blocks from the
+ *                     start are 0, nothing was rounded and the levels are those of the unrounded scheme itself.
  *
  * 0 and 13: older and newer are the levels after exactly *steps steps, their samples are written, later places are unchanged, and
- * work is all zeros. 1, 2, 4 to 9, 11 and 12: *steps is 0 and everything lent is unchanged. With samples_length 0 the call passes
- * the same checks, does no step and drops its hit. 7 and 8 are met only with a hit. */
+ * work is all zeros. 1, 2, 4 to 9, 11 and 12: *steps and *inexact are 0 and everything lent is unchanged. With samples_length 0 the
+ * call passes the same checks, does no step and drops its hit. 7 and 8 are met only with a hit. */
 uint64_t buvcsolta_block(uint64_t kind, size_t columns, size_t rows, uint64_t q, uint64_t m, uint64_t s,
                          int64_t *older, size_t older_length, int64_t *newer, size_t newer_length,
                          int64_t *work, size_t work_length, int16_t *samples, size_t samples_length,
-                         size_t pick_up, uint64_t hit, size_t point, int64_t force, size_t *steps);
+                         size_t pick_up, uint64_t hit, size_t point, int64_t force, size_t *steps, uint64_t *inexact);
 
 /* A pluck, kinds 1 to 4: both levels become the same raised-cosine shape of the given height around centre, 0 beyond half_width.
  *
@@ -152,11 +155,11 @@ static inline uint64_t buvcsolta_instrument_sheet(struct buvcsolta_instrument *i
 /* A block of samples_length steps; hit is null for none. */
 static inline uint64_t buvcsolta_instrument_block(const struct buvcsolta_instrument *i, const struct buvcsolta_levels *levels,
                                                   int16_t *samples, size_t samples_length, size_t pick_up,
-                                                  const struct buvcsolta_hit *hit, size_t *steps)
+                                                  const struct buvcsolta_hit *hit, size_t *steps, uint64_t *inexact)
 {
     return buvcsolta_block(i->kind, i->columns, i->rows, i->q, i->m, i->s, levels->older, levels->length, levels->newer, levels->length,
                            levels->work, levels->length, samples, samples_length, pick_up, hit ? 1 : 0, hit ? hit->point : 0,
-                           hit ? hit->force : 0, steps);
+                           hit ? hit->force : 0, steps, inexact);
 }
 
 /* A pluck. The settings and work play no part. */

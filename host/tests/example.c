@@ -46,9 +46,11 @@ static void listing_of_the_paper(void)
     int64_t a[3] = {0, 0, 0}, b[3] = {0, 0, 0}, c[3] = {7, 7, 7};
     int16_t samples[4];
     size_t steps = 99;
-    uint64_t refusal = buvcsolta_block(1, 3, 1, 65536, 0, 0, a, 3, b, 3, c, 3, samples, 4, 1, 1, 1, 268435456, &steps);
+    uint64_t inexact = 99;
+    uint64_t refusal = buvcsolta_block(1, 3, 1, 65536, 0, 0, a, 3, b, 3, c, 3, samples, 4, 1, 1, 1, 268435456, &steps, &inexact);
     expect_refusal("block", refusal, BUVCSOLTA_NOTHING);
     expect("steps", (int64_t)steps, 4);
+    expect("inexact points", (int64_t)inexact, 0);
     expect("samples", memcmp(samples, wanted, sizeof wanted), 0);
     expect("work", c[0] | c[1] | c[2], 0);
 }
@@ -56,11 +58,13 @@ static void listing_of_the_paper(void)
 /* A block of the string, picked up in its middle, into the samples below. */
 static int16_t samples[PLACES];
 static size_t steps;
+static uint64_t inexact;
 
 static uint64_t block(const struct buvcsolta_levels *lent, const struct buvcsolta_hit *hit)
 {
     steps = 99;
-    return buvcsolta_instrument_block(&string, lent, samples, PLACES, 50, hit, &steps);
+    inexact = 99999;
+    return buvcsolta_instrument_block(&string, lent, samples, PLACES, 50, hit, &steps, &inexact);
 }
 
 static void plucked_string(void)
@@ -73,6 +77,7 @@ static void plucked_string(void)
     expect("an eighth", value == 0.125, 1);
     expect_refusal("block", block(&levels, NULL), BUVCSOLTA_NOTHING);
     expect("steps", (int64_t)steps, PLACES);
+    expect("inexact, some but no more than move", inexact > 0 && inexact <= PLACES * (COLUMNS - 2), 1);
 }
 
 /* A string that fades to 3 units below zero and stays there: its samples end in zeros. */
@@ -84,7 +89,8 @@ static void fading_string(void)
     struct buvcsolta_hit hit = {2, 100 * BUVCSOLTA_UNITS_PER_SAMPLE};
     int16_t heard[200];
     int differ = 0;
-    expect_refusal("a fading string", buvcsolta_instrument_block(&i, &lent, heard, 200, 1, &hit, &steps), BUVCSOLTA_NOTHING);
+    expect_refusal("a fading string", buvcsolta_instrument_block(&i, &lent, heard, 200, 1, &hit, &steps, &inexact),
+                   BUVCSOLTA_NOTHING);
     expect("where it stays", b[1], -3);
     for (int n = 100; n < 200; n++)
         differ += heard[n] != 0;
@@ -103,11 +109,13 @@ static void struck_plate(void)
     int16_t heard[3];
     expect_refusal("a plate's sheet", buvcsolta_instrument_sheet(&plate, &sheet), BUVCSOLTA_NOTHING);
     expect("a plate's m", (int64_t)plate.m, 4096);
-    expect_refusal("a plate", buvcsolta_instrument_block(&plate, &lent, heard, 3, 12, &hit, &steps), BUVCSOLTA_NOTHING);
+    expect_refusal("a plate", buvcsolta_instrument_block(&plate, &lent, heard, 3, 12, &hit, &steps, &inexact), BUVCSOLTA_NOTHING);
     expect("a plate's samples", memcmp(heard, wanted, sizeof wanted), 0);
+    expect("a plate's inexact points", (int64_t)inexact, 0);
     expect_refusal("a plate plucked", buvcsolta_instrument_pluck(&plate, &lent, 12, 1, 1), BUVCSOLTA_UNKNOWN_KIND);
     plate.m++;
-    expect_refusal("a plate beyond its limit", buvcsolta_instrument_block(&plate, &lent, heard, 3, 12, &hit, &steps), BUVCSOLTA_UNSTABLE);
+    expect_refusal("a plate beyond its limit", buvcsolta_instrument_block(&plate, &lent, heard, 3, 12, &hit, &steps, &inexact),
+                   BUVCSOLTA_UNSTABLE);
 }
 
 static void refused_calls(void)
@@ -116,12 +124,14 @@ static void refused_calls(void)
     struct buvcsolta_hit at_the_end = {0, 1}, hard = {50, BUVCSOLTA_CEILING}, harder = {50, BUVCSOLTA_CEILING + 1};
     expect_refusal("short buffers", block(&shorter, NULL), BUVCSOLTA_WRONG_LENGTH);
     expect("steps of a refused block", (int64_t)steps, 0);
+    expect("inexact points of a refused block", (int64_t)inexact, 0);
     expect_refusal("a fixed point", block(&levels, &at_the_end), BUVCSOLTA_NOT_MOVING);
     expect_refusal("too hard", block(&levels, &harder), BUVCSOLTA_TOO_STRONG);
     memset(older, 0, sizeof older);
     memset(newer, 0, sizeof newer);
     expect_refusal("the ceiling", block(&levels, &hard), BUVCSOLTA_NEXT_BEYOND);
     expect("steps before the ceiling", (int64_t)steps, 1);
+    expect("inexact points before the ceiling: the hit one alone", (int64_t)inexact, 1);
     expect("the sample before it", samples[0], 32763);
 }
 

@@ -28,8 +28,9 @@ static void call_block(void)
     struct buvcsolta_levels lent = levels();
     struct buvcsolta_hit hit = {instrument.rows / 2 * instrument.columns + instrument.columns / 2, 1000000};
     size_t steps;
+    uint64_t inexact;
     frame = __builtin_frame_address(0);
-    refusal = buvcsolta_instrument_block(&instrument, &lent, samples, PLACES, hit.point, &hit, &steps);
+    refusal = buvcsolta_instrument_block(&instrument, &lent, samples, PLACES, hit.point, &hit, &steps, &inexact);
 }
 
 static void call_pluck(void)

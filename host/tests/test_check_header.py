@@ -14,6 +14,8 @@ EDITS = (
     ("a wrong name", "uint64_t buvcsolta_reading(uint64_t", "uint64_t buvcsolta_read(uint64_t"),
     ("an argument left out", "size_t pick_up, uint64_t hit, ", "size_t pick_up, "),
     ("an argument too many", "double *value);", "double *value, size_t more);"),
+    ("the count of inexact points left out", ", uint64_t *inexact);", ");"),
+    ("a count of 32 bits", "uint64_t *inexact);", "uint32_t *inexact);"),
     ("arguments exchanged", "uint64_t q, uint64_t m, uint64_t s,\n", "uint64_t m, uint64_t q, uint64_t s,\n"),
     ("samples of 32 bits", "int16_t *samples, size_t samples_length,\n                         size_t",
      "int32_t *samples, size_t samples_length,\n                         size_t"),
