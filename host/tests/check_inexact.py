@@ -47,6 +47,7 @@ RUNS = (
     ("no columns", (1, 0, 1, 0, 0, 0), 5, 0, 1),
     ("no rows", (5, 8, 0, 0, 0, 0), 5, 9, 1),
     ("too many columns", (1, 4097, 1, 0, 0, 0), 5, 1, 1),
+    ("too many rows", (5, 64, 2**40, 0, 0, 0), 5, 65, 1),
     ("more points than 64 bits count", (5, 2**32 + 1, 2**32, 0, 0, 0), 5, 1, 1),
     ("the most of both", (5, MOST, MOST, 0, 0, 0), 5, 1, 1),
     ("a coefficient", (1, 101, 1, 65537, 0, 0), 5, 50, 1),
