@@ -92,9 +92,14 @@ module _ {p : Plan} (h : Planned p) where
   pub half-small : p .half ≤ 2 ^ 16
   half-small = omega (arith, h .half-is, low .2)
 
-  pub dividable : (n : ℤ) → natAbs n ≤ 2 ^ 62 → Dividable n (p .divisor) (p .half)
-  dividable n l =
-      (l, omega (arith, h .divisor-is), omega (arith, h .divisor-is, low .2), h .half-is ∙ ap (λ (x : ℕ). x / 2) (sym (h .divisor-is)))
+  pub divisor-is : D + p .s ≡ d
+  divisor-is = ap (λ (s : ℕ). D + s) (h .s-is)
+
+  pub divisor-low : d ≤ 2 ^ 31
+  divisor-low = omega (arith, low .2)
+
+  pub dividable : (n : ℤ) → natAbs n ≤ 2 ^ 62 → Dividable n (D + p .s) (p .half)
+  dividable n l = (l, omega arith, omega (arith, h .s-is, low .2), h .half-is ∙ ap (λ (x : ℕ). x / 2) (sym divisor-is))
 
   -- ---- the grid
 

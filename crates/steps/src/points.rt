@@ -16,6 +16,7 @@ use crate::plan::Plan;
 use crate::progress::Progress;
 use crate::stretch::Stretch;
 use crate::stretch::part;
+use types::Settings;
 
 // One point: sum is that of its neighbours, second that of their sums.
 pub(crate) fn next_point(
@@ -45,7 +46,7 @@ pub(crate) fn next_point(
             inexact: 0,
         };
     }
-    let rounded = round_away(n, plan.divisor, plan.half);
+    let rounded = round_away(n, Settings::D + plan.s as u64, plan.half);
     let whole = rounded.whole;
     out[at - s.base] = whole;
     let inexact = if rounded.rest == 0 { 0 } else { 1 };
