@@ -92,14 +92,14 @@ module _ {p : Plan} (h : Planned p) where
   pub half-small : p .half ≤ 2 ^ 16
   half-small = omega (arith, h .half-is, low .2)
 
-  pub divisor-is : D + p .s ≡ d
-  divisor-is = ap (λ (s : ℕ). D + s) (h .s-is)
+  pub divisor-sum : D + p .s ≡ d
+  divisor-sum = ap (λ (s : ℕ). D + s) (h .s-is)
 
   pub divisor-low : d ≤ 2 ^ 31
   divisor-low = omega (arith, low .2)
 
-  pub dividable : (n : ℤ) → natAbs n ≤ 2 ^ 62 → Dividable n (D + p .s) (p .half)
-  dividable n l = (l, omega arith, omega (arith, h .s-is, low .2), h .half-is ∙ ap (λ (x : ℕ). x / 2) (sym divisor-is))
+  pub dividable : (n : ℤ) → natAbs n ≤ 2 ^ 62 → (k : ℕ) → k ≡ d → Dividable n k (p .half)
+  dividable n l k e = (l, omega (arith, e), omega (arith, e, low .2), h .half-is ∙ ap (λ (x : ℕ). x / 2) (sym e))
 
   -- ---- the grid
 

@@ -20,6 +20,7 @@ use crate::progress::Progress;
 use crate::stretch::Stretch;
 use crate::stretch::force_at;
 use types::Hit;
+use types::Settings;
 
 // Where the sums of two rows stand: of column c of the row that begins at point `start` at place here + c; at other + c that of the row
 // above it until column c is done, then that of the row below it. `last` tells that the row below is the ring's.
@@ -88,7 +89,8 @@ fn plate_point(
     let second = second_at(sums, rows, c, below);
     let sum = sums[rows.here + c];
     sums[rows.other + c] = below;
-    next_point(plan, older, newer, at, sum, second, s, out)
+    let d = Settings::D + plan.s as u64;
+    next_point(plan, d, older, newer, at, sum, second, s, out)
 }
 
 // Points of a row, one force on all of them.

@@ -5,6 +5,7 @@ ghost use Prim.Native.Nat.{_+_, _-_, _≤_, _<_};
 ghost use lib.ListN.{length};
 ghost use Rattle.steps.specs.Plan.{Ready, SoftGrid, Neighbouring};
 ghost use Rattle.scheme.specs.Instruments.{bar, kind};
+ghost use Rattle.scheme.specs.Step.{divisor};
 ghost use Rattle.steps.specs.Run.{Advanced, Placed, Moves, OnLine, FreeEnd};
 use crate::arithmetic::is_within;
 use crate::arithmetic::numerator;
@@ -16,11 +17,11 @@ use crate::plan::Plan;
 use crate::progress::Progress;
 use crate::stretch::Stretch;
 use crate::stretch::part;
-use types::Settings;
 
-// One point: sum is that of its neighbours, second that of their sums.
+// One point: sum is that of its neighbours, second that of their sums, d the divisor.
 pub(crate) fn next_point(
     plan: Plan,
+    d: u64,
     older: &[i64],
     newer: &[i64],
     at: usize,
@@ -30,7 +31,7 @@ pub(crate) fn next_point(
     out: &mut [i64],
 ) -> Progress
     requires { ⌜ Ready plan (s .force) (now older) (now newer) × Neighbouring (plan .instrument) (now newer) at sum second ⌝ }
-    requires { ⌜ Placed s (length (now out)) × (s .from ≤ at) × (at < s .to) ⌝ }
+    requires { ⌜ Placed s (length (now out)) × (s .from ≤ at) × (at < s .to) × (d ≡ divisor (plan .instrument .settings)) ⌝ }
     ensures { λ r. ⌜ Advanced plan s (now (older .entry)) (now (newer .entry)) (now (out .entry)) (now (out .exit)) at (at + 1) r ⌝ }
 {
     let n = numerator(plan, newer[at], sum, second, older[at], s.force);
@@ -46,7 +47,7 @@ pub(crate) fn next_point(
             inexact: 0,
         };
     }
-    let rounded = round_away(n, Settings::D + plan.s as u64, plan.half);
+    let rounded = round_away(n, d, plan.half);
     let whole = rounded.whole;
     out[at - s.base] = whole;
     let inexact = if rounded.rest == 0 { 0 } else { 1 };
@@ -66,7 +67,7 @@ fn line_run(plan: Plan, older: &[i64], newer: &[i64], s: Stretch, out: &mut [i64
     let mut at = s.from;
     while at < s.to {
         let sum = beside(newer, at);
-        let p = next_point(plan, older, newer, at, sum, 0, s, out);
+        let p = next_point(plan, plan.divisor, older, newer, at, sum, 0, s, out);
         if !p.within {
             return p;
         }
@@ -91,7 +92,7 @@ fn bar_run(plan: Plan, older: &[i64], newer: &[i64], s: Stretch, out: &mut [i64]
     let mut here = sum_at(newer, at);
     while at < s.to {
         let right = sum_at(newer, at + 1);
-        let p = next_point(plan, older, newer, at, here, left + right, s, out);
+        let p = next_point(plan, plan.divisor, older, newer, at, here, left + right, s, out);
         if !p.within {
             return p;
         }
@@ -138,7 +139,7 @@ fn free_end(
         };
     }
     let x = newer[near];
-    next_point(plan, older, newer, s.from, x + x, 0, s, out)
+    next_point(plan, plan.divisor, older, newer, s.from, x + x, 0, s, out)
 }
 
 // Moving points of a line: its first, if it is one of them, the inner ones, its last.
@@ -178,7 +179,7 @@ fn grid_run(plan: Plan, older: &[i64], newer: &[i64], s: Stretch, out: &mut [i64
     let mut at = s.from;
     while at < s.to {
         let sum = around(newer, at, columns);
-        let p = next_point(plan, older, newer, at, sum, 0, s, out);
+        let p = next_point(plan, plan.divisor, older, newer, at, sum, 0, s, out);
         if !p.within {
             return p;
         }

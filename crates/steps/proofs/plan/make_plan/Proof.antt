@@ -110,22 +110,27 @@ sub-t16 c = fits (num 65536 ⊟ s# (at-s c)) tt
 cast-t17 : tie.Need-cast-t17
 cast-t17 c = record { fits = omega (arith, s-low (at-last c)) }
 
-div-t18 : tie.Need-div-t18
-div-t18 c = (omega arith, fits (divisor# (at-last c) ÷ num 2) tt)
+cast-t18 : tie.Need-cast-t18
+cast-t18 c =
+    let p = at-last c in
+    said (λ (z : ℤ). T (nonNeg z) × Fits w64 (natAbs z)) (divisor# p) tt (tt, record { fits = omega (arith, s-low p) })
 
-cast-t19 : tie.Need-cast-t19
-cast-t19 c =
+div-t19 : tie.Need-div-t19
+div-t19 c = (omega arith, fits (divisor# (at-last c) ÷ num 2) tt)
+
+cast-t20 : tie.Need-cast-t20
+cast-t20 c =
     let p = at-last c in
     said (λ (z : ℤ). T (nonNeg z) × Fits w64 (natAbs z)) (divisor# p ÷ num 2) tt (tt, record { fits = omega (arith, s-low p) })
 
-add-t20 : tie.Need-add-t20
-add-t20 c = search needs
+add-t21 : tie.Need-add-t21
+add-t21 c = search needs
 
-mul-t21 : tie.Need-mul-t21
-mul-t21 c = fits (limit# (at-last c)) tt
+mul-t22 : tie.Need-mul-t22
+mul-t22 c = fits (limit# (at-last c)) tt
 
-cast-t22 : tie.Need-cast-t22
-cast-t22 c =
+cast-t23 : tie.Need-cast-t23
+cast-t23 c =
     let p = at-last c in
     said (λ (z : ℤ). T (nonNeg z) × Fits w64 (natAbs z)) (limit# p) tt (tt, record { fits = omega (arith, s-low p) })
 
@@ -140,6 +145,7 @@ returns c =
         m-is = is (m# p) tt;
         kept-is = is (num 65536 ⊟ s# p) tt;
         s-is = refl;
+        divisor-is = ap natAbs (is (divisor# p) tt);
         half-is = ap natAbs (is (divisor# p ÷ num 2) tt);
         limit-is = ap natAbs (is (limit# p) tt);
       },
@@ -165,9 +171,10 @@ make-plan-spec =
     add-t15
     sub-t16
     cast-t17
-    div-t18
-    cast-t19
-    add-t20
-    mul-t21
-    cast-t22
+    cast-t18
+    div-t19
+    cast-t20
+    add-t21
+    mul-t22
+    cast-t23
     returns)

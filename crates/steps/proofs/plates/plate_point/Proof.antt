@@ -17,6 +17,7 @@ use Rattle.steps.specs.Plan.{Ready, Neighbouring}
 use Rattle.steps.specs.Plates.{TwoRows, InRow, Readable, secondAt}
 use Rattle.steps.proofs.Held.{held-below}
 use Rattle.steps.proofs.KindLaws.{wide}
+use Rattle.steps.proofs.PlanLaws.{divisor-sum}
 use Rattle.steps.proofs.BesideLaws.{around-below}
 use Rattle.steps.proofs.PlateLaws.{below, readable, plate-beside, two-next}
 use Rattle.steps.proofs.plates.plate_point.Statement.{statement}
@@ -124,11 +125,17 @@ mul-below c = bytes-fit (c .before .before .before .before .before .before .befo
 slice-set-from-below : tie.Need-slice-set-from-below
 slice-set-from-below c = read (c .before .before .before .before .before .before .before) .other
 
+cast-d : tie.Need-cast-d
+cast-d c = search needs
+
+add-d : tie.Need-add-d
+add-d c = search needs
+
 next-point-requires : tie.Need-next-point-requires
 next-point-requires c κs =
-    let b = c .before .before .before .before in
+    let b = c .before .before .before .before .before in
     let s = b .before .before .before .before in
-    ((ready s, beside b), (s .pre .0 .1, first s, last s))
+    ((ready s, beside b), (s .pre .0 .1, first s, last s, divisor-sum (ready s .planned)))
 
 same-length : tie.Need-same-length
 same-length c = search needs
@@ -138,7 +145,7 @@ same-length-2 c = search needs
 
 returns : tie.Need-returns
 returns c =
-    let b = c .before .before .before .before .before .before .before .before in
+    let b = c .before .before .before .before .before .before .before .before .before in
     let s = b .before .before in (
       c .before .next-point .ensures,
       subst (λ (x : ℤ). TwoRows (g s) (s .args .newer .now) (set (sums s) (place s) x) (s .args .rows) (k s + 1)) (sym (under-is b))
@@ -158,6 +165,8 @@ plate-point-spec =
     add-below
     mul-below
     slice-set-from-below
+    cast-d
+    add-d
     next-point-requires
     same-length
     same-length-2

@@ -137,7 +137,7 @@ next-point-requires c κs =
     let r = c .before in
     let t = turn r in
     let s = start t in
-    ((ready s, beside r), (placed-after (s .pre .0 .1) (inv t .ran .long), first t, last t))
+    ((ready s, beside r), (placed-after (s .pre .0 .1) (inv t .ran .long), first t, last t, ready s .planned .divisor-is))
 
 same-length : tie.Need-same-length Inv-loop μ-loop
 same-length c = search needs

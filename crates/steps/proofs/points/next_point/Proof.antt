@@ -23,7 +23,7 @@ use Rattle.steps.proofs.Held.{held, held-below}
 use Rattle.steps.proofs.FillLaws.{passed, point-beyond, point-written, point-tested}
 use Rattle.steps.proofs.NumeratorLaws.{numerator-below}
 use Rattle.steps.proofs.PointLaws.{updatable, next-is}
-use Rattle.steps.proofs.PlanLaws.{divisor-is, divisor-low, dividable}
+use Rattle.steps.proofs.PlanLaws.{divisor-low, dividable}
 use Rattle.steps.proofs.points.next_point.Statement.{statement}
 use Rattle.steps.proofs.points.next_point.Tie as tie
 
@@ -152,19 +152,15 @@ returns-2 c =
     let e = c .before .before in
     point-tested _ _ (not-true _ (c .if2 .taken)) (beyond-is (e .before) ∙ e .if1 .left)
 
-cast-round-away : tie.Need-cast-round-away
-cast-round-away c = search needs
-
-add-round-away : tie.Need-add-round-away
-add-round-away c = search needs
-
 round-away-requires : tie.Need-round-away-requires
-round-away-requires c κs = let n = c .before .before .before .before .before in dividable (ready (start n) .planned) (stored n) (numerator-low n)
+round-away-requires c κs =
+    let n = c .before .before .before .before in
+    dividable (ready (start n) .planned) (stored n) (numerator-low n) (start n .args .d) (start n .pre .1 .3)
 
 -- once it is rounded
 module _ (c : tie.After-round-away) where
   abbrev within : tie.After-is-within
-  within = c .before .before .before .before .before
+  within = c .before .before .before .before
 
   abbrev there : tie.Start
   there = start (within .before)
@@ -174,12 +170,12 @@ module _ (c : tie.After-round-away) where
 
   whole-is : toZ w64 (ofZ w64 (c .round-away .result .whole)) ≡ next there (there .args .at) .value
   whole-is =
-      let told = c .round-away .ensures .0 ∙ ap (roundAway n) (divisor-is (ready there .planned)) ∙ rounded (within .before) in
-      let low = ltb-false ceiling _ (beyond-is within ∙ c .before .before .before .before .if1 .left) in
+      let told = c .round-away .ensures .0 ∙ ap (roundAway n) (there .pre .1 .3) ∙ rounded (within .before) in
+      let low = ltb-false ceiling _ (beyond-is within ∙ c .before .before .before .if1 .left) in
       ap (λ (z : ℤ). toZ w64 (ofZ w64 z)) told ∙ held low
 
   rest-is : c .round-away .result .rest ≡ restOf n (d (within .before))
-  rest-is = c .round-away .ensures .1 ∙ ap (restOf n) (divisor-is (ready there .planned))
+  rest-is = c .round-away .ensures .1 ∙ ap (restOf n) (there .pre .1 .3)
 
   -- as it was stored
   rest-held : toZ w64 (ofZ w64 (c .round-away .result .rest)) ≡ restOf n (d (within .before))
@@ -193,9 +189,9 @@ module _ (c : tie.After-round-away) where
       (set (there .args .out .now) (there .args .at - there .args .s .base) (toZ w64 (ofZ w64 (c .round-away .result .whole))))
       (there .args .at) (there .args .at + 1) (passed (cond (not t) 1 0))
   written t e =
-      point-written _ _ _ _ (not-false _ (c .before .before .if2 .left)) (omega (arith, there .pre .1)) (omega (arith, there .pre .1)) whole-is
+      point-written _ _ _ _ (not-false _ (c .before .if2 .left)) (omega (arith, there .pre .1)) (omega (arith, there .pre .1)) whole-is
       (ap (λ (t : Bool). cond {A = ℕ} (not t) 1 0) (sym e) ∙ counted (within .before))
-      (beyond-is within ∙ c .before .before .before .before .if1 .left)
+      (beyond-is within ∙ c .before .before .before .if1 .left)
 
 sub-whole : tie.Need-sub-whole
 sub-whole c = let s = there (c .before .before) in omega (arith, s .pre .1)
@@ -203,7 +199,7 @@ sub-whole c = let s = there (c .before .before) in omega (arith, s .pre .1)
 mul-whole : tie.Need-mul-whole
 mul-whole c =
     let s = there (c .before .before) in
-    let out-good = s .good .1 .1 .1 .1 .1 .1 .1 .0 in
+    let out-good = s .good .1 .1 .1 .1 .1 .1 .1 .1 .0 in
     let placed = s .pre .1 in
     search needs
 
@@ -238,8 +234,6 @@ next-point-spec =
     is-within-requires
     returns
     returns-2
-    cast-round-away
-    add-round-away
     round-away-requires
     sub-whole
     mul-whole
