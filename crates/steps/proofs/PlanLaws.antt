@@ -92,8 +92,8 @@ module _ {p : Plan} (h : Planned p) where
   pub half-small : p .half ≤ 2 ^ 16
   half-small = omega (arith, h .half-is, low .2)
 
-  pub divisor-sum : D + p .s ≡ d
-  divisor-sum = ap (λ (s : ℕ). D + s) (h .s-is)
+  pub loss-low : p .instrument .settings .s ≤ D
+  loss-low = low .2
 
   pub divisor-low : d ≤ 2 ^ 31
   divisor-low = omega (arith, low .2)

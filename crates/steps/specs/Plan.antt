@@ -51,7 +51,6 @@ pub record Planned (p : Plan) : Type 0 where
       +ℤ pos 2 *ℤ pos (countOf (p .instrument .grid)) *ℤ pos (p .instrument .settings .m)
   pub m-is : p .m ≡ pos (p .instrument .settings .m)
   pub kept-is : p .kept ≡ pos D -ℤ pos (p .instrument .settings .s)
-  pub s-is : p .s ≡ p .instrument .settings .s
   pub divisor-is : p .divisor ≡ divisor (p .instrument .settings)
   pub half-is : p .half ≡ divisor (p .instrument .settings) / 2
   pub limit-is : p .limit ≡ (ceiling + 1) * divisor (p .instrument .settings)

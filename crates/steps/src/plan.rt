@@ -13,14 +13,13 @@ pub(crate) const D: i64 = Settings::D as i64;
 // An instrument, and the factors of a step. With c neighbours, two on a line and four on a grid, a numerator has
 // own = 2D − cq − c²m times the newer value, near = q + 2cm times the neighbours' sum, m times the sum of their sums
 // and kept = D − s times the older value. It is divided by divisor = D + s, of which half is the half: a size that has reached limit with
-// that added is rounded to a value beyond the ceiling. s has 32 bits: of D plus it a compiler sees that it is not 0.
+// that added is rounded to a value beyond the ceiling.
 pub(crate) struct Plan {
     pub(crate) instrument: Instrument,
     pub(crate) own: i64,
     pub(crate) near: i64,
     pub(crate) m: i64,
     pub(crate) kept: i64,
-    pub(crate) s: u32,
     pub(crate) divisor: u64,
     pub(crate) half: u64,
     pub(crate) limit: u64,
@@ -48,7 +47,6 @@ pub(crate) fn make_plan(i: Instrument) -> Plan
         near: q + 2 * count * m,
         m,
         kept: D - s,
-        s: i.settings.s as u32,
         divisor: divisor as u64,
         half: (divisor / 2) as u64,
         limit: ((Settings::CEILING + 1) * divisor) as u64,

@@ -8,8 +8,9 @@ ghost use Rattle.types.specs.declared.Hit.the-variants.{Absent};
 ghost use Rattle.types.specs.Numbers.{ceiling};
 ghost use Rattle.scheme.specs.Lists.{point};
 ghost use Rattle.scheme.specs.Instruments.{plate, kind};
+ghost use Rattle.scheme.specs.Step.{divisor};
 ghost use Rattle.scheme.specs.Refusals.{tooStrong};
-ghost use Rattle.steps.specs.Plan.{AtMost, Ready};
+ghost use Rattle.steps.specs.Plan.{AtMost, Planned, Ready};
 ghost use Rattle.steps.specs.Run.{Filled, Advanced, Stepping, Placed, fourBeside, hitIn};
 ghost use Rattle.steps.specs.Roles.{Steppable, Stepped};
 ghost use Rattle.steps.specs.Plates.{TwoRows, InRow, Readable, secondAt};
@@ -67,6 +68,15 @@ fn second_at(sums: &[i64], rows: SumRows, c: usize, below: i64) -> i64
     sums[here - 1] + sums[here + 1] + sums[above] + below
 }
 
+// The divisor, by a sum that a compiler sees is not 0, so that the loop does not ask.
+fn divisor_seen(plan: Plan) -> u64
+    requires { ⌜ Planned plan ⌝ }
+    ensures { λ r. ⌜ r ≡ divisor (plan .instrument .settings) ⌝ }
+{
+    let s = plan.instrument.settings.s as u32;
+    Settings::D + s as u64
+}
+
 // A point of a row. Once it is done, the sum below it stands for the one above it.
 fn plate_point(
     plan: Plan,
@@ -89,8 +99,7 @@ fn plate_point(
     let second = second_at(sums, rows, c, below);
     let sum = sums[rows.here + c];
     sums[rows.other + c] = below;
-    let d = Settings::D + plan.s as u64;
-    next_point(plan, d, older, newer, at, sum, second, s, out)
+    next_point(plan, divisor_seen(plan), older, newer, at, sum, second, s, out)
 }
 
 // Points of a row, one force on all of them.

@@ -59,9 +59,6 @@ module _ (c : tie.After-count-in) where
 abbrev at-s : tie.After-struct-known3 → tie.After-count-in
 at-s c = c .before .before .before
 
-abbrev at-last : tie.After-struct-known4 → tie.After-count-in
-at-last c = at-s (c .before)
-
 count-in-requires : tie.Need-count-in-requires
 count-in-requires c κs = search needs
 
@@ -108,35 +105,32 @@ sub-t16 : tie.Need-sub-t16
 sub-t16 c = fits (num 65536 ⊟ s# (at-s c)) tt
 
 cast-t17 : tie.Need-cast-t17
-cast-t17 c = record { fits = omega (arith, s-low (at-last c)) }
-
-cast-t18 : tie.Need-cast-t18
-cast-t18 c =
-    let p = at-last c in
+cast-t17 c =
+    let p = at-s c in
     said (λ (z : ℤ). T (nonNeg z) × Fits w64 (natAbs z)) (divisor# p) tt (tt, record { fits = omega (arith, s-low p) })
 
-div-t19 : tie.Need-div-t19
-div-t19 c = (omega arith, fits (divisor# (at-last c) ÷ num 2) tt)
+div-t18 : tie.Need-div-t18
+div-t18 c = (omega arith, fits (divisor# (at-s c) ÷ num 2) tt)
 
-cast-t20 : tie.Need-cast-t20
-cast-t20 c =
-    let p = at-last c in
+cast-t19 : tie.Need-cast-t19
+cast-t19 c =
+    let p = at-s c in
     said (λ (z : ℤ). T (nonNeg z) × Fits w64 (natAbs z)) (divisor# p ÷ num 2) tt (tt, record { fits = omega (arith, s-low p) })
 
-add-t21 : tie.Need-add-t21
-add-t21 c = search needs
+add-t20 : tie.Need-add-t20
+add-t20 c = search needs
 
-mul-t22 : tie.Need-mul-t22
-mul-t22 c = fits (limit# (at-last c)) tt
+mul-t21 : tie.Need-mul-t21
+mul-t21 c = fits (limit# (at-s c)) tt
 
-cast-t23 : tie.Need-cast-t23
-cast-t23 c =
-    let p = at-last c in
+cast-t22 : tie.Need-cast-t22
+cast-t22 c =
+    let p = at-s c in
     said (λ (z : ℤ). T (nonNeg z) × Fits w64 (natAbs z)) (limit# p) tt (tt, record { fits = omega (arith, s-low p) })
 
 returns : tie.Need-returns
 returns c =
-    let p = at-last c in (
+    let p = at-s c in (
       refl,
       record {
         passes = s p .pre;
@@ -144,7 +138,6 @@ returns c =
         near-is = is (near# p) tt;
         m-is = is (m# p) tt;
         kept-is = is (num 65536 ⊟ s# p) tt;
-        s-is = refl;
         divisor-is = ap natAbs (is (divisor# p) tt);
         half-is = ap natAbs (is (divisor# p ÷ num 2) tt);
         limit-is = ap natAbs (is (limit# p) tt);
@@ -171,10 +164,9 @@ make-plan-spec =
     add-t15
     sub-t16
     cast-t17
-    cast-t18
-    div-t19
-    cast-t20
-    add-t21
-    mul-t22
-    cast-t23
+    div-t18
+    cast-t19
+    add-t20
+    mul-t21
+    cast-t22
     returns)

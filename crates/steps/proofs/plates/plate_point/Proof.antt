@@ -17,7 +17,6 @@ use Rattle.steps.specs.Plan.{Ready, Neighbouring}
 use Rattle.steps.specs.Plates.{TwoRows, InRow, Readable, secondAt}
 use Rattle.steps.proofs.Held.{held-below}
 use Rattle.steps.proofs.KindLaws.{wide}
-use Rattle.steps.proofs.PlanLaws.{divisor-sum}
 use Rattle.steps.proofs.BesideLaws.{around-below}
 use Rattle.steps.proofs.PlateLaws.{below, readable, plate-beside, two-next}
 use Rattle.steps.proofs.plates.plate_point.Statement.{statement}
@@ -125,17 +124,14 @@ mul-below c = bytes-fit (c .before .before .before .before .before .before .befo
 slice-set-from-below : tie.Need-slice-set-from-below
 slice-set-from-below c = read (c .before .before .before .before .before .before .before) .other
 
-cast-d : tie.Need-cast-d
-cast-d c = search needs
-
-add-d : tie.Need-add-d
-add-d c = search needs
+divisor-seen-requires : tie.Need-divisor-seen-requires
+divisor-seen-requires c κs = ready (c .before .before .before .before .before .before .before) .planned
 
 next-point-requires : tie.Need-next-point-requires
 next-point-requires c κs =
     let b = c .before .before .before .before .before in
     let s = b .before .before .before .before in
-    ((ready s, beside b), (s .pre .0 .1, first s, last s, divisor-sum (ready s .planned)))
+    ((ready s, beside b), (s .pre .0 .1, first s, last s, c .before .divisor-seen .ensures))
 
 same-length : tie.Need-same-length
 same-length c = search needs
@@ -165,8 +161,7 @@ plate-point-spec =
     add-below
     mul-below
     slice-set-from-below
-    cast-d
-    add-d
+    divisor-seen-requires
     next-point-requires
     same-length
     same-length-2
