@@ -99,7 +99,17 @@ fn plate_point(
     let second = second_at(sums, rows, c, below);
     let sum = sums[rows.here + c];
     sums[rows.other + c] = below;
-    next_point(plan, divisor_seen(plan), older, newer, at, sum, second, s, out)
+    next_point(
+        plan,
+        divisor_seen(plan),
+        older,
+        newer,
+        at,
+        sum,
+        second,
+        s,
+        out,
+    )
 }
 
 // Points of a row, one force on all of them.

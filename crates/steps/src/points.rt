@@ -92,7 +92,17 @@ fn bar_run(plan: Plan, older: &[i64], newer: &[i64], s: Stretch, out: &mut [i64]
     let mut here = sum_at(newer, at);
     while at < s.to {
         let right = sum_at(newer, at + 1);
-        let p = next_point(plan, plan.divisor, older, newer, at, here, left + right, s, out);
+        let p = next_point(
+            plan,
+            plan.divisor,
+            older,
+            newer,
+            at,
+            here,
+            left + right,
+            s,
+            out,
+        );
         if !p.within {
             return p;
         }
