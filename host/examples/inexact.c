@@ -54,7 +54,7 @@ static size_t points_of(const struct buvcsolta_instrument *i)
     return i->rows > 0 && i->columns > MOST_POINTS / i->rows ? 0 : i->columns * i->rows;
 }
 
-/* Blocks of one step, each with its line, up to the first that is refused. The first block of all has no step and passes every check. */
+/* Blocks of one step, each with its line, up to the first that is refused. The first block of all has no step and meets every check. */
 static uint64_t play(const struct buvcsolta_instrument *i, const struct buvcsolta_levels *levels, const struct buvcsolta_hit *hit,
                      uint64_t steps, uint64_t *sum)
 {
@@ -90,9 +90,8 @@ int main(int argc, char **argv)
     levels.older = cells, levels.newer = cells + levels.length, levels.work = levels.newer + levels.length;
     refusal = play(&i, &levels, &hit, steps, &sum);
     free(cells);
-    if (refusal == BUVCSOLTA_NOTHING)
-        printf("sum %" PRIu64 "\n", sum);
-    else
+    printf("sum %" PRIu64 "\n", sum);
+    if (refusal != BUVCSOLTA_NOTHING)
         printf("refused: %s\n", buvcsolta_refusal_text(refusal));
     return fflush(stdout) != 0 || refusal != BUVCSOLTA_NOTHING;
 }

@@ -77,9 +77,9 @@ enum buvcsolta_refusal {
  * pick_up:            the point whose value over 2^28, to the nearest whole number, halves away from zero, is a step's sample.
  * hit:                0 for none; any other number: force units at point, in the first step.
  * steps:              becomes the number of steps done.
- * inexact:            becomes the sum, over the steps done, of each step's inexact points: moving points whose numerator was not a
- *                     multiple of 65536 + s. It stays at 2^64 - 1 once it would pass that. While the counts of all blocks from the
- *                     start are 0, nothing was rounded and the levels are those of the unrounded scheme itself.
+ * inexact:            becomes how many points the steps done had to round, summed over the steps and held at 2^64 - 1: moving points
+ *                     whose next value, a numerator over 65536 + s, was no whole number. While it is 0 in every block since the start
+ *                     or the last pluck, the levels are those of the unrounded scheme itself.
  *
  * 0 and 13: older and newer are the levels after exactly *steps steps, their samples are written, later places are unchanged, and
  * work is all zeros. 1, 2, 4 to 9, 11 and 12: *steps and *inexact are 0 and everything lent is unchanged. With samples_length 0 the

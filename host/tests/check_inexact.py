@@ -81,7 +81,7 @@ def wanted(instrument, steps, point, force, text):
     for step, samples in enumerate([[], *([0] for _ in range(steps))]):
         refusal, _, inexact, *levels, _ = Reference().block(*instrument, *levels, samples, 0, int(step < 2), point, force)
         if refusal:
-            return 1, [*lines, f"refused: {text[refusal]}"]
+            return 1, [*lines, f"sum {total}", f"refused: {text[refusal]}"]
         lines += [f"{step} {inexact}"] if step else []
         total += inexact
     return 0, [*lines, f"sum {total}"]

@@ -15,8 +15,8 @@ use Rattle.scheme.specs.Book.{unroundedAt, unroundedStep, unroundedSteps
 use Rattle.scheme.specs.Book.{leaves, bookCall, sumCall, calls}
 use Rattle.scheme.specs.Examples.{A, B, C, D, E, F, G, H, I, J, ExamplesHold}
 use Rattle.scheme.specs.FurtherExamples.{freeEndTwice, halfFree, barWithLoss, freeWithHit, fixedRing, roundRing, membraneStep}
-use Rattle.scheme.specs.FurtherExamples.{wholes, rests, countsOfExamples, fixedNotCounted, smallRests, countOfSteps}
-use Rattle.scheme.specs.FurtherExamples.{countBeforeEnd, countHeld}
+use Rattle.scheme.specs.FurtherExamples.{wholes, remainders, countsOfExamples, fixedNotCounted, smallRemainders, countOfSteps}
+use Rattle.scheme.specs.FurtherExamples.{byDivisor, freeEndsCounted, countBeforeEnd, countHeld}
 use Rattle.scheme.specs.FurtherExamples.{numbers, kinds, lineSizes, membraneSizes, roundSizes, coefficients, stability, stiffness}
 use Rattle.scheme.specs.FurtherExamples.{lengths, hits, forces, pickUps, highPoints, fixedPoints, pluckKinds, pluckLengths}
 use Rattle.scheme.specs.FurtherExamples.{pluckCentres, pluckHeights, widths, readingRefusals, lowestFirst, samples, readings, plucked}
@@ -27,8 +27,8 @@ use Rattle.scheme.specs.PlateExamples as Plates
 use Rattle.scheme.specs.PlateExamples.{PlatesHold}
 
 pub examples-hold : ExamplesHold
-unfolding tabulate only kindOf countBelow sumOver sizeIn stableIn roundEdge fixedIn moving freeIn beside neighbours laplacian innerLaplacian
-    numerator roundAway nextAt nextLevel instrumentRefusal
+unfolding tabulate only kindOf countBelow sumOver sizeIn stableIn roundEdge fixedIn moving freeIn beside neighbours laplacian
+    innerLaplacian numerator roundAway nextAt nextLevel instrumentRefusal
 examples-hold A = refl
 examples-hold B = refl
 examples-hold C = refl
@@ -41,10 +41,11 @@ examples-hold I = (λ c r e. simp e, λ c r e. simp e)
 examples-hold J = (refl, refl)
 
 pub further-hold : FurtherHold
-unfolding sum sumOver tabulate someBelow countBelow only kindOf sizeIn stableIn roundEdge fixedIn moving freeIn beside neighbours
-    laplacian innerLaplacian numerator roundAway nextAt nextLevel inexactAt inexactIn someBeyond sampleOf floatOf table pluckAt
-    pluckLevel fixedNotZero blockRefusal pluckRefusal readingRefusal instrumentRefusal play capped block pluck reading weight squares later pairSum laplacianSum energy
-    unroundedAt unroundedStep unroundedSteps goesOn bookBlock bookPluck sumBlock sumPluck leaves bookCall sumCall calls ofBits div ofInt
+unfolding sum sumOver tabulate someBelow countBelow only kindOf sizeIn stableIn roundEdge fixedIn moving freeIn beside neighbours laplacian
+    innerLaplacian numerator roundAway nextAt nextLevel inexactAt inexactIn someBeyond sampleOf floatOf table pluckAt pluckLevel
+    fixedNotZero blockRefusal pluckRefusal readingRefusal instrumentRefusal play capped block pluck reading weight squares later pairSum
+    laplacianSum energy unroundedAt unroundedStep unroundedSteps goesOn bookBlock bookPluck sumBlock sumPluck leaves bookCall sumCall calls
+    ofBits div ofInt
 further-hold freeEndTwice = refl
 further-hold halfFree = (refl, refl)
 further-hold barWithLoss = refl
@@ -53,13 +54,15 @@ further-hold fixedRing = refl
 further-hold roundRing = refl
 further-hold membraneStep = refl
 further-hold wholes = (refl, refl)
-further-hold rests = (refl, refl)
+further-hold remainders = (refl, refl)
 further-hold countsOfExamples = refl
 further-hold fixedNotCounted = refl
-further-hold smallRests = refl
+further-hold smallRemainders = refl
+further-hold byDivisor = refl
+further-hold freeEndsCounted = refl
 further-hold countOfSteps = refl
-further-hold countBeforeEnd = refl
-further-hold countHeld = refl
+further-hold countBeforeEnd = (refl, refl)
+further-hold countHeld = (refl, refl)
 further-hold numbers = refl
 further-hold kinds = refl
 further-hold lineSizes = refl
@@ -104,9 +107,9 @@ further-hold halfOff = record { all-points = refl; near = record { le = tt } }
 
 pub plates-hold : PlatesHold
 unfolding sum sumOver tabulate someBelow only countBelow kindOf sizeIn stableIn roundEdge fixedIn moving freeIn beside neighbours laplacian
-    innerLaplacian numerator roundAway nextAt nextLevel inexactAt inexactIn someBeyond sampleOf fixedNotZero blockRefusal
-    pluckRefusal readingRefusal instrumentRefusal play capped block weight squares later pairSum laplacianSum energy unroundedAt unroundedStep unroundedSteps goesOn bookBlock
-    sumBlock leaves bookCall sumCall calls
+    innerLaplacian numerator roundAway nextAt nextLevel inexactAt inexactIn someBeyond sampleOf fixedNotZero blockRefusal pluckRefusal
+    readingRefusal instrumentRefusal play capped block weight squares later pairSum laplacianSum energy unroundedAt unroundedStep
+    unroundedSteps goesOn bookBlock sumBlock leaves bookCall sumCall calls
 plates-hold Plates.middle = refl
 plates-hold Plates.corner = refl
 plates-hold Plates.smallest = refl

@@ -30,7 +30,7 @@ accepted r = eqb (number r) 0
 
 -- ---- a block
 
--- what the steps of a block answer and leave
+-- what the steps of a block answer and leave; here the inexact points are their whole sum, which a block's answer holds
 pub record AfterSteps : Type 0 where
   pub answer : BlockAnswer
   pub older : List ℤ

@@ -2,7 +2,7 @@
 -- Its proofs are in proofs/: `exact-since`, `exact-from-start`, `program-exact-since`, `program-exact-from-start`, `never-inexact`.
 use mathlib.Core.Path.{_≡_}
 use mathlib.Core.List.{List}
-use Prim.Native.Nat.{ℕ}
+use Prim.Native.Nat.{ℕ, _*_}
 use lib.IntN.{ℤ, pos}
 use Rattle.types.specs.declared.Instrument.{Instrument}
 use Rattle.types.specs.declared.Hit.{Hit}
@@ -30,7 +30,8 @@ NoneInexact t k o = inexactOf o ≡ 0
 abbrev pub ExactSince : Type 0
 ExactSince = (older newer : List ℤ) (ks : List Call) → let t = calls ks (start older newer) .state in t .inexact ≡ 0 → Unrounded t
 
--- "A user whose sum stays 0 from the start": where every call of the list answered 0
+-- "A user whose sum stays 0 from the start": where every call of the list answered 0. Of every list, so after each of its calls too: what
+-- the book takes at a change of settings is then the unrounded scheme's own.
 abbrev pub ExactFromStart : Type 0
 ExactFromStart = (older newer : List ℤ) (ks : List Call) → EachCall NoneInexact ks (start older newer)
     → Unrounded (calls ks (start older newer) .state)
@@ -44,7 +45,7 @@ abbrev pub ProgramExactFromStart : Type 0
 ProgramExactFromStart = (older newer : List ℤ) (ms : List Made) → AllKept ms (start older newer) →
     EachMade NoneInexact ms (start older newer) → Unrounded (afterAll ms (start older newer))
 
--- R = 1 without stiffness and loss: no step has an inexact point
+-- R² a whole number, without stiffness and loss (R = 1, or q 0): no step has an inexact point
 abbrev pub NeverInexact : Type 0
-NeverInexact = (i : Instrument) (h : Hit) (older newer : List ℤ) → i .settings .q ≡ D → i .settings .m ≡ 0 → i .settings .s ≡ 0
+NeverInexact = (i : Instrument) (h : Hit) (older newer : List ℤ) (r : ℕ) → i .settings .q ≡ r * D → i .settings .m ≡ 0 → i .settings .s ≡ 0
     → inexactIn i h older newer ≡ 0

@@ -17,10 +17,10 @@ use Rattle.types.specs.declared.Refusal.the-variants.{FixedNotZero, NextBeyond}
 use Rattle.types.specs.Numbers.{ceiling, number}
 use Rattle.pluck_table.specs.Table.{table}
 use Rattle.scheme.specs.Lists.{point}
-use Rattle.scheme.specs.Step.{roundAway, nextLevel, restOf, inexactIn, sampleOf}
+use Rattle.scheme.specs.Step.{roundAway, nextLevel, remainderOf, inexactIn, sampleOf}
 use Rattle.scheme.specs.Pluck.{pluckLevel}
 use Rattle.scheme.specs.Refusals.{wrongLength, instrumentRefusal, blockRefusal, pluckRefusal, readingRefusal}
-use Rattle.scheme.specs.Calls.{AfterBlock, capped, block, pluck, reading}
+use Rattle.scheme.specs.Calls.{AfterBlock, capped, reported, block, pluck, reading}
 use Rattle.scheme.specs.Energy.{energy}
 use Rattle.scheme.specs.Book.{stepOf, Call, blockCall, pluckCall, blockOutcome, pluckOutcome, AfterCalls, State, start, calls}
 use Rattle.scheme.specs.Claims.{distance, bound, Near}
@@ -118,7 +118,8 @@ pub data Further : Type 0 where
   -- one step
   freeEndTwice halfFree barWithLoss freeWithHit fixedRing roundRing membraneStep : Further
   -- remainders and counts
-  wholes rests countsOfExamples fixedNotCounted smallRests countOfSteps countBeforeEnd countHeld : Further
+  wholes remainders countsOfExamples fixedNotCounted smallRemainders byDivisor freeEndsCounted countOfSteps countBeforeEnd
+      countHeld : Further
   -- 1, 2, 4 and 5
   numbers kinds lineSizes membraneSizes roundSizes coefficients stability stiffness : Further
   -- the refusals of a block, a pluck and a reading
@@ -134,11 +135,11 @@ abbrev count : Instrument → (newer older : List ℤ) → ℕ
 count i newer older = inexactIn i Absent older newer
 
 -- halves, a little more and less, multiples: over D, and over the odd D + 5
-abbrev evenOnes : List ℤ
-evenOnes = pos 32768 ∷ minus 32768 ∷ pos 32767 ∷ minus 98305 ∷ pos 65536 ∷ minus 131072 ∷ pos 0 ∷ []
+abbrev overD : List ℤ
+overD = pos 32768 ∷ minus 32768 ∷ pos 32767 ∷ minus 98305 ∷ pos 65536 ∷ minus 131072 ∷ pos 0 ∷ []
 
-abbrev oddOnes : List ℤ
-oddOnes = pos 32770 ∷ pos 32771 ∷ minus 32770 ∷ minus 32771 ∷ pos 65541 ∷ []
+abbrev overOdd : List ℤ
+overOdd = pos 32770 ∷ pos 32771 ∷ minus 32770 ∷ minus 32771 ∷ pos 65541 ∷ []
 
 abbrev pub shows : Further → Type 0
 -- "there newer "0 4 0" over zeros must give "8 0 8""
@@ -165,12 +166,12 @@ shows membraneStep =
     ∷ pos 0 ∷ pos 0 ∷ pos 0 ∷ pos 0 ∷ []) []
     ≡ pos 0 ∷ pos 0 ∷ pos 0 ∷ pos 0 ∷ pos 0 ∷ pos 5 ∷ pos 9 ∷ pos 0 ∷ pos 0 ∷ minus 3 ∷ pos 2 ∷ pos 0 ∷ pos 0 ∷ pos 0 ∷ pos 0 ∷ pos 0 ∷ []
 shows wholes =
-    (map (λ n. roundAway n 65536) evenOnes ≡ pos 1 ∷ minus 1 ∷ pos 0 ∷ minus 2 ∷ pos 1 ∷ minus 2 ∷ pos 0 ∷ []) ×
-    (map (λ n. roundAway n 65541) oddOnes ≡ pos 0 ∷ pos 1 ∷ pos 0 ∷ minus 1 ∷ pos 1 ∷ [])
+    (map (λ n. roundAway n 65536) overD ≡ pos 1 ∷ minus 1 ∷ pos 0 ∷ minus 2 ∷ pos 1 ∷ minus 2 ∷ pos 0 ∷ []) ×
+    (map (λ n. roundAway n 65541) overOdd ≡ pos 0 ∷ pos 1 ∷ pos 0 ∷ minus 1 ∷ pos 1 ∷ [])
 -- "numerator less whole number × (D+s)"
-shows rests =
-    (map (λ n. restOf n 65536) evenOnes ≡ minus 32768 ∷ pos 32768 ∷ pos 32767 ∷ pos 32767 ∷ pos 0 ∷ pos 0 ∷ pos 0 ∷ []) ×
-    (map (λ n. restOf n 65541) oddOnes ≡ pos 32770 ∷ minus 32770 ∷ minus 32770 ∷ pos 32770 ∷ pos 0 ∷ [])
+shows remainders =
+    (map (λ n. remainderOf n 65536) overD ≡ minus 32768 ∷ pos 32768 ∷ pos 32767 ∷ pos 32767 ∷ pos 0 ∷ pos 0 ∷ pos 0 ∷ []) ×
+    (map (λ n. remainderOf n 65541) overOdd ≡ pos 32770 ∷ minus 32770 ∷ minus 32770 ∷ pos 32770 ∷ pos 0 ∷ [])
 -- A to G
 shows countsOfExamples =
     count (instrument 1 3 1 65536 0 0) (middle3 (pos 1000)) (middle3 (pos 1000)) ∷
@@ -184,10 +185,17 @@ shows countsOfExamples =
 -- "moving points": at the fixed ends the numerator would be 16384
 shows fixedNotCounted = count (instrument 1 4 1 16384 0 0) (level (0 ∷ 1 ∷ 1 ∷ 0 ∷ [])) rest ≡ 2
 -- remainders of −2 and 1, of 2 and −1
-shows smallRests =
+shows smallRemainders =
     count (instrument 1 4 1 1 0 0) (level (0 ∷ 1 ∷ 0 ∷ 0 ∷ [])) rest ∷
     count (instrument 1 4 1 1 0 0) (pos 0 ∷ minus 1 ∷ pos 0 ∷ pos 0 ∷ []) rest ∷ []
     ≡ 2 ∷ 2 ∷ []
+-- "a multiple of D+s", the force in it: a numerator of D over 2D, and one of D + 1 over D + 1
+shows byDivisor =
+    inexactIn (instrument 1 3 1 0 0 65536) (At 1 (pos 1)) (middle3 (pos 0)) (middle3 (pos 0)) ∷
+    count (instrument 1 3 1 0 0 1) (middle3 (pos 1)) (middle3 (pos 1)) ∷ []
+    ≡ 1 ∷ 0 ∷ []
+-- all points of a free string
+shows freeEndsCounted = count halves zigzag20 still20 ≡ 20
 -- "the sum over its steps done": 0, 0, 2 and 3
 shows countOfSteps =
     block (instrument 1 5 1 16384 0 0) five five five (level (7 ∷ 7 ∷ 7 ∷ 7 ∷ [])) 1 (At 1 (pos 4))
@@ -198,9 +206,9 @@ shows countOfSteps =
       work = five;
       samples = level (0 ∷ 0 ∷ 0 ∷ 0 ∷ []);
     }
--- 13 at the second step, in which two points would have been inexact as well
+-- 13 at the second step, in which two points would have been inexact as well; 13 at the first
 shows countBeforeEnd =
-    block (instrument 1 4 1 1 0 0) (pos 0 ∷ minus 1 ∷ pos 6000000000000 ∷ pos 0 ∷ []) (level (0 ∷ 1 ∷ 7000000000000 ∷ 0 ∷ []))
+    (block (instrument 1 4 1 1 0 0) (pos 0 ∷ minus 1 ∷ pos 6000000000000 ∷ pos 0 ∷ []) (level (0 ∷ 1 ∷ 7000000000000 ∷ 0 ∷ []))
     rest (level (7 ∷ 8 ∷ 9 ∷ [])) 2 Absent
     ≡ record {
       answer = record { steps = 1; inexact = 2; refusal = NextBeyond };
@@ -208,10 +216,19 @@ shows countBeforeEnd =
       newer = level (0 ∷ 106811526 ∷ 7999786376953 ∷ 0 ∷ []);
       work = rest;
       samples = level (29802 ∷ 8 ∷ 9 ∷ []);
-    }
--- "held at 2⁶⁴ − 1"
-shows countHeld = map capped (0 ∷ 2 ^ 63 ∷ (2 ^ 64 - 1) ∷ 2 ^ 64 ∷ 2 ^ 65 ∷ [])
-    ≡ 0 ∷ 9223372036854775808 ∷ 18446744073709551615 ∷ 18446744073709551615 ∷ 18446744073709551615 ∷ []
+    }) ×
+    (block (instrument 1 4 1 1 0 0) (level (0 ∷ 1 ∷ 7000000000000 ∷ 0 ∷ [])) (level (0 ∷ 106811526 ∷ 7999786376953 ∷ 0 ∷ []))
+    rest (level (7 ∷ 8 ∷ 9 ∷ [])) 2 Absent .answer
+    ≡ record { steps = 0; inexact = 0; refusal = NextBeyond })
+-- "held at 2⁶⁴ − 1", and in a block's answer
+shows countHeld =
+    (map capped (0 ∷ 2 ^ 63 ∷ (2 ^ 64 - 1) ∷ 2 ^ 64 ∷ 2 ^ 65 ∷ [])
+    ≡ 0 ∷ 9223372036854775808 ∷ 18446744073709551615 ∷ 18446744073709551615 ∷ 18446744073709551615 ∷ []) ×
+    (reported (record { steps = 7; inexact = 2 ^ 64; refusal = Nothing }) ≡ record {
+      steps = 7;
+      inexact = 18446744073709551615;
+      refusal = Nothing;
+    })
 shows numbers =
     map number (Nothing ∷ UnknownKind ∷ WrongSize ∷ SheetNumber ∷ Coefficient ∷ Unstable ∷ WrongLength ∷ NotMoving ∷ TooStrong ∷ PickUp
     ∷ HalfWidth ∷ PointBeyond ∷ FixedNotZero ∷ NextBeyond ∷ [])
@@ -391,7 +408,7 @@ shows energies =
     ≡ pos 8139968) ×
     (energy (instrument 5 4 3 20000 0 7) (point (pos 0 ∷ pos 0 ∷ pos 0 ∷ pos 0 ∷ pos 0 ∷ pos 5 ∷ minus 3 ∷ pos 0 ∷ pos 0 ∷ pos 0 ∷ pos 0
     ∷ pos 0 ∷ [])) (point (level (0 ∷ 0 ∷ 0 ∷ 0 ∷ 0 ∷ 2 ∷ 9 ∷ 0 ∷ 0 ∷ 0 ∷ 0 ∷ 0 ∷ []))) ≡ pos 15774016)
-shows bookGoesOn = after (twoSteps ∷ refused ∷ oneStep ∷ []) ≡ record {
+shows bookGoesOn = after (twoSteps ∷ refused ∷ pluckTurnedDown ∷ noSteps ∷ oneStep ∷ []) ≡ record {
   older = level (0 ∷ 19 ∷ 13 ∷ 0 ∷ []);
   newer = level (0 ∷ 22 ∷ 16 ∷ 0 ∷ []);
   book = record {
@@ -430,9 +447,10 @@ shows pluckThenStep = after (twoSteps ∷ plucks ∷ oneStep ∷ []) ≡ record 
   };
   inexact = 2;
 }
-shows outcomes = fromHere (twoSteps ∷ refused ∷ plucks ∷ pluckTurnedDown ∷ []) .outcomes ≡
+shows outcomes = fromHere (twoSteps ∷ refused ∷ noSteps ∷ plucks ∷ pluckTurnedDown ∷ []) .outcomes ≡
     blockOutcome (record { steps = 2; inexact = 4; refusal = Nothing }) rest (level (0 ∷ 0 ∷ [])) ∷
     blockOutcome (record { steps = 0; inexact = 0; refusal = PickUp }) nines (level (0 ∷ 0 ∷ [])) ∷
+    blockOutcome (record { steps = 0; inexact = 0; refusal = Nothing }) rest [] ∷
     pluckOutcome Nothing ∷
     pluckOutcome NotMoving ∷ []
 -- the distance of `bookGoesOn`, times 2 × (D+s)⁶, and its bound times 32 × (D+s)⁶

@@ -77,20 +77,23 @@ nextLevel i h older newer = tabulate (points (i .grid)) (nextAt i h older newer)
 -- ---- what rounding leaves
 
 -- "its remainder (numerator less whole number × (D+s))"
-abbrev pub restOf : ℤ → ℕ → ℤ
-restOf n d = n -ℤ roundAway n d *ℤ pos d
+abbrev pub remainderOf : ℤ → ℕ → ℤ
+remainderOf n d = n -ℤ roundAway n d *ℤ pos d
 
 -- "a multiple of D+s"
 abbrev pub isMultiple : ℤ → ℕ → Bool
 isMultiple n d = eqb (natAbs n % d) 0
 
 -- The remainder is at most half of the divisor; a multiple is some whole number of divisors, and exactly then the remainder is 0.
--- Proved as `rest-rule`.
-pub record RestRule (n : ℤ) (d : ℕ) : Type 0 where
-  pub small : 2 * natAbs (restOf n d) ≤ d
-  pub none : isMultiple n d ≡ true → restOf n d ≡ pos 0
-  pub whole : restOf n d ≡ pos 0 → n ≡ roundAway n d *ℤ pos d
+pub record RemainderRule (n : ℤ) (d : ℕ) : Type 0 where
+  pub small : 2 * natAbs (remainderOf n d) ≤ d
+  pub none : isMultiple n d ≡ true → remainderOf n d ≡ pos 0
+  pub whole : remainderOf n d ≡ pos 0 → n ≡ roundAway n d *ℤ pos d
   pub multiple : (w : ℤ) → n ≡ w *ℤ pos d → isMultiple n d ≡ true
+
+-- of every number and every divisor; proved as `remainder-rule`
+abbrev pub RemaindersKeepRule : Type 0
+RemaindersKeepRule = (n : ℤ) (d : ℕ) → 0 < d → RemainderRule n d
 
 -- "moving points whose numerator was not a multiple of D+s"
 unfoldable pub inexactAt : Instrument → Hit → (older newer : List ℤ) → ℕ → Bool

@@ -6,7 +6,7 @@ ghost use lib.IntN.{pos, negℤ, natAbs, _-ℤ_, _*ℤ_};
 ghost use lib.Signed.{ltZ};
 ghost use Rattle.types.specs.Numbers.{ceiling};
 ghost use Rattle.scheme.specs.Instruments.{beyond};
-ghost use Rattle.scheme.specs.Step.{roundAway, restOf, sampleOf, numeratorOf, divisor};
+ghost use Rattle.scheme.specs.Step.{roundAway, remainderOf, sampleOf, numeratorOf, divisor};
 ghost use Rattle.steps.specs.Plan.{countOf, signOf, mirrorOf, bendingOf, Planned, Dividable, Updatable};
 use crate::plan::D;
 use crate::plan::Plan;
@@ -47,7 +47,7 @@ pub(crate) fn is_within(plan: Plan, n: i64) -> bool
 // A whole number, and what rounding to it leaves: the number less the whole number times the divisor.
 pub(crate) struct Rounded {
     pub(crate) whole: i64,
-    pub(crate) rest: i64,
+    pub(crate) remainder: i64,
 }
 
 // x with the sign of n.
@@ -62,14 +62,14 @@ fn signed(x: i64, n: i64) -> i64
 // with its sign.
 pub(crate) fn round_away(n: i64, d: u64, half: u64) -> Rounded
     requires { ⌜ Dividable n d half ⌝ }
-    ensures { λ r. ⌜ (r .whole ≡ roundAway n d) × (r .rest ≡ restOf n d) ⌝ }
+    ensures { λ r. ⌜ (r .whole ≡ roundAway n d) × (r .remainder ≡ remainderOf n d) ⌝ }
 {
     let size = raised(n, half);
     let quotient = (size / d) as i64;
     let left = (size % d) as i64 - half as i64;
     Rounded {
         whole: signed(quotient, n),
-        rest: signed(left, n),
+        remainder: signed(left, n),
     }
 }
 

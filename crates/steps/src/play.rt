@@ -11,7 +11,7 @@ use crate::plan::Plan;
 use crate::roles::sample_in_roles;
 use crate::roles::step_in_roles;
 use crate::roles::turned;
-use counts::held_sum;
+use counts::capped_sum;
 use types::Hit;
 
 // The hit acts in the first step alone.
@@ -67,7 +67,7 @@ pub(crate) fn play(
                 phase,
             };
         }
-        inexact = held_sum(inexact, p.inexact);
+        inexact = capped_sum(inexact, p.inexact);
         let v = sample_in_roles(older, newer, work, pick, phase);
         put(samples, j, v);
         phase = turned(phase);

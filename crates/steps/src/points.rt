@@ -50,7 +50,7 @@ pub(crate) fn next_point(
     let rounded = round_away(n, d, plan.half);
     let whole = rounded.whole;
     out[at - s.base] = whole;
-    let inexact = if rounded.rest == 0 { 0 } else { 1 };
+    let inexact = if rounded.remainder == 0 { 0 } else { 1 };
     Progress {
         within: true,
         inexact,

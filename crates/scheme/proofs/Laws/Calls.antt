@@ -179,7 +179,7 @@ capped-zero n e = go (decLt n (2 ^ 64))
     go (yes h) = sym (capped-low n h) ∙ e
     go (no h) = absurd (omega (arith, e, capped-high n (omega (arith, h))))
 
--- held or not, a sum is held in the end
+-- a sum that is held on the way is held alike in the end
 pub capped-add : (a b : ℕ) → capped (capped a + b) ≡ capped (a + b)
 capped-add a b = go (decLt a (2 ^ 64))
   where

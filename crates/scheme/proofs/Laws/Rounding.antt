@@ -1,4 +1,4 @@
--- Laws of `roundAway`, `restOf` and `sampleOf`.
+-- Laws of `roundAway`, `remainderOf` and `sampleOf`.
 use mathlib.Core.Path.{_≡_, refl, sym, ap, _∙_, subst}
 use mathlib.Core.Bool.{Bool, true, false, cond, not, true≢false}
 use Prim.Native.Nat.{ℕ, zero, suc, _+_, _-_, _*_, _/_, _%_, _^_, _≤_, _<_, zero-le}
@@ -13,7 +13,7 @@ use lib.Signed.{ltZ}
 use Rattle.integers.proofs.Ring.{#_, ⊝_, _⊕_, _⊖_, _⊗_, _≈_, ring}
 use Rattle.integers.proofs.Size.{cond-ind, size-neg, size-mul}
 use Rattle.scheme.proofs.Laws.Bools.{not-so}
-use Rattle.scheme.specs.Step.{nearest, roundAway, restOf, isMultiple, RestRule, sampleOf, SampleRule}
+use Rattle.scheme.specs.Step.{nearest, roundAway, remainderOf, isMultiple, RemaindersKeepRule, sampleOf, SampleRule}
 
 near : (m k q : ℕ) → 0 < k → (2 * m + k) / (2 * k) ≡ q → (2 * (k * q) ≤ 2 * m + k) × (2 * m ≤ 2 * (k * q) + k)
 near m k q h e =
@@ -122,8 +122,8 @@ whole-of n d h e = go n (natAbs n / d) (div-add-mod' (natAbs n) d) (eqb-true (na
         ap (λ (q : ℕ). negℤ (pos q) *ℤ pos d) (near-is (suc m) q (suc m % d) f z) ∙
         ring 2 (λ q d. (⊝ q) ⊗ d ≈ ⊝ (q ⊗ d)) refl (pos q) (pos d) ∙ ap (λ (k : ℕ). negℤ (pos k)) whole
 
-pub rest-rule : (n : ℤ) (d : ℕ) → 0 < d → RestRule n d
-rest-rule n d h = record {
+pub remainder-rule : RemaindersKeepRule
+remainder-rule n d h = record {
   small = subst (λ (k : ℕ). 2 * k ≤ d)
       (sym (size-neg (pos d *ℤ roundAway n d -ℤ n)) ∙
       ap natAbs (ring 3 (λ n d w. ⊝ (d ⊗ w ⊖ n) ≈ n ⊖ w ⊗ d) refl n (pos d) (roundAway n d))) (round-near n d h);
@@ -135,16 +135,16 @@ rest-rule n d h = record {
 }
 
 -- by the remainder
-pub rest-none : (n : ℤ) (d : ℕ) → 0 < d → restOf n d ≡ pos 0 → isMultiple n d ≡ true
-rest-none n d h e = let rule = rest-rule n d h in rule .multiple (roundAway n d) (rule .whole e)
+pub remainder-none : (n : ℤ) (d : ℕ) → 0 < d → remainderOf n d ≡ pos 0 → isMultiple n d ≡ true
+remainder-none n d h e = let rule = remainder-rule n d h in rule .multiple (roundAway n d) (rule .whole e)
 
-pub rest-some : (n : ℤ) (d : ℕ) → 0 < d → (restOf n d ≡ pos 0 → ⊥) → isMultiple n d ≡ false
-rest-some n d h e = not-so (λ t. e (rest-rule n d h .none t))
+pub remainder-some : (n : ℤ) (d : ℕ) → 0 < d → (remainderOf n d ≡ pos 0 → ⊥) → isMultiple n d ≡ false
+remainder-some n d h e = not-so (λ t. e (remainder-rule n d h .none t))
 
 -- as code computes it: the remainder of the quotient that is cut, less half of d, with the sign of n
-pub rest-signed : (n : ℤ) (d : ℕ) → 0 < d → let z : ℤ = pos ((natAbs n + d / 2) % d) -ℤ pos (d / 2) in
-    cond (ltZ n (pos 0)) (negℤ z) z ≡ restOf n d
-rest-signed n d h =
+pub remainder-signed : (n : ℤ) (d : ℕ) → 0 < d → let z : ℤ = pos ((natAbs n + d / 2) % d) -ℤ pos (d / 2) in
+    cond (ltZ n (pos 0)) (negℤ z) z ≡ remainderOf n d
+remainder-signed n d h =
     go n ((natAbs n + d / 2) / d) ((natAbs n + d / 2) % d) (div-add-mod' (natAbs n + d / 2) d) ∙
     ap (λ z. n -ℤ z *ℤ pos d) (round-signed n d h)
   where

@@ -1,4 +1,4 @@
--- Where no count has been answered since the book took its levels, the levels are the book's: proved once over the effects of calls.
+-- Where every count answered since the book took its levels is 0, the levels are the book's: proved once over the effects of calls.
 use mathlib.Core.Path.{_≡_, refl, sym, ap, ap₂, _∙_, subst, fun-ext}
 use mathlib.Core.Bool.{Bool, true, false, cond, not, _&&_, true≢false}
 use mathlib.Core.List.{List, [], _∷_}
@@ -26,7 +26,7 @@ use Rattle.scheme.specs.Exact.{bookScale, Unrounded, NoneInexact, ExactS
 use Rattle.scheme.specs.Exact.{ProgramExactFromStart, NeverInexact}
 use Rattle.scheme.proofs.Laws.Bools.{cases}
 use Rattle.scheme.proofs.Laws.Lists.{point-scaled, times-one, times-times, times-tabulate, count-none, count-zero}
-use Rattle.scheme.proofs.Laws.Rounding.{rest-rule}
+use Rattle.scheme.proofs.Laws.Rounding.{remainder-rule}
 use Rattle.scheme.proofs.Laws.Step.{numerator-scale}
 use Rattle.scheme.proofs.Laws.Calls.{capped-zero}
 use Rattle.scheme.proofs.Theorems.Effects.{stepped, Effect, nothing, steps, overwrites, afterCall, list-keeps}
@@ -43,7 +43,7 @@ unfolding inexactAt
 exact-point i h older newer k m e =
     let n : ℤ = numerator i (point newer) (point older) (forceOf h) k in
     let d : ℕ = divisor (i .settings) in
-    let rule = rest-rule n d (omega arith) in
+    let rule = remainder-rule n d (omega arith) in
     sym (rule .whole (rule .none (multiple (isMultiple n d) (subst (λ (t : Bool). (t && not (isMultiple n d)) ≡ false) m e))))
   where
     multiple : (t : Bool) → not t ≡ false → t ≡ true
@@ -206,11 +206,11 @@ pub program-exact-from-start : ProgramExactFromStart
 program-exact-from-start older newer ms kept each =
     program-exact-since older newer ms kept (made-stay ms (start older newer) each refl)
 
--- ---- R = 1 without stiffness and loss: every numerator is some whole number of D
+-- ---- R² a whole number, without stiffness and loss: every numerator is some whole number of D
 
 pub never-inexact : NeverInexact
 unfolding inexactIn inexactAt numerator
-never-inexact i h older newer q m s =
+never-inexact i h older newer r q m s =
     count-none (inexactAt i h older newer) (points (i .grid))
     (λ k l. cases (λ b. (b && not (whole k)) ≡ false) (moving (i .grid) k) (λ t. ap not (multiple k)) (λ t. refl))
   where
@@ -221,13 +221,13 @@ never-inexact i h older newer q m s =
     whole k = isMultiple (num k) (divisor (i .settings))
 
     divided : (u l b o f : ℤ) → numeratorOf (i .settings) u l b o f
-        ≡ (pos 2 *ℤ u +ℤ l -ℤ o +ℤ f) *ℤ pos (divisor (i .settings))
+        ≡ (pos 2 *ℤ u +ℤ pos r *ℤ l -ℤ o +ℤ f) *ℤ pos (divisor (i .settings))
     divided u l b o f =
         (λ x. numeratorOf (record { q = q x; m = m x; s = s x }) u l b o f) ∙
-        ring 5 (λ u l b o f. # (2 * D) ⊗ u ⊕ # D ⊗ l ⊖ # 0 ⊗ b ⊖ (# D ⊖ # 0) ⊗ o ⊕ # D ⊗ f ≈ (# 2 ⊗ u ⊕ l ⊖ o ⊕ f) ⊗ # D) refl u l b o f ∙
-        ap (λ (n : ℕ). (pos 2 *ℤ u +ℤ l -ℤ o +ℤ f) *ℤ pos (D + n)) (sym s)
+        ring 6 (λ r u l b o f. # (2 * D) ⊗ u ⊕ (r ⊗ # D) ⊗ l ⊖ # 0 ⊗ b ⊖ (# D ⊖ # 0) ⊗ o ⊕ # D ⊗ f ≈ (# 2 ⊗ u ⊕ r ⊗ l ⊖ o ⊕ f) ⊗ # D) refl
+        (pos r) u l b o f ∙ ap (λ (n : ℕ). (pos 2 *ℤ u +ℤ pos r *ℤ l -ℤ o +ℤ f) *ℤ pos (D + n)) (sym s)
 
     multiple : (k : ℕ) → whole k ≡ true
-    multiple k = rest-rule (num k) (divisor (i .settings)) (omega arith) .multiple
-        (pos 2 *ℤ point newer k +ℤ laplacian (i .grid) (point newer) k -ℤ point older k +ℤ forceOf h k)
+    multiple k = remainder-rule (num k) (divisor (i .settings)) (omega arith) .multiple
+        (pos 2 *ℤ point newer k +ℤ pos r *ℤ laplacian (i .grid) (point newer) k -ℤ point older k +ℤ forceOf h k)
         (divided (point newer k) (laplacian (i .grid) (point newer) k) (biharmonic (i .grid) (point newer) k) (point older k) (forceOf h k))

@@ -9,8 +9,8 @@ use lib.IntN.{ℤ, pos, negℤ, natAbs, _-ℤ_}
 use lib.Signed.{ltZ}
 use Rattle.bounded.proofs.Num.{back}
 use Rattle.bounded.proofs.Expr.{E, at, _⊟_, fits, is, size, said}
-use Rattle.scheme.specs.Step.{roundAway, restOf}
-use Rattle.scheme.proofs.Laws.Rounding.{round-signed, rest-signed}
+use Rattle.scheme.specs.Step.{roundAway, remainderOf}
+use Rattle.scheme.proofs.Laws.Rounding.{round-signed, remainder-signed}
 use Rattle.steps.proofs.arithmetic.round_away.Statement.{statement}
 use Rattle.steps.proofs.arithmetic.round_away.Tie as tie
 
@@ -57,8 +57,8 @@ module _ (c : tie.After-raised) where
   abbrev half# : E
   half# = at (pos (start .args .half)) (2 ^ 30) half-low
 
-  abbrev rest# : E
-  rest# = left# ⊟ half#
+  abbrev remainder# : E
+  remainder# = left# ⊟ half#
 
   -- x with the sign of n
   abbrev with-sign : ℤ → ℤ
@@ -67,8 +67,8 @@ module _ (c : tie.After-raised) where
   whole-is : with-sign (pos quotient) ≡ roundAway n d
   whole-is = ap (λ (m : ℕ). with-sign (pos (m / d))) raised-is ∙ round-signed n d (start .pre .1)
 
-  rest-is : with-sign (pos left -ℤ pos (start .args .half)) ≡ restOf n d
-  rest-is = (λ j. with-sign (pos (raised-is j % d) -ℤ pos (start .pre .3 j))) ∙ rest-signed n d (start .pre .1)
+  remainder-is : with-sign (pos left -ℤ pos (start .args .half)) ≡ remainderOf n d
+  remainder-is = (λ j. with-sign (pos (raised-is j % d) -ℤ pos (start .pre .3 j))) ∙ remainder-signed n d (start .pre .1)
 
 raised-requires : tie.Need-raised-requires
 raised-requires c κs = (said (λ (z : ℤ). natAbs z ≤ 2 ^ 62) (n# c) tt (c .pre .0), omega (arith, c .pre .2, c .pre .3))
@@ -89,14 +89,14 @@ cast-left-2 : tie.Need-cast-left-2
 cast-left-2 c = fits (half# c) tt
 
 sub-left : tie.Need-sub-left
-sub-left c = fits (rest# c) tt
+sub-left c = fits (remainder# c) tt
 
 signed-requires : tie.Need-signed-requires
 signed-requires c κs = said (λ (z : ℤ). natAbs z ≤ 2 ^ 62 + 2 ^ 30) (quotient# c) tt (quotient-low c)
 
 signed-requires-2 : tie.Need-signed-requires-2
 signed-requires-2 c κs =
-    let r = rest# (c .before) in
+    let r = remainder# (c .before) in
     said (λ (z : ℤ). natAbs z ≤ 2 ^ 62 + 2 ^ 30) r tt (le-trans (size r tt) (omega arith))
 
 returns : tie.Need-returns
@@ -106,7 +106,7 @@ returns c =
       back (b .signed .result) (b .signed .ok) ∙ b .signed .ensures ∙
           (λ j. cond (ltZ (is (n# (start a)) tt j) (pos 0)) (negℤ (is (quotient# a) tt j)) (is (quotient# a) tt j)) ∙ whole-is a,
       back (c .signed2 .result) (c .signed2 .ok) ∙ c .signed2 .ensures ∙
-          (λ j. cond (ltZ (is (n# (start a)) tt j) (pos 0)) (negℤ (is (rest# a) tt j)) (is (rest# a) tt j)) ∙ rest-is a,
+          (λ j. cond (ltZ (is (n# (start a)) tt j) (pos 0)) (negℤ (is (remainder# a) tt j)) (is (remainder# a) tt j)) ∙ remainder-is a,
     )
 
 pub round-away-spec : {M : Type 1} → statement M

@@ -150,8 +150,8 @@ returns c =
     let w = c .before .before in
     played-kept (left w) (playing-ends (inv (at w)) (place w) (struck w .hit-of .ensures) (left w .stepped) _ (c .if1 .taken))
 
-held-sum-requires : tie.Need-held-sum-requires Inv-loop μ-loop
-held-sum-requires c κs = tt
+capped-sum-requires : tie.Need-capped-sum-requires Inv-loop μ-loop
+capped-sum-requires c κs = tt
 
 sample-in-roles-requires : tie.Need-sample-in-roles-requires Inv-loop μ-loop
 sample-in-roles-requires c κs =
@@ -177,7 +177,7 @@ loop-again c =
     let r = p .before .before .sample-in-roles in
     let e = done (p .before .before) in
     let w = step e in
-    let h = p .before .before .before .before .before .before .held-sum in
+    let h = p .before .before .before .before .before .before .capped-sum in
     let s = start (at w) in
     subst
     (λ (xs : List ℤ). Playing (s .args .plan .instrument) (s .args .pick) (s .args .hit) (whole (at w)) (length (s .args .samples .now))
@@ -217,7 +217,7 @@ play-spec =
     same-length-3
     same-length-4
     returns
-    held-sum-requires
+    capped-sum-requires
     sample-in-roles-requires
     put-requires
     turned-requires

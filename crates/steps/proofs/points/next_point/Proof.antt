@@ -14,8 +14,8 @@ use Rattle.types.specs.declared.Settings.{Settings}
 use Rattle.types.specs.Numbers.{ceiling}
 use Rattle.scheme.specs.Lists.{point}
 use Rattle.scheme.specs.Instruments.{beyond}
-use Rattle.scheme.specs.Step.{numeratorOf, roundAway, restOf, divisor, isMultiple}
-use Rattle.scheme.proofs.Laws.Rounding.{rest-rule, rest-none, rest-some}
+use Rattle.scheme.specs.Step.{numeratorOf, roundAway, remainderOf, divisor, isMultiple}
+use Rattle.scheme.proofs.Laws.Rounding.{remainder-rule, remainder-none, remainder-some}
 use Rattle.scheme.proofs.Laws.Step.{moving-inside}
 use Rattle.steps.specs.Plan.{countOf, bendingOf, Updatable, Ready, Neighbouring}
 use Rattle.steps.specs.Run.{Next, nextOver, nextBy, Ran}
@@ -174,14 +174,14 @@ module _ (c : tie.After-round-away) where
       let low = ltb-false ceiling _ (beyond-is within ∙ c .before .before .before .if1 .left) in
       ap (λ (z : ℤ). toZ w64 (ofZ w64 z)) told ∙ held low
 
-  rest-is : c .round-away .result .rest ≡ restOf n (d (within .before))
-  rest-is = c .round-away .ensures .1 ∙ ap (restOf n) (there .pre .1 .3)
+  remainder-is : c .round-away .result .remainder ≡ remainderOf n (d (within .before))
+  remainder-is = c .round-away .ensures .1 ∙ ap (remainderOf n) (there .pre .1 .3)
 
   -- as it was stored
-  rest-held : toZ w64 (ofZ w64 (c .round-away .result .rest)) ≡ restOf n (d (within .before))
-  rest-held =
-      let small = rest-rule n (d (within .before)) (omega arith) .small in
-      ap (λ (z : ℤ). toZ w64 (ofZ w64 z)) rest-is ∙ held (omega (arith, small, divisor-low (ready there .planned)))
+  remainder-held : toZ w64 (ofZ w64 (c .round-away .result .remainder)) ≡ remainderOf n (d (within .before))
+  remainder-held =
+      let small = remainder-rule n (d (within .before)) (omega arith) .small in
+      ap (λ (z : ℤ). toZ w64 (ofZ w64 z)) remainder-is ∙ held (omega (arith, small, divisor-low (ready there .planned)))
 
   -- written, and counted
   written : (t : Bool) → isMultiple n (d (within .before)) ≡ t
@@ -212,7 +212,7 @@ same-length c = search needs
 returns-3 : tie.Need-returns-3
 returns-3 c =
     let r = c .before .before .before .before .before in
-    written r true (rest-none (n r) (d (within r .before)) (omega arith) (sym (rest-held r) ∙ ap (toZ w64) (c .if3 .taken)))
+    written r true (remainder-none (n r) (d (within r .before)) (omega arith) (sym (remainder-held r) ∙ ap (toZ w64) (c .if3 .taken)))
 
 same-length-2 : tie.Need-same-length-2
 same-length-2 c = search needs
@@ -220,7 +220,7 @@ same-length-2 c = search needs
 returns-4 : tie.Need-returns-4
 returns-4 c =
     let r = c .before .before .before .before .before in
-    written r false (rest-some (n r) (d (within r .before)) (omega arith) (λ e. c .if3 .left (ap (ofZ w64) (rest-is r ∙ e))))
+    written r false (remainder-some (n r) (d (within r .before)) (omega arith) (λ e. c .if3 .left (ap (ofZ w64) (remainder-is r ∙ e))))
 
 pub next-point-spec : {M : Type 1} → statement M
 next-point-spec =
