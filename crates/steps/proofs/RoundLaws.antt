@@ -71,7 +71,7 @@ mirror-raised (negsuc m) h =
     ap (λ (z : ℤ). negsuc 0 -ℤ (z +ℤ (negsuc 0 -ℤ pos h))) (complement-pos m) ∙
     ring 3 (λ x y z. x ⊖ (x ⊖ y ⊕ (x ⊖ z)) ≈ y ⊕ z ⊖ x) refl (negsuc 0) (pos m) (pos h) ∙ ap pos (omega arith)
 
--- x, with the sign of n
+-- x, or −x where n is below 0
 pub mirror-signed : (n x : ℤ) → mirrorOf n x -ℤ signOf n ≡ cond (ltZ n (pos 0)) (negℤ x) x
 mirror-signed n x = go (ltZ n (pos 0))
   where

@@ -50,7 +50,7 @@ pub(crate) struct Rounded {
     pub(crate) remainder: i64,
 }
 
-// x with the sign of n.
+// x, or −x where n is below 0.
 fn signed(x: i64, n: i64) -> i64
     requires { ⌜ natAbs x ≤ 2 ^ 62 + 2 ^ 30 ⌝ }
     ensures { λ r. ⌜ r ≡ cond (ltZ n (pos 0)) (negℤ x) x ⌝ }

@@ -68,8 +68,8 @@ fn second_at(sums: &[i64], rows: SumRows, c: usize, below: i64) -> i64
     sums[here - 1] + sums[here + 1] + sums[above] + below
 }
 
-// The divisor, by a sum that a compiler sees is not 0, so that the loop does not ask.
-fn divisor_seen(plan: Plan) -> u64
+// The divisor, as a sum of which the compiler knows that it is not 0: no loop tests it then.
+fn positive_divisor(plan: Plan) -> u64
     requires { ⌜ Planned plan ⌝ }
     ensures { λ r. ⌜ r ≡ divisor (plan .instrument .settings) ⌝ }
 {
@@ -101,7 +101,7 @@ fn plate_point(
     sums[rows.other + c] = below;
     next_point(
         plan,
-        divisor_seen(plan),
+        positive_divisor(plan),
         older,
         newer,
         at,

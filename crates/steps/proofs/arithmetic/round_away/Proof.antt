@@ -60,7 +60,7 @@ module _ (c : tie.After-raised) where
   abbrev remainder# : E
   remainder# = left# ⊟ half#
 
-  -- x with the sign of n
+  -- x, or −x where n is below 0
   abbrev with-sign : ℤ → ℤ
   with-sign x = cond (ltZ n (pos 0)) (negℤ x) x
 

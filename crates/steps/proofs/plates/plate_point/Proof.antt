@@ -124,14 +124,14 @@ mul-below c = bytes-fit (c .before .before .before .before .before .before .befo
 slice-set-from-below : tie.Need-slice-set-from-below
 slice-set-from-below c = read (c .before .before .before .before .before .before .before) .other
 
-divisor-seen-requires : tie.Need-divisor-seen-requires
-divisor-seen-requires c κs = ready (c .before .before .before .before .before .before .before) .planned
+positive-divisor-requires : tie.Need-positive-divisor-requires
+positive-divisor-requires c κs = ready (c .before .before .before .before .before .before .before) .planned
 
 next-point-requires : tie.Need-next-point-requires
 next-point-requires c κs =
     let b = c .before .before .before .before .before in
     let s = b .before .before .before .before in
-    ((ready s, beside b), (s .pre .0 .1, first s, last s, c .before .divisor-seen .ensures))
+    ((ready s, beside b), (s .pre .0 .1, first s, last s, c .before .positive-divisor .ensures))
 
 same-length : tie.Need-same-length
 same-length c = search needs
@@ -161,7 +161,7 @@ plate-point-spec =
     add-below
     mul-below
     slice-set-from-below
-    divisor-seen-requires
+    positive-divisor-requires
     next-point-requires
     same-length
     same-length-2

@@ -1,9 +1,9 @@
--- `divisor_seen` meets its contract: the loss is small.
+-- `positive_divisor` meets its contract: the loss is small.
 use native.Mathlib.Omega.{arith}
 use borrow.Author.Needs.{needs}
 use Rattle.steps.proofs.PlanLaws.{loss-low}
-use Rattle.steps.proofs.plates.divisor_seen.Statement.{statement}
-use Rattle.steps.proofs.plates.divisor_seen.Tie as tie
+use Rattle.steps.proofs.plates.positive_divisor.Statement.{statement}
+use Rattle.steps.proofs.plates.positive_divisor.Tie as tie
 
 cast-s : tie.Need-cast-s
 cast-s c = record { fits = omega (arith, loss-low (c .before .pre)) }
@@ -17,5 +17,5 @@ add-result c = record { fits = omega (arith, loss-low (c .before .pre)) }
 returns : tie.Need-returns
 returns c = search needs
 
-pub divisor-seen-spec : {M : Type 1} → statement M
-divisor-seen-spec = tie.close (tie.spec cast-s cast-result add-result returns)
+pub positive-divisor-spec : {M : Type 1} → statement M
+positive-divisor-spec = tie.close (tie.spec cast-s cast-result add-result returns)
