@@ -1,6 +1,6 @@
 /* Buvcsolta: strings, bars, membranes and plates by finite-difference schemes in whole numbers.
  *
- * Programs in C and C++ use the calls buvcsolta_instrument_..., at the end of this file. They hand their arguments to the four
+ * Programs in C and C++ use the calls buvcsolta_instrument_..., at the end of this file. They hand their arguments to the five
  * exported functions, which are for bindings of other languages. Every call answers a refusal number, 0 where it was carried out;
  * the lowest number that applies answers, and buvcsolta_refusal_text tells it in words.
  *
@@ -29,10 +29,11 @@
 extern "C" {
 #endif
 
-/* The version of this header: a new major number where a program must be changed, a new minor one where a call takes more or gives
- * another number. Since 1.2 samples are rounded to the nearest; since 2.0 a block has an argument more, inexact, at its end. */
+/* The version of this header: a new major number where a program must be changed, a new minor one where there is a call more, or
+ * a call takes more or gives another number. Since 1.2 samples are rounded to the nearest; since 2.0 a block has an argument more,
+ * inexact, at its end; since 2.1 there is a block in place, which needs no work. */
 #define BUVCSOLTA_VERSION_MAJOR 2
-#define BUVCSOLTA_VERSION_MINOR 0
+#define BUVCSOLTA_VERSION_MINOR 1
 #define BUVCSOLTA_VERSION_PATCH 0
 #define BUVCSOLTA_VERSION (BUVCSOLTA_VERSION_MAJOR * 10000 + BUVCSOLTA_VERSION_MINOR * 100 + BUVCSOLTA_VERSION_PATCH)
 
@@ -89,6 +90,17 @@ uint64_t buvcsolta_block(uint64_t kind, size_t columns, size_t rows, uint64_t q,
                          int64_t *work, size_t work_length, int16_t *samples, size_t samples_length,
                          size_t pick_up, uint64_t hit, size_t point, int64_t force, size_t *steps, uint64_t *inexact);
 
+/* A block in place: as buvcsolta_block, on two levels instead of three, in more time.
+ *
+ * No third level is lent, and none is kept: no point of older is written over unless every next value lies within the ceiling. A level
+ * of at most 64 points is worked out on the stack, which this call takes 1.1 KB more of than buvcsolta_block.
+ * The answer, *steps, *inexact, older, newer and samples are those of buvcsolta_block with a work of columns x rows points; 6 looks at
+ * older and newer alone. */
+uint64_t buvcsolta_block_in_place(uint64_t kind, size_t columns, size_t rows, uint64_t q, uint64_t m, uint64_t s,
+                                  int64_t *older, size_t older_length, int64_t *newer, size_t newer_length,
+                                  int16_t *samples, size_t samples_length,
+                                  size_t pick_up, uint64_t hit, size_t point, int64_t force, size_t *steps, uint64_t *inexact);
+
 /* A pluck, kinds 1 to 4: both levels become the same raised-cosine shape of the given height around centre, 0 beyond half_width.
  *
  * 0: both levels are overwritten, whatever they held. 1, 2, 6, 7, 8 and 10: both are unchanged. */
@@ -122,8 +134,9 @@ struct buvcsolta_instrument {
     uint64_t q, m, s;
 };
 
-/* The three buffers of a voice, all zeros for a voice at rest. length is the number of elements that each of them really has, not
- * columns x rows worked out again: a grid that does not fit its buffers is then refused 6, and nothing is written. */
+/* The buffers of a voice, all zeros for a voice at rest. A voice that is played in place alone needs two: work plays no part there, nor in
+ * a pluck or a reading, and may be null. length is the number of elements that each buffer really has, not columns x rows worked out
+ * again: a grid that does not fit its buffers is then refused 6, and nothing is written. */
 struct buvcsolta_levels {
     int64_t *older, *newer, *work;
     size_t length;
@@ -160,6 +173,16 @@ static inline uint64_t buvcsolta_instrument_block(const struct buvcsolta_instrum
     return buvcsolta_block(i->kind, i->columns, i->rows, i->q, i->m, i->s, levels->older, levels->length, levels->newer, levels->length,
                            levels->work, levels->length, samples, samples_length, pick_up, hit ? 1 : 0, hit ? hit->point : 0,
                            hit ? hit->force : 0, steps, inexact);
+}
+
+/* The same in place: work plays no part. */
+static inline uint64_t buvcsolta_instrument_block_in_place(const struct buvcsolta_instrument *i, const struct buvcsolta_levels *levels,
+                                                           int16_t *samples, size_t samples_length, size_t pick_up,
+                                                           const struct buvcsolta_hit *hit, size_t *steps, uint64_t *inexact)
+{
+    return buvcsolta_block_in_place(i->kind, i->columns, i->rows, i->q, i->m, i->s, levels->older, levels->length, levels->newer,
+                                    levels->length, samples, samples_length, pick_up, hit ? 1 : 0, hit ? hit->point : 0,
+                                    hit ? hit->force : 0, steps, inexact);
 }
 
 /* A pluck. The settings and work play no part. */

@@ -1,4 +1,4 @@
-"""The records of calls.txt."""
+"""The records of calls.txt; Records and some cases serve in_place.txt too."""
 
 import calls
 from draws import EDGES, SIGNED_EDGES, U64, Draws, largest_m, largest_q, same_size_grids, to_bits
@@ -29,17 +29,29 @@ class Records(list):
                 self.lent[which] = list(values)
                 self.append((1, which, len(values), *values))
 
-    def check(self):
-        for which, values in enumerate(self.lent):
-            self.append((2, which, len(values), *values))
+    def check(self, buffers=range(4)):
+        for which in buffers:
+            self.append((2, which, len(self.lent[which]), *self.lent[which]))
+
+    def played(self, opcode, instrument, pick_up, hit, unused, answer, buffers):
+        """The record of a block and of the buffers that it took; (steps, refusal)."""
+        self.append((opcode, *instrument, pick_up, int(hit is not None), *(hit or unused), *answer))
+        self.check(buffers)
+        steps, self.inexact, refusal = answer
+        return steps, refusal
 
     def block(self, kind, columns, rows, q, m, s, pick_up, hit=None, unused=(0, 0)):
         """A block with the lent buffers; (steps, refusal). unused: point and force written when there is no hit."""
-        answer, *self.lent = calls.block(kind, columns, rows, q, m, s, *self.lent, pick_up, hit)
-        self.append((3, kind, columns, rows, q, m, s, pick_up, int(hit is not None), *(hit or unused), *answer))
-        self.check()
-        steps, self.inexact, refusal = answer
-        return steps, refusal
+        instrument = kind, columns, rows, q, m, s
+        answer, *self.lent = calls.block(*instrument, *self.lent, pick_up, hit)
+        return self.played(3, instrument, pick_up, hit, unused, answer, range(4))
+
+    def block_in_place(self, kind, columns, rows, q, m, s, pick_up, hit=None, unused=(0, 0)):
+        """The same without work."""
+        instrument, (older, newer, work, samples) = (kind, columns, rows, q, m, s), self.lent
+        answer, older, newer, samples = calls.block_in_place(*instrument, older, newer, samples, pick_up, hit)
+        self.lent = [older, newer, work, samples]
+        return self.played(7, instrument, pick_up, hit, unused, answer, (0, 1, 3))
 
     def pluck(self, kind, columns, rows, centre, half_width, height):
         refusal, *self.lent[:2] = calls.pluck(kind, columns, rows, *self.lent[:2], centre, half_width, height)

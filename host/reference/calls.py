@@ -1,41 +1,22 @@
-"""The four calls as functions of their arguments and the lent levels.
+"""The five calls as functions of their arguments and the lent levels.
 
 Each gives back its answer and the lent levels, work and samples afterwards; the lists handed over
 are not changed. kind, columns, rows, q, m, s, pick-up, point, centre and half width are whole
 numbers 0..2^64-1; force, height and the points of levels are signed 64-bit; a level may have any
-length. A refused call gives back what it was lent, except for 13.
+length. A refused call gives back what it was lent, except for 13. The block in place is in in_place.py.
 """
 
 import refusals as r
 import sheet as sheets
+from in_place import block_in_place
 from pluck import pluck_level
-from step import one_step, reading as float_reading, sample
-
-# "held at 2^64 - 1 once it would pass that".
-LARGEST_SUM = 2**64 - 1
-
-
-def sum_held(so_far, count):
-    """The sum of the counts so far and of one more step."""
-    return min(so_far + count, LARGEST_SUM)
+from step import one_step, reading as float_reading, sample, sum_held
 
 
 def block(kind, columns, rows, q, m, s, older, newer, work, samples, pick_up, hit):
     """((steps, inexact, refusal), older, newer, work, samples); hit is None or (point, force)."""
     grid, settings = (kind, columns, rows), (q, m, s)
-    refusal = r.lowest({
-        1: lambda: r.unknown_kind(kind),
-        2: lambda: r.outside_table(*grid),
-        4: lambda: r.bad_coefficient(settings),
-        5: lambda: r.not_stable(kind, settings),
-        6: lambda: r.bad_length(columns, rows, (older, newer, work)),
-        # "with 7 and 8 only if a hit is given".
-        7: lambda: hit is not None and r.not_moving(grid, hit[0]),
-        8: lambda: hit is not None and r.beyond(hit[1]),
-        9: lambda: r.not_a_point(columns, rows, pick_up),
-        11: lambda: r.some_beyond((older, newer)),
-        12: lambda: r.fixed_not_zero(grid, (older, newer)),
-    })
+    refusal = r.of_block(grid, settings, (older, newer, work), pick_up, hit)
     if refusal:
         # "For 1 to 12: zero steps, ... every lent level and sample unchanged."
         return (0, 0, refusal), older, newer, work, samples

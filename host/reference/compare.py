@@ -24,7 +24,7 @@ import must_fail
 from library import open_library, stand_in, wrong_stand_in
 from run import REFERENCE, Difference, Run
 
-NAMES = ("block", "pluck", "reading", "sheet")
+NAMES = ("block", "block_in_place", "pluck", "reading", "sheet")
 PROGRESS = 10  # seconds
 
 
@@ -120,6 +120,9 @@ def summary(counts, seconds, jobs):
           f"energy watched at {counts['energy watched']} steps")
     print(f"{counts['inexact points']} inexact points in {counts['inexact blocks']} blocks; after steps without any, "
           f"both levels the book's and not all 0: {counts['exact calls']} calls in {counts['exact lists']} lists")
+    print(f"{counts['both']} inputs given to both blocks: 13 in the first step of {counts['both, 13 first']}, in a later step of "
+          f"{counts['both, 13 later']}, by the last moving point alone in {counts['both, 13 last point']}; "
+          f"work alone of a wrong length in {counts['both, work of a wrong length']}")
 
 
 def each_wrong_edit(seed, jobs, calls, seconds):

@@ -5,7 +5,7 @@ import random
 import struct
 
 from instrument import (CEILING, D, GRID_KINDS, KINDS, LINE_KINDS, RECTANGULAR_KINDS, STABILITY, STIFF_KINDS, fixed_points,
-                        moving, size_in_table)
+                        moving, moving_set, size_in_table)
 from pluck import cut_toward_zero
 from sheet import Sheet, nearest
 
@@ -16,6 +16,12 @@ SIGNED_EDGES = (0, 1, -1, CEILING, -CEILING, CEILING + 1, -CEILING - 1, 2**31, -
                 2**62, -2**62, 2**63 - 1, -2**63, -2**63 + 1)
 SIDES = (3, 3, 4, 4, 5, 6, 7, 8, 11)
 LARGE_SIDES = (31, 63, 64)
+# Sizes around 64, 128 and 192 points, for implementations that work in pieces of 64.
+LONG_LINES = (63, 64, 65, 66, 127, 128, 129, 130, 191, 192, 193)
+LONG_GRIDS = ((8, 8), (9, 7), (16, 4), (13, 5), (5, 13), (22, 3), (3, 22), (9, 8), (8, 9), (11, 11), (16, 8), (43, 3), (13, 10))
+LONG_SQUARES = (8, 9, 10, 11, 12)
+# The points where a piece ends and the next begins.
+SEAMS = (*range(62, 67), *range(126, 131))
 
 
 def from_bits(bits):
@@ -42,11 +48,20 @@ def largest_q(kind, m=0):
     return max(D - times_m * m, 0) // times_q
 
 
+def is_known(grid):
+    """Whether 1 and 2 let the grid pass."""
+    return grid[0] in KINDS and size_in_table(*grid)
+
+
 class Draws(random.Random):
-    """A seeded source; odds is the share of spoiled arguments, unit what points and forces are multiples of."""
+    """A seeded source; odds is the share of spoiled arguments, unit what points and forces are multiples of.
+
+    long is the share of sizes around 64 points and a few times as many; 0, as for the stored vectors, draws nothing for it.
+    """
 
     odds = 0.02
     unit = 1
+    long = 0.0
 
     def rarely(self, share=None):
         return self.random() < (self.odds if share is None else share)
@@ -72,6 +87,8 @@ class Draws(random.Random):
         """(columns, rows), right for the kind most of the time."""
         if self.rarely():
             return self.wrong_size(kind)
+        if self.long and self.rarely(self.long):
+            return self.long_size(kind)
         if kind in GRID_KINDS:
             is_large = self.rarely(large)
             side = self.choice(LARGE_SIDES if is_large else SIDES)
@@ -80,6 +97,15 @@ class Draws(random.Random):
         if self.rarely(large):
             return self.choice((255, 512, 1023, 1024)), 1
         return (self.randint(3, 12) if self.rarely(0.9) else self.randint(3, 70)), 1
+
+    def long_size(self, kind):
+        """(columns, rows) for the kind, around a multiple of 64 points or any line of 71 to 254."""
+        if kind in RECTANGULAR_KINDS:
+            return self.choice(LONG_GRIDS)
+        if kind in GRID_KINDS:
+            side = self.choice(LONG_SQUARES)
+            return side, side
+        return (self.choice(LONG_LINES) if self.rarely(0.7) else self.randint(71, 254)), 1
 
     def wrong_size(self, kind):
         columns, rows = self.choice(((2, 1), (1025, 1), (3, 0), (3, 2), (0, 0), (2, 2), (65, 65), (65, 3),
@@ -119,14 +145,18 @@ class Draws(random.Random):
         """Cut toward zero to a multiple of the unit."""
         return cut_toward_zero(value, self.unit) * self.unit
 
+    def wrong_length(self, length):
+        """Another length than this, but for 0 and 1 now and then the same."""
+        return self.choice((0, 1, max(length - 1, 0), length + 1, length + 2))
+
     def level(self, grid, length=None):
         """A level, most of the time of the right length, within the ceiling and 0 at fixed points."""
-        kind, columns, rows = grid
-        known = kind in KINDS and size_in_table(*grid)
+        _, columns, rows = grid
+        known = is_known(grid)
         if length is None:
             length = columns * rows if known else self.randint(0, 12)
             if self.rarely(self.odds / 2):
-                length = self.choice((0, 1, max(length - 1, 0), length + 1, length + 2))
+                length = self.wrong_length(length)
         reach = self.choice((0, 1, 3, 1000, 2**28, 2**40, CEILING // 8, CEILING // 3, CEILING))
         reach = max(reach // self.unit, int(self.unit > 1))
         if self.rarely(0.2):
@@ -149,15 +179,34 @@ class Draws(random.Random):
         newer = [self.in_units(value + self.randint(-step, step)) if value else 0 for value in older]
         return older, [max(-2**63, min(2**63 - 1, value)) for value in newer]
 
+    def loud_at_the_end(self, grid):
+        """Settings and two levels of a known grid: without a hit the last moving point alone passes the ceiling, after 0 to 4 steps."""
+        older, last = [0] * (grid[1] * grid[2]), moving(*grid)[-1][0]
+        for point, _ in moving(*grid):
+            older[point] = self.randint(-999, 999)
+        newer = [value + self.randint(-9, 9) if value else 0 for value in older]
+        grow, sign = self.randint(CEILING // 12, CEILING // 6), self.choice((-1, 1))
+        newer[last] = sign * (CEILING - self.randint(0, 4) * grow)
+        older[last] = newer[last] - sign * grow
+        m = self.randint(0, 3) if grid[0] in STIFF_KINDS else 0
+        return (self.randint(0, 9), m, 0), older, newer
+
     def point(self, grid, must_move=False):
-        kind, columns, rows = grid
+        _, columns, rows = grid
         if self.rarely():
             return self.choice((0, columns - 1 & U64 - 1, columns * rows % U64, self.wild()))
-        if kind in KINDS and size_in_table(*grid):
+        if is_known(grid):
+            if self.long and columns * rows > 62 and self.rarely(0.4):
+                return self.seam(grid, must_move)
             if must_move:
                 return self.choice(moving(*grid))[0]
             return self.randrange(columns * rows)
         return self.randint(0, 20)
+
+    def seam(self, grid, must_move):
+        """A point of a known grid where a piece ends or begins; any moving one where none of those moves."""
+        points = moving_set(*grid) if must_move else range(grid[1] * grid[2])
+        return self.choice([point for point in SEAMS if point in points] or [point for point, _ in moving(*grid)])
 
     def force(self):
         if self.rarely():

@@ -1,6 +1,6 @@
-"""Vector files for a program that interprets them: calls.txt and sheets.txt.
+"""Vector files for a program that interprets them: calls.txt, sheets.txt and in_place.txt.
 
-    python3 generate.py DIR          writes both
+    python3 generate.py DIR          writes them
     python3 generate.py --check DIR  says whether the files there are what it would write
 
 A file is a sequence of decimal numbers, one record per line, ended by 0:
@@ -10,12 +10,15 @@ A file is a sequence of decimal numbers, one record per line, ended by 0:
     4 kind columns rows centre halfwidth height refusal
     5 kind columns rows pickup valuebits refusal
     6 kind columns rows rate length bending speedkind speed1 speed2 losskind loss q m s refusal
+    7 kind columns rows q m s pickup hit point force steps inexact refusal
+3 is a block with all lent buffers, 7 a block in place with older, newer and samples.
 """
 
 import pathlib
 import sys
 
 from call_vectors import call_records
+from in_place_vectors import in_place_records
 from sheet_vectors import sheet_records
 
 
@@ -30,7 +33,8 @@ def main():
         raise SystemExit(__doc__)
     folder = pathlib.Path(arguments[-1])
     status = 0
-    for name, records in (("calls.txt", call_records()), ("sheets.txt", sheet_records())):
+    calls = call_records()
+    for name, records in (("calls.txt", calls), ("sheets.txt", sheet_records()), ("in_place.txt", in_place_records(calls))):
         written = text(records).encode("ascii")
         if not check:
             (folder / name).write_bytes(written)

@@ -79,6 +79,12 @@ def moving_set(kind, columns, rows):
 
 
 @lru_cache(maxsize=256)
+def moving_neighbours(kind, columns, rows):
+    """{moving point: its neighbours}."""
+    return dict(moving(kind, columns, rows))
+
+
+@lru_cache(maxsize=256)
 def fixed_points(kind, columns, rows):
     return tuple(point for point in range(columns * rows) if is_fixed(kind, columns, rows, point))
 
@@ -108,6 +114,19 @@ def laplacians(grid, level):
     for point, near in moving(*grid):
         result[point] = laplacian(level, point, near)
     return result
+
+
+def laplacian_at(grid, level, point):
+    """L at one point, 0 at a fixed one."""
+    near = moving_neighbours(*grid).get(point)
+    return laplacian(level, point, near) if near else 0
+
+
+def laplacian_twice_at(grid, level, point):
+    """L taken of L at one moving point: L of the point and of its neighbours is all that is held."""
+    near = moving_neighbours(*grid)[point]
+    first = {other: laplacian_at(grid, level, other) for other in (point, *near)}
+    return laplacian(first, point, near)
 
 
 def stable(kind, q, m):

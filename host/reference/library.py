@@ -1,10 +1,11 @@
 """The C library through ctypes, the reference in the same form, and stand-ins for the library.
 
 Both sides take the C functions' plain arguments, with buffers as lists, and give back
-    block:   (refusal, steps, inexact, older, newer, work, samples)
-    pluck:   (refusal, older, newer)
-    reading: (refusal, bits of the value, newer)
-    sheet:   (refusal, q, m, s)
+    block:          (refusal, steps, inexact, older, newer, work, samples)
+    block_in_place: (refusal, steps, inexact, older, newer, samples)
+    pluck:          (refusal, older, newer)
+    reading:        (refusal, bits of the value, newer)
+    sheet:          (refusal, q, m, s)
 """
 
 import ctypes
@@ -21,15 +22,18 @@ from sheet import Sheet
 U64, I64, SIZE, F64, PLACE = (ctypes.c_uint64, ctypes.c_int64, ctypes.c_size_t, ctypes.c_double,
                               ctypes.c_void_p)
 LEVEL = (PLACE, SIZE)
+INSTRUMENT = (U64, SIZE, SIZE, U64, U64, U64)
+# The samples, the pick-up, the hit with its point and force, the counts of steps and of inexact points.
+PLAYED = (PLACE, SIZE, SIZE, U64, SIZE, I64, PLACE, PLACE)
 SIGNATURES = {
-    "block": (U64, SIZE, SIZE, U64, U64, U64, *LEVEL, *LEVEL, *LEVEL, PLACE, SIZE, SIZE, U64, SIZE, I64, PLACE,
-              PLACE),
+    "block": (*INSTRUMENT, *LEVEL, *LEVEL, *LEVEL, *PLAYED),
+    "block_in_place": (*INSTRUMENT, *LEVEL, *LEVEL, *PLAYED),
     "pluck": (U64, SIZE, SIZE, *LEVEL, *LEVEL, SIZE, SIZE, I64),
     "reading": (U64, SIZE, SIZE, *LEVEL, SIZE, PLACE),
     "sheet": (U64, SIZE, SIZE, F64, F64, F64, U64, F64, F64, U64, F64, PLACE, PLACE, PLACE),
 }
 GUARD = 21930
-MODULES = ("instrument", "step", "pluck", "sheet", "refusals", "calls")
+MODULES = ("instrument", "step", "pluck", "sheet", "refusals", "in_place", "calls")
 
 
 class Overwritten(Exception):
@@ -52,18 +56,24 @@ class Lent:
 
 
 class Library:
-    """The four functions of a library, given as {name: C function}."""
+    """The five functions of a library, given as {name: C function}."""
 
     def __init__(self, functions):
         self.functions = functions
 
-    def block(self, kind, columns, rows, q, m, s, older, newer, work, samples, pick_up, hit, point, force):
-        a, b, c, d = Lent("q", older), Lent("q", newer), Lent("q", work), Lent("h", samples)
+    def either_block(self, name, instrument, levels, samples, rest):
+        """instrument: kind to s; rest: pick-up, hit, point and force."""
+        lent = [*(Lent("q", level) for level in levels), Lent("h", samples)]
         steps, inexact = Lent("Q", [GUARD]), Lent("Q", [GUARD])
-        refusal = self.functions["block"](
-            kind, columns, rows, q, m, s, a.place, a.length, b.place, b.length, c.place, c.length,
-            d.place, d.length, pick_up, hit, point, force, steps.place, inexact.place)
-        return refusal, steps.values()[0], inexact.values()[0], a.values(), b.values(), c.values(), d.values()
+        places = [number for buffer in lent for number in (buffer.place, buffer.length)]
+        refusal = self.functions[name](*instrument, *places, *rest, steps.place, inexact.place)
+        return refusal, steps.values()[0], inexact.values()[0], *(buffer.values() for buffer in lent)
+
+    def block(self, *arguments):
+        return self.either_block("block", arguments[:6], arguments[6:9], arguments[9], arguments[10:])
+
+    def block_in_place(self, *arguments):
+        return self.either_block("block_in_place", arguments[:6], arguments[6:8], arguments[8], arguments[9:])
 
     def pluck(self, kind, columns, rows, older, newer, centre, half_width, height):
         a, b = Lent("q", older), Lent("q", newer)
@@ -99,10 +109,16 @@ class Reference:
     def __init__(self, module=calls):
         self.calls = module
 
-    def block(self, kind, columns, rows, q, m, s, older, newer, work, samples, pick_up, hit, point, force):
-        (steps, inexact, refusal), *after = self.calls.block(
-            kind, columns, rows, q, m, s, older, newer, work, samples, pick_up, (point, force) if hit else None)
+    def either_block(self, call, *arguments):
+        *before, hit, point, force = arguments
+        (steps, inexact, refusal), *after = call(*before, (point, force) if hit else None)
         return (refusal, steps, inexact, *after)
+
+    def block(self, *arguments):
+        return self.either_block(self.calls.block, *arguments)
+
+    def block_in_place(self, *arguments):
+        return self.either_block(self.calls.block_in_place, *arguments)
 
     def pluck(self, *arguments):
         return self.calls.pluck(*arguments)
@@ -127,15 +143,21 @@ def stand_in(module=calls):
     """A library made of the calls of a module, behind C functions of the same signatures."""
     reference = Reference(module)
 
-    def block(kind, columns, rows, q, m, s, older, older_length, newer, newer_length, work, work_length,
-              samples, samples_length, pick_up, hit, point, force, steps, inexact):
-        lent = [cells(I64, older, older_length), cells(I64, newer, newer_length),
-                cells(I64, work, work_length), cells(ctypes.c_int16, samples, samples_length)]
-        refusal, cells(SIZE, steps, 1)[0], cells(U64, inexact, 1)[0], *after = reference.block(
-            kind, columns, rows, q, m, s, *(list(buffer) for buffer in lent), pick_up, hit, point, force)
-        for buffer, values in zip(lent, after):
-            buffer[:] = values
-        return refusal
+    def block_of(call, levels):
+        """The C function of a block that takes so many levels."""
+        codes = (*[I64] * levels, ctypes.c_int16)
+
+        def block(*arguments):
+            instrument, lent, rest = arguments[:6], arguments[6:6 + 2 * len(codes)], arguments[6 + 2 * len(codes):-2]
+            buffers = [cells(code, *lent[2 * k:2 * k + 2]) for k, code in enumerate(codes)]
+            steps, inexact = arguments[-2:]
+            refusal, cells(SIZE, steps, 1)[0], cells(U64, inexact, 1)[0], *after = call(
+                *instrument, *map(list, buffers), *rest)
+            for buffer, values in zip(buffers, after):
+                buffer[:] = values
+            return refusal
+
+        return block
 
     def pluck(kind, columns, rows, older, older_length, newer, newer_length, centre, half_width, height):
         lent = [cells(I64, older, older_length), cells(I64, newer, newer_length)]
@@ -162,7 +184,8 @@ def stand_in(module=calls):
                 return 99
         return answer
 
-    functions = {"block": block, "pluck": pluck, "reading": reading, "sheet": sheet}
+    functions = {"block": block_of(reference.block, 3), "block_in_place": block_of(reference.block_in_place, 2),
+                 "pluck": pluck, "reading": reading, "sheet": sheet}
     return Library({name: ctypes.CFUNCTYPE(U64, *SIGNATURES[name])(total(function))
                     for name, function in functions.items()})
 

@@ -19,17 +19,25 @@ UNSEEN = (
     ("remainder without its sign", "step.py", "whole, numerator - whole", "whole, abs(numerator) - abs(whole)"),
     ("remainder of rounding down", "step.py", "whole, numerator - whole * denominator",
      "whole, numerator % denominator"),
-    ("sum held at 2^63 - 1", "calls.py", "LARGEST_SUM = 2**64 - 1", "LARGEST_SUM = 2**63 - 1"),
-    ("sum held at 2^32 - 1", "calls.py", "LARGEST_SUM = 2**64 - 1", "LARGEST_SUM = 2**32 - 1"),
-    ("sum held at 2^64 - 2", "calls.py", "LARGEST_SUM = 2**64 - 1", "LARGEST_SUM = 2**64 - 2"),
-    ("sum that wraps", "calls.py", "min(so_far + count, LARGEST_SUM)", "(so_far + count) % 2**64"),
-    ("sum not held", "calls.py", "min(so_far + count, LARGEST_SUM)", "so_far + count"),
-    ("sum held at what it was before", "calls.py", "min(so_far + count, LARGEST_SUM)",
+    ("sum held at 2^63 - 1", "step.py", "LARGEST_SUM = 2**64 - 1", "LARGEST_SUM = 2**63 - 1"),
+    ("sum held at 2^32 - 1", "step.py", "LARGEST_SUM = 2**64 - 1", "LARGEST_SUM = 2**32 - 1"),
+    ("sum held at 2^64 - 2", "step.py", "LARGEST_SUM = 2**64 - 1", "LARGEST_SUM = 2**64 - 2"),
+    ("sum that wraps", "step.py", "min(so_far + count, LARGEST_SUM)", "(so_far + count) % 2**64"),
+    ("sum not held", "step.py", "min(so_far + count, LARGEST_SUM)", "so_far + count"),
+    ("sum held at what it was before", "step.py", "min(so_far + count, LARGEST_SUM)",
      "so_far + count if so_far + count <= LARGEST_SUM else so_far"),
-    ("sum begun again after 2^64 - 1", "calls.py", "min(so_far + count, LARGEST_SUM)",
+    ("sum begun again after 2^64 - 1", "step.py", "min(so_far + count, LARGEST_SUM)",
      "min(so_far + count, LARGEST_SUM) if so_far < LARGEST_SUM else 0"),
     ("sum of a block not held", "calls.py", "inexact = sum_held(inexact, count)", "inexact += count"),
+    ("in place: sum not held", "in_place.py", "inexact = sum_held(inexact, count)", "inexact += count"),
 )
+
+# The step of a block in place: the test, then the writing.
+IN_PLACE_STEP = """        if passes_ceiling(grid, settings, older, newer, acting):
+            refusal = 13
+            break
+        count = overwrite(grid, settings, older, newer, acting)
+"""
 
 EDITS = (
     ("negative halves upward", "step.py", "-magnitude if numerator < 0 else magnitude",
@@ -37,10 +45,10 @@ EDITS = (
     ("halves toward zero", "step.py", "(2 * abs(numerator) + denominator) //",
      "(2 * abs(numerator) + denominator - 1) //"),
     ("divided by D", "step.py", "round_half_away(value, divisor)", "round_half_away(value, D)"),
-    ("D+s for D-s", "step.py", "- (D - s) * older", "- (D + s) * older"),
+    ("D+s for D-s", "step.py", "- (D - s) * p", "- (D + s) * p"),
     ("B added", "step.py", "- m * second", "+ m * second"),
-    ("B without its second Laplacian", "step.py", "laplacians(grid, first) if m else first", "first"),
-    ("force divided by D", "step.py", "result[point] += D * force", "result[point] += force"),
+    ("B without its second Laplacian", "step.py", "laplacians(grid, first) if settings[1] else first", "first"),
+    ("force divided by D", "step.py", "+ D * force", "+ force"),
     ("sample rounded down", "step.py", "return round_half_away(value, 2**28)[0]", "return value // 2**28"),
     ("sample toward zero", "step.py", "return round_half_away(value, 2**28)[0]", "return int(value / 2**28)"),
     ("sample's negative halves upward", "step.py", "return round_half_away(value, 2**28)[0]",
@@ -68,7 +76,13 @@ EDITS = (
     ("kind 2 free at point 0", "instrument.py", "return point == 0", "return point == columns - 1"),
     ("the ceiling itself is beyond", "refusals.py", "max(level) > CEILING", "max(level) >= CEILING"),
     ("force at 2^63 passes", "refusals.py", "return abs(value) > CEILING", "return value > CEILING"),
-    ("highest number answers", "refusals.py", "in sorted(tests):", "in sorted(tests, reverse=True):"),
+    # A test may take for granted that lower numbers do not apply: 1 to 6 stay before the others.
+    ("highest number answers, from 7 on", "refusals.py", "in sorted(tests):",
+     "in sorted(tests, key=lambda number: -number if number > 6 else number - 99):"),
+    ("2 answers before 1", "refusals.py", "in sorted(tests):",
+     "in sorted(tests, key=lambda number: 0 if number == 2 else number):"),
+    ("6 answers before 4 and 5", "refusals.py", "in sorted(tests):",
+     "in sorted(tests, key=lambda number: 3 if number == 6 else number):"),
     ("minus zero is negative", "refusals.py", "x < 0.0 for x", "math.copysign(1.0, x) < 0.0 for x"),
     ("density may be zero", "refusals.py", "above_zero.append(sheet.speed[2])", "pass"),
     ("hertz for membranes", "refusals.py", "kind in GRID_KINDS", "kind == 7"),
@@ -77,7 +91,7 @@ EDITS = (
     ("pick-up one too far", "refusals.py", "return point >= columns * rows", "return point > columns * rows"),
     ("half width up to columns", "refusals.py", "<= columns - 1", "<= columns"),
     ("work not cleared", "calls.py", "[0] * len(work), samples", "work, samples"),
-    ("work's length not looked at", "calls.py", "(older, newer, work)),", "(older, newer)),"),
+    ("work's length not looked at", "calls.py", "(older, newer, work), pick_up", "(older, newer), pick_up"),
     ("hit in each step", "calls.py", "hit if place == 0 else None", "hit"),
     ("levels of the failed step kept", "calls.py", "refusal = 13\n", "refusal, newer = 13, following\n"),
     ("sample written before the ceiling is tested", "calls.py", "        if r.some_beyond((following,)):",
@@ -152,6 +166,96 @@ EDITS = (
      "steps, inexact = 0, 0 if samples else one_step(grid, settings, older, newer, hit)[1]\n"),
     ("counts of steps and points in each other's place", "calls.py", "return (steps, inexact, refusal)",
      "return (inexact, steps, refusal)"),
+    ("in place: one pass that tests and overwrites", "in_place.py", IN_PLACE_STEP,
+     """        count = 0
+        for point, _ in moving(*grid):
+            value, remainder = next_value(grid, settings, older, newer, acting, point)
+            if r.beyond(value):
+                refusal = 13
+                break
+            older[point] = value
+            count += remainder != 0
+        if refusal:
+            break
+"""),
+    ("in place: overwritten before the test", "in_place.py", IN_PLACE_STEP,
+     """        count = overwrite(grid, settings, older, newer, acting)
+        if r.some_beyond((older,)):
+            refusal = 13
+            break
+"""),
+    ("in place: tested and overwritten in pieces of 64", "in_place.py", IN_PLACE_STEP,
+     """        count = 0
+        points = [point for point, _ in moving(*grid)]
+        for start in range(0, len(points), 64):
+            piece = points[start:start + 64]
+            values = [next_value(grid, settings, older, newer, acting, point) for point in piece]
+            if any(r.beyond(value) for value, _ in values):
+                refusal = 13
+                break
+            for point, (value, remainder) in zip(piece, values):
+                older[point] = value
+                count += remainder != 0
+        if refusal:
+            break
+"""),
+    ("in place: only the first 64 moving points tested", "in_place.py", "in moving(*grid))", "in moving(*grid)[:64])"),
+    ("in place: only the last piece of 64 tested", "in_place.py", "in moving(*grid))",
+     "in moving(*grid)[(len(moving(*grid)) - 1) // 64 * 64:])"),
+    ("in place: hit beyond 64 not written", "in_place.py", "count = overwrite(grid, settings, older, newer, acting)",
+     "count = overwrite(grid, settings, older, newer, acting if acting and acting[0] < 64 else None)"),
+    ("in place: only the first 64 moving points counted", "in_place.py", "count += remainder != 0",
+     "count += remainder != 0 and point in [moved for moved, _ in moving(*grid)[:64]]"),
+    ("in place: last moving point not tested", "in_place.py", "in moving(*grid))", "in moving(*grid)[:-1])"),
+    ("in place: first moving point not tested", "in_place.py", "in moving(*grid))", "in moving(*grid)[1:])"),
+    ("in place: only points above zero tested", "in_place.py",
+     "r.beyond(next_value(grid, settings, older, newer, hit, point)[0])",
+     "r.beyond(max(next_value(grid, settings, older, newer, hit, point)[0], 0))"),
+    ("in place: hit not tested", "in_place.py", "if passes_ceiling(grid, settings, older, newer, acting)",
+     "if passes_ceiling(grid, settings, older, newer, None)"),
+    ("in place: hit tested and not written", "in_place.py", "count = overwrite(grid, settings, older, newer, acting)",
+     "count = overwrite(grid, settings, older, newer, None)"),
+    ("in place: hit in each step", "in_place.py", "hit if place == 0 else None", "hit"),
+    ("in place: last moving point not written", "in_place.py", "in moving(*grid):", "in moving(*grid)[:-1]:"),
+    ("in place: roles not changed after an odd number of steps", "in_place.py",
+     "return (steps, inexact, refusal), older, newer, samples",
+     "return (steps, inexact, refusal), *((newer, older) if steps % 2 else (older, newer)), samples"),
+    ("in place: roles never changed", "in_place.py", "older, newer = newer, older", "pass"),
+    ("in place: levels in each other's place after 13", "in_place.py", "refusal = 13\n",
+     "refusal, older, newer = 13, newer, older\n"),
+    ("in place: 13 leaves the levels of one step more", "in_place.py", "refusal = 13\n",
+     "refusal = 13\n            overwrite(grid, settings, older, newer, acting)\n            older, newer = newer, older\n"),
+    ("in place: 13 answers 0 steps", "in_place.py", "refusal = 13\n", "refusal, steps = 13, 0\n"),
+    ("in place: sample of the step ended by 13", "in_place.py", "refusal = 13\n",
+     "refusal, samples[place] = 13, sample(newer[pick_up])\n"),
+    ("in place: older all zeros afterwards, as work", "in_place.py",
+     "return (steps, inexact, refusal), older, newer, samples",
+     "return (steps, inexact, refusal), [0] * len(older), newer, samples"),
+    ("in place: sample of the older level", "in_place.py", "sample(newer[pick_up])", "sample(older[pick_up])"),
+    ("in place: step ended by 13 counted", "in_place.py", "refusal = 13\n",
+     "refusal = 13\n"
+     "            inexact += overwrite(grid, settings, list(older), newer, acting)\n"),
+    ("in place: points counted in both passes", "in_place.py", "inexact = sum_held(inexact, count)",
+     "inexact = sum_held(inexact, 2 * count)"),
+    ("in place: only the last step counted", "in_place.py", "inexact = sum_held(inexact, count)", "inexact = count"),
+    ("in place: refused blocks count", "in_place.py", "return (0, 0, refusal)", "return (0, len(newer), refusal)"),
+    ("in place: 6 blind to newer", "in_place.py", "(older, newer), pick_up",
+     "(older, [*newer, *[0] * len(older)][:len(older)]), pick_up"),
+    ("in place: 6 blind to older", "in_place.py", "(older, newer), pick_up",
+     "([*older, *[0] * len(newer)][:len(newer)], newer), pick_up"),
+    ("in place: L of the older level", "in_place.py", "laplacian_at(grid, newer, point), second",
+     "laplacian_at(grid, older, point), second"),
+    ("in place: B of the older level", "in_place.py", "laplacian_twice_at(grid, newer, point)",
+     "laplacian_twice_at(grid, older, point)"),
+    ("in place: B left out", "in_place.py", "if m else 0", "if False else 0"),
+    ("in place: L of a fixed point as computed", "instrument.py", "laplacian(level, point, near) if near else 0",
+     "laplacian(level, point, near or neighbours(*grid[1:], point))"),
+    ("the two blocks not compared", "run.py", "if two != left_without_work(three):", "if False:"),
+    ("the levels of the two blocks not compared", "run.py", "if two != left_without_work(three):",
+     "if two[:3] != three[:3]:"),
+    ("work of a wrong length held against the block in place", "run.py", "if work_alone_is_wrong(arguments):", "if False:"),
+    ("no block in place in lists", "run.py", "if share < 0.6:", "if False:"),
+    ("the two blocks never beside each other in lists", "run.py", "if share < 0.2:", "if False:"),
     ("book takes a block of no steps", "book.py", "if steps == 0:", "if steps < 0:"),
     ("sum kept at a pluck", "book.py", "if refusal == 0:\n            self.take(older, newer)\n",
      "if refusal == 0:\n            kept = self.inexact\n            self.take(older, newer)\n"
@@ -171,8 +275,7 @@ EDITS = (
     ("levels never need be the book's", "book.py", "self.inexact > 0 or", "True or"),
     ("levels at rest taken for a check", "book.py", " and any((*older, *newer))", ""),
     ("counts not looked at in lists", "run.py", "self.counted(book, older, newer)", "book.count_tells(older, newer)"),
-    ("count read at the place of the steps", "library.py", "inexact.values()[0], a.values()",
-     "steps.values()[0], a.values()"),
+    ("count read at the place of the steps", "library.py", "inexact.values()[0], *", "steps.values()[0], *"),
     ("steps for counts in lists", "run.py", "*outcome[1:3], heard", "outcome[1], outcome[1], heard"),
     ("256 bytes taken", "ring.py", "len(line) > 255", "len(line) > 256"),
     ("two spaces taken", "ring.py", "[0-9]+ )", "[0-9]+ +)"),

@@ -10,6 +10,9 @@ import must_fail
 from draws import from_bits
 from library import open_library, wrong_stand_in
 
+# By opcode: the block and the lent buffers that it takes.
+BLOCKS = {3: ("block", (0, 1, 2, 3)), 7: ("block_in_place", (0, 1, 3))}
+
 
 def play(library, numbers):
     """None, or the record that does not hold."""
@@ -27,11 +30,13 @@ def play(library, numbers):
             if opcode == 1:
                 lent[which] = values
             holds = lent[which] == values
-        elif opcode == 3:
-            kind, columns, rows, q, m, s, pick_up, hit, point, force, steps, inexact, refusal = take(13)
-            *found, lent[0], lent[1], lent[2], lent[3] = library.block(
-                kind, columns, rows, q, m, s, *lent, pick_up, hit, point, force)
-            holds = found == [refusal, steps, inexact]
+        elif opcode in BLOCKS:
+            name, buffers = BLOCKS[opcode]
+            *arguments, steps, inexact, refusal = take(13)
+            found = getattr(library, name)(*arguments[:6], *(lent[which] for which in buffers), *arguments[6:])
+            for which, values in zip(buffers, found[3:]):
+                lent[which] = values
+            holds = found[:3] == (refusal, steps, inexact)
         elif opcode == 4:
             *arguments, refusal = take(7)
             found, lent[0], lent[1] = library.pluck(*arguments[:3], lent[0], lent[1], *arguments[3:])
@@ -67,7 +72,7 @@ def main():
         print(fault or "every record holds")
         return 1 if fault else 0
     edits = must_fail.seen_by_calls()
-    files = [f"{sys.argv[2]}/{name}.txt" for name in ("calls", "sheets")]
+    files = [f"{sys.argv[2]}/{name}.txt" for name in ("calls", "sheets", "in_place")]
     survived = [edit[0] for edit in edits if not any(play_file(wrong_stand_in(edit), path) for path in files)]
     print(*(f"not found: {name}" for name in survived), sep="\n", end="\n" if survived else "")
     print(len(edits) - len(survived), "wrong stand-ins found by the vectors")

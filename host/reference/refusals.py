@@ -17,6 +17,25 @@ def lowest(tests):
     return 0
 
 
+def of_block(grid, settings, levels, pick_up, hit):
+    """The refusal of a block before its first step; levels are older, newer and, where it is lent, work."""
+    kind, columns, rows = grid
+    return lowest({
+        1: lambda: unknown_kind(kind),
+        2: lambda: outside_table(*grid),
+        4: lambda: bad_coefficient(settings),
+        5: lambda: not_stable(kind, settings),
+        6: lambda: bad_length(columns, rows, levels),
+        # "with 7 and 8 only if a hit is given".
+        7: lambda: hit is not None and not_moving(grid, hit[0]),
+        8: lambda: hit is not None and beyond(hit[1]),
+        9: lambda: not_a_point(columns, rows, pick_up),
+        # "The old content of work plays no part."
+        11: lambda: some_beyond(levels[:2]),
+        12: lambda: fixed_not_zero(grid, levels[:2]),
+    })
+
+
 def unknown_kind(kind):  # 1, "1 now admits kind 7 except for plucks"
     return kind not in KINDS
 
@@ -63,7 +82,7 @@ def not_moving(grid, point):  # 7
     return point not in moving_set(*grid)
 
 
-def beyond(value):  # 8, "beyond the ceiling", on either side of zero
+def beyond(value):  # 8, and 13 for one point, "beyond the ceiling", on either side of zero
     return abs(value) > CEILING
 
 

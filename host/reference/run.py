@@ -5,21 +5,42 @@ import time
 
 import bounds
 from book import Book
-from draws import Draws, same_size_grids, to_bits
-from instrument import D, KINDS, LINE_KINDS
+from draws import Draws, is_known, same_size_grids, to_bits
+from instrument import D, KINDS, LINE_KINDS, moving
 from library import Overwritten, Reference
+from refusals import beyond
+from step import one_step
 
 REFERENCE = Reference()
+# The share of sizes around 64 points and a few times as many.
+LONG = 0.2
 
 
 class Difference(Exception):
     """The library and the reference, or the book and the bound, do not agree."""
 
 
-def shown(name, arguments, expected, found):
+def shown(name, arguments, expected, found, sides=("reference", "library  ")):
     """All arguments, floats with their bits, and both outcomes."""
     listed = [f"{x!r} ({to_bits(x):#x})" if isinstance(x, float) else repr(x) for x in arguments]
-    return f"{name}({', '.join(listed)})\nreference {expected}\nlibrary   {found}"
+    return f"{name}({', '.join(listed)})\n{sides[0]} {expected}\n{sides[1]} {found}"
+
+
+def without_work(arguments):
+    """The arguments of a block for the block in place."""
+    return *arguments[:8], *arguments[9:]
+
+
+def left_without_work(outcome):
+    """The outcome of a block in the form of the block in place."""
+    return *outcome[:5], outcome[6]
+
+
+def work_alone_is_wrong(arguments):
+    """Whether work, and neither older nor newer, has a wrong length."""
+    _, columns, rows, *_ = arguments
+    older, newer, work = (len(level) == columns * rows for level in arguments[6:9])
+    return older and newer and not work
 
 
 class WatchedBook(Book):
@@ -45,6 +66,7 @@ class Run:
 
     def __init__(self, library, seed, progress, stop_at=None):
         self.library, self.draw, self.progress, self.stop_at = library, Draws(seed), progress, stop_at
+        self.draw.long = LONG
         self.counts = collections.Counter()
 
     def call(self, name, *arguments):
@@ -60,33 +82,65 @@ class Run:
         if found != expected:
             raise Difference(shown(name, arguments, expected, found))
         self.counts[name, expected[0]] += 1
-        if name == "block" and expected[0] in (0, 13):
+        if name in ("block", "block_in_place") and expected[0] in (0, 13):
             kind, _, _, _, m = arguments[:5]
             self.counts[f"kind {kind}{', stiff' if m else ''}"] += 1
             self.counts["inexact points"] += expected[2]
             self.counts["inexact blocks"] += expected[2] > 0
         return expected
 
-    def block(self, grid, settings, older, newer):
-        """A block with drawn work, samples, pick-up and hit; the hit, the pick-up and the outcome."""
+    def block_arguments(self, grid, settings, older, newer):
+        """Those of a block, with drawn work, samples, pick-up and hit."""
         draw = self.draw
         size = len(newer)
         work = [draw.randint(-9, 9)] * size
         if draw.rarely(draw.odds / 2):
             work = draw.level(grid)
+        if draw.rarely():
+            work = [draw.randint(-9, 9)] * draw.wrong_length(size)
         hit, point, force = 0, draw.wild(), draw.wild_signed()
         if draw.rarely(0.6):
             hit, point, force = draw.choice((1, 1, draw.wild() or 1)), draw.point(grid, True), draw.force()
-        samples, pick_up = self.samples(size), draw.point(grid)
-        outcome = self.call("block", *grid, *settings, older, newer, work, samples, pick_up, hit, point, force)
-        return (point, force) if hit else None, pick_up, outcome
+        return *grid, *settings, older, newer, work, self.samples(size), draw.point(grid), hit, point, force
+
+    def both_blocks(self, arguments):
+        """Both blocks on the same input; the outcome, without work."""
+        three = self.call("block", *arguments)
+        two = self.call("block_in_place", *without_work(arguments))
+        if work_alone_is_wrong(arguments):
+            self.counts["both, work of a wrong length"] += 1
+            three = REFERENCE.block(*arguments[:8], arguments[6], *arguments[9:])
+        if two != left_without_work(three):
+            raise Difference(shown("both blocks", arguments, three, two, ("three levels", "in place    ")))
+        self.counts["both"] += 1
+        if two[0] == 13:
+            self.count_thirteen(arguments, two)
+        return two
+
+    def count_thirteen(self, arguments, outcome):
+        """13 in the first step or later, and where the last moving point alone would pass the ceiling."""
+        grid, settings, (hit, *given) = arguments[:3], arguments[3:6], arguments[11:]
+        _, steps, _, older, newer, _ = outcome
+        following, _ = one_step(grid, settings, older, newer, given if hit and steps == 0 else None)
+        passing = [point for point, value in enumerate(following) if beyond(value)]
+        self.counts["both, 13 later" if steps else "both, 13 first"] += 1
+        self.counts["both, 13 last point"] += passing == [moving(*grid)[-1][0]]
+
+    def either_block(self, arguments):
+        """One block of the two, now and then both; the outcome, without work."""
+        share = self.draw.random()
+        if share < 0.2:
+            return self.both_blocks(arguments)
+        if share < 0.6:
+            return self.call("block_in_place", *without_work(arguments))
+        return left_without_work(self.call("block", *arguments))
 
     def samples(self, size):
         """Few on large grids; now and then very many on the smallest."""
         if size <= 5 and self.draw.rarely(0.001):
             return [0] * self.draw.randint(500, 1500)
         samples = self.draw.samples()
-        return samples if size <= 100 else samples[:6]
+        return samples if size <= 62 else samples[:5]
 
     def pluck_arguments(self, grid, older, newer):
         draw = self.draw
@@ -94,17 +148,19 @@ class Run:
 
     def block_beside(self, book, grid, settings, older, newer):
         """A block with its book, every sample beside the book after as many steps; the outcome."""
-        hit, pick_up, outcome = self.block(grid, settings, older, newer)
+        arguments = self.block_arguments(grid, settings, older, newer)
+        pick_up, hit, *given = arguments[10:]
+        outcome = self.either_block(arguments)
 
         def heard(number):
-            sample = outcome[6][number]
+            sample = outcome[5][number]
             passed = bounds.sample_passed(book, pick_up, sample)
             if passed:
                 raise Difference(f"sample beyond {passed[0]}: n {book.n}, last step {book.last}\n"
                                  f"sample {sample}\nbook {book.newer[pick_up]}\nscale {book.scale}")
             self.counts["samples beside the book"] += 1
 
-        book.block(*grid, *settings, older, newer, hit, *outcome[1:3], heard)
+        book.block(*grid, *settings, older, newer, given if hit else None, *outcome[1:3], heard)
         return outcome
 
     def settings(self, kind):
@@ -160,6 +216,16 @@ class Run:
         self.counts["exact calls"] += exact
         draw.unit = 1
 
+    def start_of_block(self, grid):
+        """Settings and two levels of a single block; now and then newer alone has a wrong length."""
+        draw = self.draw
+        if is_known(grid) and draw.rarely(0.1):
+            return draw.loud_at_the_end(grid)
+        settings, (older, newer) = draw.settings(grid[0]), draw.levels(grid)
+        if draw.rarely(draw.odds / 2):
+            newer = draw.level(grid, draw.wrong_length(len(newer)))
+        return settings, older, newer
+
     def one_call(self):
         """A single call outside a list."""
         draw = self.draw
@@ -174,7 +240,7 @@ class Run:
             self.call("sheet", *grid, record.rate, record.length, record.bending, speed_kind,
                       record.speed[1], density, loss_kind, record.loss[1])
         elif name == "block":
-            self.block(grid, draw.settings(kind), *draw.levels(grid))
+            self.both_blocks(self.block_arguments(grid, *self.start_of_block(grid)))
         elif name == "pluck":
             self.call("pluck", *self.pluck_arguments(grid, *draw.levels(grid)))
         else:

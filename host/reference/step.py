@@ -1,26 +1,31 @@
-"""One step: the numerator, its rounding, the count of inexact points, the sample and the float reading."""
+"""One step: the numerator, its rounding, the count of inexact points and their sum, the sample and the float reading."""
 
 from instrument import D, laplacians, moving
 
+# "held at 2^64 - 1 once it would pass that".
+LARGEST_SUM = 2**64 - 1
+
+
+def force_at(hit, point):
+    """"f is the hit's force in units at the hit point, else 0"; hit is None or (point, force)."""
+    return hit[1] if hit is not None and hit[0] == point else 0
+
+
+def numerator_of(settings, u, p, first, second, force):
+    """"2D x u + q x L - m x B - (D-s) x p + D x f" of one point, L first and B second."""
+    q, m, s = settings
+    return 2 * D * u + q * first - m * second - (D - s) * p + D * force
+
 
 def numerators(grid, settings, older, newer, hit):
-    """"2D x u + q x L - m x B - (D-s) x p + D x f" at moving points, 0 at fixed ones.
-
-    hit is None or (point, force).
-    """
-    q, m, s = settings
+    """The numerators at moving points, 0 at fixed ones."""
     first = laplacians(grid, newer)
     # "B is L taken of L, where L counts as 0 at the supported ends"; for kind 7 "B is L taken of L on the grid, with L
     # counted 0 on the outer ring": laplacians gives 0 there.
-    second = laplacians(grid, first) if m else first
+    second = laplacians(grid, first) if settings[1] else first
     result = [0] * len(newer)
     for point, _ in moving(*grid):
-        result[point] = (2 * D * newer[point] + q * first[point] - m * second[point]
-                         - (D - s) * older[point])
-    if hit is not None:
-        # "f is the hit's force in units at the hit point, else 0".
-        point, force = hit
-        result[point] += D * force
+        result[point] = numerator_of(settings, newer[point], older[point], first[point], second[point], force_at(hit, point))
     return result
 
 
@@ -45,6 +50,11 @@ def one_step(grid, settings, older, newer, hit):
     values = numerators(grid, settings, older, newer, hit)
     level = [round_half_away(value, divisor)[0] for value in values]
     return level, inexact_points(grid, divisor, values)
+
+
+def sum_held(so_far, count):
+    """The sum of the counts so far and of one more step."""
+    return min(so_far + count, LARGEST_SUM)
 
 
 def sample(value):

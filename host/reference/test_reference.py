@@ -1,4 +1,4 @@
-"""Tests of the reference: the paper's examples, its rules for T, energy, distance and counts, each refusal."""
+"""Tests of the reference: the paper's examples, its rules for T, energy, distance and counts, each refusal, both blocks."""
 
 import math
 import multiprocessing
@@ -9,12 +9,13 @@ from unittest import mock
 import book
 import calls
 import draws
+import in_place
 import instrument
 import pluck
 import run
 import sheet
 import step
-from instrument import CEILING, D, KINDS
+from instrument import CEILING, D, KINDS, LINE_KINDS
 from library import Reference, stand_in
 from sheet import Sheet
 
@@ -44,6 +45,16 @@ def refusal_at_rest(kind, columns, rows, q, m):
     """The refusal of a block of no steps, all levels 0."""
     level = [0] * (columns * rows)
     return calls.block(kind, columns, rows, q, m, 0, level, level, level, [], 0, None)[0][2]
+
+
+def beside(case):
+    """The outcomes of block, without work, and of block_in_place for the arguments of a block by name."""
+    answer, older, newer, _, samples = calls.block(**case)
+    return (answer, older, newer, samples), calls.block_in_place(**without_work(case))
+
+
+def without_work(case):
+    return {name: value for name, value in case.items() if name != "work"}
 
 
 class Examples(unittest.TestCase):
@@ -634,7 +645,7 @@ class Inexact(unittest.TestCase):
                 (2**63, 2**63, most), (most - 1, 0, most - 1), (most - 1, 1, most), (most - 1, 2, most),
                 (most, 0, most), (most, 1, most), (most, 4096, most), (most - 4096, 4095, most - 1),
                 (most - 4096, 4096, most)):
-            self.assertEqual(calls.sum_held(so_far, count), expected)
+            self.assertEqual(step.sum_held(so_far, count), expected)
 
     def test_sum_of_a_block_is_held(self):
         """A block whose steps count as given, for no real one comes near."""
@@ -715,6 +726,164 @@ class Inexact(unittest.TestCase):
             self.assertEqual(level == exact_step(grid, settings, older, newer, hit), count == 0)
             found[count > 0] += any(level)
         self.assertGreater(min(found), 80)
+
+
+class InPlace(unittest.TestCase):
+    """Request 4: "the same samples, counts, refusals and levels as the three-level one"."""
+
+    grids = (1, 6, 1), (2, 6, 1), (3, 6, 1), (4, 6, 1), (5, 5, 4), (6, 6, 6), (7, 5, 4)
+
+    def played(self, grid, settings, older, newer, samples, pick_up=0, hit=None):
+        """What both blocks answer and leave, after a look that it is the same and that the lent lists are not changed."""
+        names = "kind", "columns", "rows", "q", "m", "s", "older", "newer", "samples", "pick_up", "hit", "work"
+        values = *grid, *settings, list(older), list(newer), list(samples), pick_up, hit, [7] * len(newer)
+        case = dict(zip(names, values))
+        three, two = beside(case)
+        self.assertEqual(two, three)
+        self.assertEqual((case["older"], case["newer"], case["samples"]), (list(older), list(newer), list(samples)))
+        return two
+
+    def test_worked_case(self):
+        """Point 2 would pass the ceiling in the second step, when point 1 has been tested."""
+        outcome = self.played((1, 4, 1), (0, 0, 0), [0, -1, 6 * 10**12, 0], [0, 1, 7 * 10**12, 0], [99] * 3, 2)
+        self.assertEqual(outcome, ((1, 0, 13), [0, 1, 7 * 10**12, 0], [0, 3, 8 * 10**12, 0], [29802, 99, 99]))
+
+    def test_numbers_of_steps(self):
+        """With q 0 the middle goes 4 3 2 .., a hit of 2 goes on as 2 more a step."""
+        for steps, older, newer in ((0, 5, 4), (1, 4, 3), (2, 3, 2), (3, 2, 1), (4, 1, 0), (5, 0, -1)):
+            outcome = self.played((1, 3, 1), (0, 0, 0), [0, 5, 0], [0, 4, 0], [99] * steps, 1)
+            self.assertEqual(outcome, ((steps, 0, 0), [0, older, 0], [0, newer, 0], [0] * steps))
+            outcome = self.played((1, 3, 1), (0, 0, 0), [0, 5, 0], [0, 4, 0], [99] * steps, 1, (1, 2))
+            more = 2 * max(steps - 1, 0), 2 * steps
+            self.assertEqual(outcome[1:3], ([0, older + more[0], 0], [0, newer + more[1], 0]))
+
+    def test_samples(self):
+        unit = 2**28
+        outcome = self.played((3, 3, 1), (0, 0, 0), [0] * 3, [unit, 5 * unit, 9 * unit], [99] * 4, 1)
+        self.assertEqual(outcome[3], [10, 15, 20, 25])
+
+    def test_examples(self):
+        """F and its slip, G, and a plate: as they stand in the paper and in Plate."""
+        for grid, settings, newer, following in (
+                ((3, 3, 1), (D, 0, 0), [4, 0, 0], [0, 4, 0]), ((3, 3, 1), (D, 0, 0), [0, 4, 0], [8, 0, 8]),
+                ((4, 5, 1), (0, 16384, 0), [0, 0, 8, 0, 0], [0, 8, 4, 8, 0]),
+                ((4, 5, 1), (0, 16384, 0), [0, 8, 0, 0, 0], [0, 6, 8, -2, 0]),
+                ((7, 5, 5), (0, 4096, 0), on_grid(5, 5, {6: 16}),
+                 on_grid(5, 5, {6: 14, 7: 8, 8: -1, 11: 8, 12: -2, 16: -1}))):
+            outcome = self.played(grid, settings, [0] * len(newer), newer, [99])
+            self.assertEqual(outcome[:3], ((1, 0, 0), newer, following))
+
+    def test_laplacians_of_one_point(self):
+        draw = draws.Draws("one point")
+        for grid in self.grids:
+            level = draw.level(grid)
+            first = instrument.laplacians(grid, level)
+            second = instrument.laplacians(grid, first)
+            self.assertEqual([instrument.laplacian_at(grid, level, point) for point in range(len(level))], first)
+            for point in instrument.moving_set(*grid):
+                self.assertEqual(instrument.laplacian_twice_at(grid, level, point), second[point])
+
+    def test_thirteen(self):
+        """In step 1, 2, 3 or 4, at the first and at the last moving point alone, above and below zero, each kind."""
+        grow = CEILING // 9
+        for grid in self.grids:
+            points = sorted(instrument.moving_set(*grid))
+            for done in range(4):
+                for loud in (points[0], points[-1]):
+                    for sign in (1, -1):
+                        newer = on_grid(*grid[1:], {point: point for point in points})
+                        newer[loud] = sign * (CEILING - done * grow)
+                        older = [0] * len(newer)
+                        older[loud] = newer[loud] - sign * grow
+                        outcome = self.played(grid, (0, 0, 0), older, newer, [99] * 6, points[1])
+                        self.assertEqual(outcome[0], (done, 0, 13))
+                        rest = [point for point in points if point != loud]
+                        self.assertEqual([outcome[1][point] for point in rest], [done * point for point in rest])
+                        self.assertEqual([outcome[2][point] for point in rest], [(done + 1) * point for point in rest])
+                        self.assertEqual((outcome[2][loud], outcome[3][done:]), (sign * CEILING, [99] * (6 - done)))
+
+    def test_thirteen_by_the_hit(self):
+        """Point 2 becomes 10 and the force, exactly at the ceiling or one beyond; it would go on growing."""
+        for force, steps in ((CEILING - 10, 1), (CEILING - 9, 0), (-CEILING, 1), (-CEILING // 3, 3)):
+            outcome = self.played((1, 4, 1), (0, 0, 0), [0, 3, 0, 0], [0, 4, 5, 0], [99] * 4, 1, (2, force))
+            self.assertEqual((outcome[0], outcome[1][1], outcome[2][1]), ((steps, 0, 13), 3 + steps, 4 + steps))
+
+    def test_thirteen_is_not_counted(self):
+        """Every moving point is inexact in every step, the one ended by 13 too."""
+        grow = CEILING // 9
+        for grid in self.grids:
+            points = sorted(instrument.moving_set(*grid))
+            for done in range(4):
+                older = on_grid(*grid[1:], {point: 1000 + 7 * point * point for point in points})
+                newer = list(older)
+                newer[points[-1]] = CEILING - 5 - done * grow
+                older[points[-1]] = newer[points[-1]] - grow
+                outcome = self.played(grid, (1, 0, 0), older, newer, [99] * 6)
+                self.assertEqual(outcome[0], (done, done * len(points), 13))
+
+    def test_refusals(self):
+        """Each number beside block; work, of whatever length, is not looked at."""
+        base = Refusals.block_base
+        for refusal, change in Refusals().block_causes():
+            case = {**base, **change}
+            for samples in ([], base["samples"]):
+                three, two = beside({**case, "samples": samples})
+                self.assertEqual(three[0], (0, 0, refusal))
+                if "work" in change:
+                    self.assertEqual(two, beside({**base, "samples": samples})[0])
+                    self.assertEqual((two[0][0], two[0][2]), (len(samples), 0))
+                else:
+                    self.assertEqual(two, three, change)
+                    self.assertEqual(two[1:], (case["older"], case["newer"], samples))
+
+    def test_lengths(self):
+        """"Refusal 6 looks at the two lengths only"."""
+        base = without_work(Refusals.block_base)
+        for name in ("older", "newer"):
+            for length in (0, 1, 3, 5, 8):
+                case = {**base, name: [0] * length}
+                outcome = calls.block_in_place(**case)
+                self.assertEqual(outcome, ((0, 0, 6), case["older"], case["newer"], case["samples"]), (name, length))
+        self.assertEqual(calls.block_in_place(**{**base, "older": [0] * 3, "newer": [0] * 3})[0], (0, 0, 6))
+
+    def test_pairs_of_refusals(self):
+        causes = [(number, change) for number, change in Refusals().block_causes() if "work" not in change]
+        for low, first in causes:
+            for high, second in causes:
+                if low < high and not set(first) & set(second):
+                    three, two = beside({**Refusals.block_base, **second, **first})
+                    self.assertEqual(two[0], (0, 0, low), (first, second))
+                    self.assertEqual(two, three, (first, second))
+
+    def test_sum_is_held(self):
+        """A block whose steps count as given, for no real one comes near."""
+        level = [0, 5, 0]
+        for given, expected in (([2**63, 2**63 - 2], 2**64 - 2), ([2**63, 2**63], 2**64 - 1), ([2**62] * 9, 2**64 - 1)):
+            with mock.patch.object(in_place, "overwrite", side_effect=given):
+                answer = calls.block_in_place(1, 3, 1, 0, 0, 0, level, level, [0] * len(given), 1, None)
+            self.assertEqual(answer[0], (len(given), expected, 0))
+
+    def test_random_input(self):
+        """Every kind, accepted and refused, with 13 in the first step and later; also with more than 64 points."""
+        draw, found, long = draws.Draws("in place"), {}, {}
+        draw.long = 0.1
+        for number in range(1500):
+            grid, settings, older, newer = (even_start if number % 2 else accepted_start)(draw, KINDS)
+            if number % 5 == 0:
+                settings, older, newer = draw.loud_at_the_end(grid)
+            draw.odds = 0.03
+            (steps, _, refusal), *_ = self.played(
+                grid, settings, older, newer, draw.samples(), draw.point(grid), draw.hit(grid))
+            key = grid[0], refusal, min(steps, 3)
+            found[key] = found.get(key, 0) + 1
+            if grid[1] * grid[2] > 64:
+                long[key] = long.get(key, 0) + 1
+        self.assertGreater(sum(count for (_, refusal, steps), count in long.items() if refusal == 0 and steps), 50)
+        self.assertGreater(sum(count for (_, refusal, _), count in long.items() if refusal == 13), 20)
+        for kind in KINDS:
+            for refusal, steps in ((0, 0), (0, 1), (0, 2), (0, 3), (13, 0), (13, 1), (13, 2)):
+                self.assertGreater(found.get((kind, refusal, steps), 0), 0, (kind, refusal, steps))
+        self.assertLessEqual({7, 8, 9}, {refusal for _, refusal, _ in found})
 
 
 class Book(unittest.TestCase):
@@ -872,19 +1041,32 @@ class Counting(Reference):
         super().__init__()
         self.count = count
 
-    def block(self, *arguments):
-        refusal, steps, inexact, *after = super().block(*arguments)
+    def either_block(self, *arguments):
+        refusal, steps, inexact, *after = super().either_block(*arguments)
         return (refusal, steps, self.count(inexact), *after)
 
 
-class Comparison(unittest.TestCase):
-    """run.py: the lists of the comparison."""
+class Parted(Reference):
+    """A reference whose block in place gives something else than its block."""
 
-    def play(self, library, lists=200):
+    def __init__(self, other):
+        super().__init__()
+        self.other = other
+
+    def block_in_place(self, *arguments):
+        return self.other(*super().block_in_place(*arguments))
+
+
+class Comparison(unittest.TestCase):
+    """run.py: the lists and the single calls of the comparison."""
+
+    def play(self, library, lists=200, singles=0, odds=0.0):
         playing = run.Run(library, "comparison", multiprocessing.Value("Q", 0, lock=False))
-        playing.draw.odds = 0.0
+        playing.draw.odds = odds
         for _ in range(lists):
             playing.one_list()
+        for _ in range(singles):
+            playing.one_call()
         return playing.counts
 
     def test_draws(self):
@@ -895,12 +1077,57 @@ class Comparison(unittest.TestCase):
         self.assertGreater(counts["inexact blocks"], 300)
         self.assertGreater(counts["inexact points"], 3 * counts["inexact blocks"])
 
+    def test_long_sizes(self):
+        """Around 64 points and a few times as many, right for the kind, with points where a piece of 64 ends or begins."""
+        draw = draws.Draws("long sizes")
+        draw.odds, draw.long = 0.0, 1.0
+        for kind in KINDS:
+            grids = [(kind, *draw.size(kind)) for _ in range(300)]
+            self.assertTrue(all(draws.is_known(grid) for grid in grids))
+            if kind in LINE_KINDS:
+                self.assertLessEqual(set(draws.LONG_LINES), {columns for _, columns, _ in grids})
+                self.assertGreater(sum(columns not in draws.LONG_LINES for _, columns, _ in grids), 30)
+            self.assertGreater(sum(columns * rows > 64 for _, columns, rows in grids), 150)
+            for grid in grids:
+                self.assertIn(draw.point(grid, True), instrument.moving_set(*grid))
+                self.assertLess(draw.point(grid), grid[1] * grid[2])
+        points = [draw.point((3, 130, 1), True) for _ in range(500)]
+        self.assertLessEqual({*range(62, 67), *range(126, 130)}, set(points))
+        self.assertGreater(sum(point in draws.SEAMS for point in points), 150)
+
+    def test_draws_of_both_blocks(self):
+        """Lists use each block and both; single blocks are given to both, with 13 at every place, and with work of a wrong length."""
+        counts = self.play(Reference())
+        blocks, in_place = (sum(counts[key] for key in counts if key[0] == name) for name in ("block", "block_in_place"))
+        self.assertGreater(min(blocks, in_place), 400)
+        self.assertTrue(100 < counts["both"] < min(blocks, in_place) / 2)
+        counts = self.play(Reference(), 0, 2000, 0.05)
+        blocks, in_place = (sum(counts[key] for key in counts if key[0] == name) for name in ("block", "block_in_place"))
+        self.assertEqual((blocks, in_place), (counts["both"], counts["both"]))
+        for what, least in (("both, 13 first", 20), ("both, 13 later", 10), ("both, 13 last point", 10),
+                            ("both, work of a wrong length", 10)):
+            self.assertGreater(counts[what], least, what)
+
+    def test_blocks_that_do_not_agree(self):
+        """Where both sides agree on a block in place that is not as the block, the inputs given to both find it."""
+        for other in (lambda refusal, steps, *rest: (refusal, steps + 1, *rest),
+                      lambda refusal, steps, inexact, *rest: (refusal, steps, inexact + 1, *rest),
+                      lambda refusal, steps, inexact, older, newer, samples: (refusal, steps, inexact, older, older, samples),
+                      lambda refusal, steps, inexact, older, newer, samples: (refusal, steps, inexact, newer, newer, samples),
+                      lambda *rest: (*rest[:5], [0] * len(rest[5])),
+                      lambda refusal, *rest: (0 if refusal == 13 else refusal, *rest)):
+            with mock.patch.object(run, "REFERENCE", Parted(other)), self.assertRaisesRegex(run.Difference, "^both blocks"):
+                self.play(Parted(other), 0, 300)
+
     def test_stand_in(self):
         """The reference behind C functions, and its count of 0 written where a block is refused."""
         self.play(stand_in(), 40)
         arguments = 1, 3, 1, 16384, 0, 0, [0, 1, 0], [0, 1, 0], [7] * 3, [9] * 2
         self.assertEqual(stand_in().block(*arguments, 1, 0, 0, 0), (0, 2, 2, [0, 1, 0], [0, 1, 0], [0] * 3, [0] * 2))
         self.assertEqual(stand_in().block(*arguments, 3, 0, 0, 0), (9, 0, 0, *arguments[6:]))
+        arguments = run.without_work(arguments)
+        self.assertEqual(stand_in().block_in_place(*arguments, 1, 0, 0, 0), (0, 2, 2, [0, 1, 0], [0, 1, 0], [0] * 2))
+        self.assertEqual(stand_in().block_in_place(*arguments, 3, 0, 0, 0), (9, 0, 0, *arguments[6:]))
 
     def test_another_count_is_found(self):
         for count in (lambda inexact: 0, lambda inexact: inexact + 1, lambda inexact: min(inexact, 9),

@@ -1,6 +1,6 @@
 """Whether host/include/buvcsolta.h declares what the library exports: names, arguments and their types, refusal numbers, constants.
 
-    python3 check_header.py HEADER.h c_api/src/lib.rt types/src/lib.rt LIBRARY.so
+    python3 check_header.py HEADER.h c_api/src/lib.rt c_api_in_place/src/lib.rt types/src/lib.rt LIBRARY.so
 """
 
 import pathlib
@@ -73,9 +73,15 @@ def symbols(library):
     return {line.split()[2] for line in said.splitlines() if " T " in line}
 
 
-def differences(header, c_api, scheme, names):
+def sources(paths):
+    """The header, the sources of the two libraries of exports as one, the types."""
+    header, *exports, types = (pathlib.Path(path).read_text(encoding="utf-8") for path in paths)
+    return header, "\n".join(exports), types
+
+
+def differences(header, exports, scheme, names):
     """What does not agree, a line each."""
-    ours, theirs = exported(c_api), declared(header)
+    ours, theirs = exported(exports), declared(header)
     wrong = []
     for name in sorted({*ours, *theirs, *names}):
         if name not in names:
@@ -99,11 +105,11 @@ def differences(header, c_api, scheme, names):
 
 
 def main():
-    if len(sys.argv) != 5:
+    if len(sys.argv) != 6:
         raise SystemExit(__doc__)
-    header, c_api, scheme = (pathlib.Path(path).read_text(encoding="utf-8") for path in sys.argv[1:4])
-    wrong = differences(header, c_api, scheme, symbols(sys.argv[4]))
-    held = f"the header declares the {len(exported(c_api))} functions and {len(refusals(scheme))} refusals of the library"
+    header, exports, scheme = sources(sys.argv[1:5])
+    wrong = differences(header, exports, scheme, symbols(sys.argv[5]))
+    held = f"the header declares the {len(exported(exports))} functions and {len(refusals(scheme))} refusals of the library"
     print(*wrong or [held], sep="\n")
     return 1 if wrong else 0
 

@@ -1,5 +1,6 @@
-/* The header's calls: the paper's sheet, a pluck, a block with a hit, a reading, a fading string, a struck plate, refused calls, and a
- * block by the exported function itself, for writers of bindings. Prints what differs. Compiled as C99 and as C++11. */
+/* The header's calls: the paper's sheet, a pluck, a block with a hit, a reading, a fading string, a struck plate, blocks in place, refused
+ * calls, and both blocks by the exported functions themselves, for writers of bindings. Prints what differs. Compiled as C99 and as
+ * C++11. */
 #include "buvcsolta.h"
 #include <stdio.h>
 #include <string.h>
@@ -40,30 +41,48 @@ static void sheet_of_the_paper(void)
     expect("settings of a refused sheet", (int64_t)(drum.q | drum.m | drum.s), 0);
 }
 
-static void listing_of_the_paper(void)
-{
-    static const int16_t wanted[4] = {1, 0, -1, 0};
-    int64_t a[3] = {0, 0, 0}, b[3] = {0, 0, 0}, c[3] = {7, 7, 7};
-    int16_t samples[4];
-    size_t steps = 99;
-    uint64_t inexact = 99;
-    uint64_t refusal = buvcsolta_block(1, 3, 1, 65536, 0, 0, a, 3, b, 3, c, 3, samples, 4, 1, 1, 1, 268435456, &steps, &inexact);
-    expect_refusal("block", refusal, BUVCSOLTA_NOTHING);
-    expect("steps", (int64_t)steps, 4);
-    expect("inexact points", (int64_t)inexact, 0);
-    expect("samples", memcmp(samples, wanted, sizeof wanted), 0);
-    expect("work", c[0] | c[1] | c[2], 0);
-}
-
-/* A block of the string, picked up in its middle, into the samples below. */
+/* What a block leaves beside the levels. */
 static int16_t samples[PLACES];
 static size_t steps;
 static uint64_t inexact;
 
-static uint64_t block(const struct buvcsolta_levels *lent, const struct buvcsolta_hit *hit)
+static void forget(void)
 {
+    memset(samples, 0, sizeof samples);
     steps = 99;
     inexact = 99999;
+}
+
+static void expect_listing(uint64_t refusal)
+{
+    static const int16_t wanted[4] = {1, 0, -1, 0};
+    expect_refusal("block", refusal, BUVCSOLTA_NOTHING);
+    expect("steps", (int64_t)steps, 4);
+    expect("inexact points", (int64_t)inexact, 0);
+    expect("samples", memcmp(samples, wanted, sizeof wanted), 0);
+}
+
+static void listing_of_the_paper(void)
+{
+    int64_t a[3] = {0, 0, 0}, b[3] = {0, 0, 0}, c[3] = {7, 7, 7};
+    forget();
+    expect_listing(buvcsolta_block(1, 3, 1, 65536, 0, 0, a, 3, b, 3, c, 3, samples, 4, 1, 1, 1, 268435456, &steps, &inexact));
+    expect("work", c[0] | c[1] | c[2], 0);
+}
+
+static void listing_in_place(void)
+{
+    int64_t a[3] = {0, 0, 0}, b[3] = {0, 0, 0};
+    forget();
+    expect_listing(buvcsolta_block_in_place(1, 3, 1, 65536, 0, 0, a, 3, b, 3, samples, 4, 1, 1, 1, 268435456, &steps, &inexact));
+    expect_refusal("newer too short", buvcsolta_block_in_place(1, 3, 1, 65536, 0, 0, a, 3, b, 2, samples, 4, 1, 0, 0, 0, &steps, &inexact),
+                   BUVCSOLTA_WRONG_LENGTH);
+}
+
+/* A block of the string, picked up in its middle. */
+static uint64_t block(const struct buvcsolta_levels *lent, const struct buvcsolta_hit *hit)
+{
+    forget();
     return buvcsolta_instrument_block(&string, lent, samples, PLACES, 50, hit, &steps, &inexact);
 }
 
@@ -118,6 +137,42 @@ static void struck_plate(void)
                    BUVCSOLTA_UNSTABLE);
 }
 
+/* Both blocks of an instrument at rest, each with a hit in its middle: the first has so many places, each later one 7 more. They answer
+ * and leave the same, and the last answers so. */
+static void expect_agreement(const struct buvcsolta_instrument *i, size_t places, int64_t force, uint64_t last)
+{
+    int64_t three[3][COLUMNS] = {{0}}, two[2][COLUMNS] = {{0}};
+    struct buvcsolta_levels lent = {three[0], three[1], three[2], i->columns * i->rows};
+    struct buvcsolta_levels lent_in_place = {two[0], two[1], NULL, lent.length};
+    struct buvcsolta_hit hit = {i->rows / 2 * i->columns + i->columns / 2, force};
+    int16_t heard[PLACES] = {0};
+    size_t done;
+    uint64_t rounded, refusal = BUVCSOLTA_NOTHING;
+    forget();
+    for (; places < PLACES && refusal == BUVCSOLTA_NOTHING; places += 7) {
+        refusal = buvcsolta_instrument_block(i, &lent, samples, places, hit.point, &hit, &steps, &inexact);
+        expect_refusal("in place", buvcsolta_instrument_block_in_place(i, &lent_in_place, heard, places, hit.point, &hit, &done, &rounded),
+                       refusal);
+        expect("steps in place", (int64_t)done, (int64_t)steps);
+        expect("inexact points in place", (int64_t)rounded, (int64_t)inexact);
+        expect("samples in place", memcmp(heard, samples, sizeof heard), 0);
+        expect("levels in place", memcmp(two, three, sizeof two), 0);
+    }
+    expect_refusal("the last block", refusal, last);
+}
+
+static void blocks_in_place(void)
+{
+    for (uint64_t kind = BUVCSOLTA_STRING_FIXED; kind <= BUVCSOLTA_PLATE; kind++) {
+        size_t rows = kind <= BUVCSOLTA_BAR ? 1 : 10;
+        uint64_t m = kind == BUVCSOLTA_BAR || kind == BUVCSOLTA_PLATE ? 500 : 0;
+        struct buvcsolta_instrument i = {kind, 100 / rows, rows, 11378, m, 8};
+        expect_agreement(&i, 0, 100 * BUVCSOLTA_UNITS_PER_SAMPLE, BUVCSOLTA_NOTHING);
+        expect_agreement(&i, 0, BUVCSOLTA_CEILING, BUVCSOLTA_NEXT_BEYOND);     /* after the second block's first step */
+        expect_agreement(&i, 1, BUVCSOLTA_CEILING / 2, BUVCSOLTA_NEXT_BEYOND); /* by the second block's hit */
+    }
+}
+
 static void refused_calls(void)
 {
     struct buvcsolta_levels shorter = {older, newer, work, COLUMNS - 1};
@@ -139,9 +194,11 @@ int main(void)
 {
     sheet_of_the_paper();
     listing_of_the_paper();
+    listing_in_place();
     plucked_string();
     fading_string();
     struck_plate();
+    blocks_in_place();
     refused_calls();
     if (failures)
         printf("example: %d differences\n", failures);

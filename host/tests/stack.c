@@ -14,7 +14,8 @@ static unsigned char *frame;
 static int64_t older[POINTS], newer[POINTS], work[POINTS];
 static int16_t samples[PLACES];
 static struct buvcsolta_instrument instrument;
-static uint64_t refusal;
+static size_t steps;
+static uint64_t refusal, inexact;
 static ucontext_t here, there;
 
 static struct buvcsolta_levels levels(void)
@@ -23,14 +24,26 @@ static struct buvcsolta_levels levels(void)
     return lent;
 }
 
+static struct buvcsolta_hit middle_hit(void)
+{
+    struct buvcsolta_hit hit = {instrument.rows / 2 * instrument.columns + instrument.columns / 2, 1000000};
+    return hit;
+}
+
 static void call_block(void)
 {
     struct buvcsolta_levels lent = levels();
-    struct buvcsolta_hit hit = {instrument.rows / 2 * instrument.columns + instrument.columns / 2, 1000000};
-    size_t steps;
-    uint64_t inexact;
+    struct buvcsolta_hit hit = middle_hit();
     frame = __builtin_frame_address(0);
     refusal = buvcsolta_instrument_block(&instrument, &lent, samples, PLACES, hit.point, &hit, &steps, &inexact);
+}
+
+static void call_block_in_place(void)
+{
+    struct buvcsolta_levels lent = levels();
+    struct buvcsolta_hit hit = middle_hit();
+    frame = __builtin_frame_address(0);
+    refusal = buvcsolta_instrument_block_in_place(&instrument, &lent, samples, PLACES, hit.point, &hit, &steps, &inexact);
 }
 
 static void call_pluck(void)
@@ -108,13 +121,14 @@ static size_t most(const struct row *r)
 int main(int argc, char **argv)
 {
     static const struct row rows[] = {
-        {"block", call_block, 1, 6}, {"block of a plate", call_block, 7, 7}, {"pluck", call_pluck, 1, 7},
-        {"reading", call_reading, 1, 7}, {"sheet", call_sheet, 1, 7},
+        {"block", call_block, 1, 6}, {"block of a plate", call_block, 7, 7},
+        {"block in place", call_block_in_place, 1, 6}, {"block in place of a plate", call_block_in_place, 7, 7},
+        {"pluck", call_pluck, 1, 7}, {"reading", call_reading, 1, 7}, {"sheet", call_sheet, 1, 7},
     };
     enum { ROWS = sizeof rows / sizeof *rows };
     int passed = 0;
     if (argc != ROWS + 1) {
-        fputs("usage: stack BLOCK PLATE PLUCK READING SHEET, the bytes that each may need\n", stderr);
+        fputs("usage: stack BLOCK PLATE IN_PLACE PLATE_IN_PLACE PLUCK READING SHEET, the bytes that each may need\n", stderr);
         return 2;
     }
     for (int k = 0; k < ROWS; k++)

@@ -1,24 +1,26 @@
 """Wrong headers that check_header.py must find.
 
-    python3 test_check_header.py HEADER.h c_api/src/lib.rt types/src/lib.rt
+    python3 test_check_header.py HEADER.h c_api/src/lib.rt c_api_in_place/src/lib.rt types/src/lib.rt
 """
 
-import pathlib
 import sys
 
-from check_header import differences, exported
+from check_header import differences, exported, sources
+
+# How the lines of the two blocks' arguments begin.
+BLOCK, IN_PLACE = ("\n" + len(f"uint64_t {name}(") * " " for name in ("buvcsolta_block", "buvcsolta_block_in_place"))
 
 # (what is wrong, text of the header, text in its place)
 EDITS = (
     ("a function left out", "uint64_t buvcsolta_pluck(uint64_t kind, size_t columns", "uint64_t other(uint64_t kind, size_t columns"),
     ("a wrong name", "uint64_t buvcsolta_reading(uint64_t", "uint64_t buvcsolta_read(uint64_t"),
-    ("an argument left out", "size_t pick_up, uint64_t hit, ", "size_t pick_up, "),
+    ("an argument left out", f"{BLOCK}size_t pick_up, uint64_t hit, ", f"{BLOCK}size_t pick_up, "),
     ("an argument too many", "double *value);", "double *value, size_t more);"),
-    ("the count of inexact points left out", ", uint64_t *inexact);", ");"),
-    ("a count of 32 bits", "uint64_t *inexact);", "uint32_t *inexact);"),
-    ("arguments exchanged", "uint64_t q, uint64_t m, uint64_t s,\n", "uint64_t m, uint64_t q, uint64_t s,\n"),
-    ("samples of 32 bits", "int16_t *samples, size_t samples_length,\n                         size_t",
-     "int32_t *samples, size_t samples_length,\n                         size_t"),
+    ("the count of inexact points left out", ", uint64_t *inexact);\n\n/* A block in place", ");\n\n/* A block in place"),
+    ("a count of 32 bits", "uint64_t *inexact);\n\n/* A pluck", "uint32_t *inexact);\n\n/* A pluck"),
+    ("arguments exchanged", f"uint64_t q, uint64_t m, uint64_t s,{BLOCK}int", f"uint64_t m, uint64_t q, uint64_t s,{BLOCK}int"),
+    ("samples of 32 bits", f"int16_t *samples, size_t samples_length,{BLOCK}size", f"int32_t *samples, size_t samples_length,{BLOCK}size"),
+    ("a block in place with work", f"{IN_PLACE}int16_t *samples", f"{IN_PLACE}int64_t *work, size_t work_length, int16_t *samples"),
     ("a signed kind", "uint64_t buvcsolta_sheet(uint64_t kind", "uint64_t buvcsolta_sheet(int64_t kind"),
     ("a number for a pointer", "uint64_t *q, uint64_t *m, uint64_t *s);", "uint64_t *q, uint64_t *m, uint64_t s);"),
     ("a float of 32 bits", "double loss,\n", "float loss,\n"),
@@ -36,17 +38,17 @@ EDITS = (
 
 
 def main():
-    if len(sys.argv) != 4:
+    if len(sys.argv) != 5:
         raise SystemExit(__doc__)
-    header, c_api, scheme = (pathlib.Path(path).read_text(encoding="utf-8") for path in sys.argv[1:])
-    names = set(exported(c_api))
-    faults = [f"the header itself: {wrong}" for wrong in differences(header, c_api, scheme, names)]
+    header, exports, scheme = sources(sys.argv[1:])
+    names = set(exported(exports))
+    faults = [f"the header itself: {wrong}" for wrong in differences(header, exports, scheme, names)]
     for what, text, other in EDITS:
         if header.count(text) != 1:
             faults.append(f"not once in the header: {text!r}")
-        elif not differences(header.replace(text, other), c_api, scheme, names):
+        elif not differences(header.replace(text, other), exports, scheme, names):
             faults.append(f"not found: {what}")
-    if not differences(header, c_api, scheme, names - {"buvcsolta_sheet"}):
+    if not differences(header, exports, scheme, names - {"buvcsolta_sheet"}):
         faults.append("not found: a library without buvcsolta_sheet")
     print(*faults or [f"{len(EDITS) + 1} wrong headers and libraries found"], sep="\n")
     return 1 if faults else 0

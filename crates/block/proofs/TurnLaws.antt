@@ -1,16 +1,17 @@
--- What a block leaves, by what its steps left in three slices.
-use mathlib.Core.Path.{_≡_, sym, _∙_}
-use mathlib.Core.Bool.{true, false}
+-- What a block leaves, by what its steps left in the slices.
+use mathlib.Core.Path.{_≡_, sym, ap, _∙_}
+use mathlib.Core.Bool.{Bool, true, false, cond}
 use mathlib.Core.List.{List}
 use lib.IntN.{ℤ, pos}
 use lib.ListN.{length, replicate}
 use Rattle.types.specs.declared.BlockAnswer.{BlockAnswer}
 use Rattle.types.specs.declared.Refusal.{Refusal}
-use Rattle.scheme.specs.Calls.{AfterBlock, blockLeft}
+use Rattle.scheme.specs.Calls.{AfterBlock, AfterInPlace, blockLeft, inPlaceLeft}
+use Rattle.steps.specs.declared.turns.InPlace.{InPlace}
 use Rattle.steps.specs.declared.turns.InTurn.{InTurn}
 use Rattle.steps.specs.Roles.{olderOf, newerOf}
-use Rattle.steps.specs.Turns.{Turned}
-use Rattle.steps.proofs.RoleLaws.{roles-0}
+use Rattle.steps.specs.Turns.{Turned, TurnedInPlace}
+use Rattle.steps.proofs.RoleLaws.{roles-at}
 
 module _ {r : Refusal} {b : AfterBlock} {t : InTurn} {older newer work samples : List ℤ} (q : Turned r b t older newer work samples) where
   abbrev told : BlockAnswer
@@ -23,7 +24,7 @@ module _ {r : Refusal} {b : AfterBlock} {t : InTurn} {older newer work samples :
   pub left-refused : t .begun ≡ false → blockLeft told older newer work samples ≡ b
   left-refused e =
       let kept = q .refused e in
-      let roles = roles-0 (t .phase) older newer work (kept .0) in
+      let roles = roles-at (t .phase) older newer work 0 (kept .0) in
       let first = sym (roles .older-is) ∙ q .older-is in
       let second = sym (roles .newer-is) ∙ q .newer-is in
       λ k. blockLeft (answer k) (first k) (second k) (kept .1 k) (q .samples-are k)
@@ -37,3 +38,25 @@ module _ {r : Refusal} {b : AfterBlock} {t : InTurn} {older newer work samples :
       let second = g ∙ q .newer-is in
       let third = h ∙ sym (q .carried e .zeros-are) in
       λ k. blockLeft (answer k) (first k) (second k) (third k) (q .samples-are k)
+
+module _ {b : AfterInPlace} {t : InPlace} {older newer samples : List ℤ} (q : TurnedInPlace b t older newer samples) where
+  abbrev told-two : BlockAnswer
+  told-two = record { steps = t .steps; inexact = t .inexact; refusal = t .refusal }
+
+  answer-two : told-two ≡ b .answer
+  answer-two k = record { steps = q .steps-are k; inexact = q .inexact-is k; refusal = q .refusal-is k }
+
+  -- the levels are in their places
+  pub left-there : t .exchanged ≡ false → inPlaceLeft told-two older newer samples ≡ b
+  left-there e =
+      let first = ap (λ (x : Bool). cond x newer older) (sym e) ∙ q .older-is in
+      let second = ap (λ (x : Bool). cond x older newer) (sym e) ∙ q .newer-is in
+      λ k. inPlaceLeft (answer-two k) (first k) (second k) (q .samples-are k)
+
+  -- they were exchanged
+  pub left-exchanged : {older₁ newer₁ : List ℤ} → t .exchanged ≡ true → older₁ ≡ newer → newer₁ ≡ older
+      → inPlaceLeft told-two older₁ newer₁ samples ≡ b
+  left-exchanged e f g =
+      let first = f ∙ ap (λ (x : Bool). cond x newer older) (sym e) ∙ q .older-is in
+      let second = g ∙ ap (λ (x : Bool). cond x older newer) (sym e) ∙ q .newer-is in
+      λ k. inPlaceLeft (answer-two k) (first k) (second k) (q .samples-are k)

@@ -1,5 +1,6 @@
 // The engine: every call that a maker embeds, and the types that they take and answer.
 pub use block::block;
+pub use block::block_in_place;
 pub use pluck::pluck;
 pub use reading::reading;
 pub use sheet::Loss;

@@ -9,7 +9,7 @@ use Rattle.scheme.specs.Step.{beside, neighbours, laplacian, innerLaplac
 use Rattle.scheme.specs.Step.{inexactIn, someBeyond, sampleOf, floatOf}
 use Rattle.scheme.specs.Pluck.{pluckAt, pluckLevel}
 use Rattle.scheme.specs.Refusals.{fixedNotZero, blockRefusal, pluckRefusal, readingRefusal, instrumentRefusal}
-use Rattle.scheme.specs.Calls.{play, capped, block, pluck, reading}
+use Rattle.scheme.specs.Calls.{play, capped, block, blockInPlace, pluck, reading}
 use Rattle.scheme.specs.Energy.{weight, squares, later, pairSum, laplacianSum, energy}
 use Rattle.scheme.specs.Book.{unroundedAt, unroundedStep, unroundedSteps, goesOn, bookBlock, bookPluck, sumBlock, sumPluck}
 use Rattle.scheme.specs.Book.{leaves, bookCall, sumCall, calls}
@@ -21,8 +21,9 @@ use Rattle.scheme.specs.FurtherExamples.{numbers, kinds, lineSizes, memb
 use Rattle.scheme.specs.FurtherExamples.{lengths, hits, forces, pickUps, highPoints, fixedPoints, pluckKinds, pluckLengths}
 use Rattle.scheme.specs.FurtherExamples.{pluckCentres, pluckHeights, widths, readingRefusals, lowestFirst, samples, readings, plucked}
 use Rattle.scheme.specs.FurtherExamples.{pluckedDown, pluckedFree, pluckedBoth, ringListing, silence, endedBlock, atOnce}
-use Rattle.scheme.specs.FurtherExamples.{blockTurnedDown, emptyBlock, energies, bookGoesOn, bookStartsAnew, pluckedBook}
-use Rattle.scheme.specs.FurtherExamples.{pluckThenStep, outcomes, distances, halfOff, FurtherHold}
+use Rattle.scheme.specs.FurtherExamples.{blockTurnedDown, emptyBlock, inPlaceEnded, inPlaceAtOnce, inPlaceSteps, inPlaceLengths}
+use Rattle.scheme.specs.FurtherExamples.{inPlaceTurnedDown, inPlaceEmpty, energies, bookGoesOn, bookInPlace, bookStartsAnew}
+use Rattle.scheme.specs.FurtherExamples.{pluckedBook, pluckThenStep, outcomes, inPlaceOutcomes, distances, halfOff, FurtherHold}
 use Rattle.scheme.specs.PlateExamples as Plates
 use Rattle.scheme.specs.PlateExamples.{PlatesHold}
 
@@ -43,9 +44,9 @@ examples-hold J = (refl, refl)
 pub further-hold : FurtherHold
 unfolding sum sumOver tabulate someBelow countBelow only kindOf sizeIn stableIn roundEdge fixedIn moving freeIn beside neighbours laplacian
     innerLaplacian numerator roundAway nextAt nextLevel inexactAt inexactIn someBeyond sampleOf floatOf table pluckAt pluckLevel
-    fixedNotZero blockRefusal pluckRefusal readingRefusal instrumentRefusal play capped block pluck reading weight squares later pairSum
-    laplacianSum energy unroundedAt unroundedStep unroundedSteps goesOn bookBlock bookPluck sumBlock sumPluck leaves bookCall sumCall calls
-    ofBits div ofInt
+    fixedNotZero blockRefusal pluckRefusal readingRefusal instrumentRefusal play capped block blockInPlace pluck reading weight squares
+    later pairSum laplacianSum energy unroundedAt unroundedStep unroundedSteps goesOn bookBlock bookPluck sumBlock sumPluck leaves bookCall
+    sumCall calls ofBits div ofInt
 further-hold freeEndTwice = refl
 further-hold halfFree = (refl, refl)
 further-hold barWithLoss = refl
@@ -96,12 +97,20 @@ further-hold endedBlock = refl
 further-hold atOnce = (refl, refl)
 further-hold blockTurnedDown = refl
 further-hold emptyBlock = refl
+further-hold inPlaceEnded = refl
+further-hold inPlaceAtOnce = refl
+further-hold inPlaceSteps = (refl, refl)
+further-hold inPlaceLengths = refl
+further-hold inPlaceTurnedDown = refl
+further-hold inPlaceEmpty = refl
 further-hold energies = (refl, refl, refl)
 further-hold bookGoesOn = refl
+further-hold bookInPlace = (refl, refl)
 further-hold bookStartsAnew = refl
 further-hold pluckedBook = refl
 further-hold pluckThenStep = refl
 further-hold outcomes = refl
+further-hold inPlaceOutcomes = refl
 further-hold distances = (refl, refl)
 further-hold halfOff = record { all-points = refl; near = record { le = tt } }
 

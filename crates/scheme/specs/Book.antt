@@ -16,7 +16,7 @@ use Rattle.scheme.specs.Lists.{tabulate, point, times}
 use Rattle.scheme.specs.Instruments.{points, moving}
 use Rattle.scheme.specs.Step.{numerator, forceOf, divisor}
 use Rattle.scheme.specs.Pluck.{pluckLevel}
-use Rattle.scheme.specs.Calls.{accepted, AfterBlock, block, AfterPluck, pluck}
+use Rattle.scheme.specs.Calls.{accepted, AfterBlock, block, AfterInPlace, blockInPlace, AfterPluck, pluck}
 
 -- "the kind, grid and settings of its last step", if there was one
 pub data LastStep : Type 0 where
@@ -93,30 +93,37 @@ sumPluck done sum = cond done 0 sum
 
 -- ---- a call
 
--- "Each block or pluck in it gets both levels as the last one left them": its other arguments
+-- "Each block or pluck in it gets both levels as the last one left them": its other arguments.
+-- `inPlaceCall` is "a block that takes only older and newer".
 pub data Call : Type 0 where
   blockCall : Instrument → (work samples : List ℤ) → ℕ → Hit → Call
+  inPlaceCall : Instrument → (samples : List ℤ) → ℕ → Hit → Call
   pluckCall : Grid → ℕ → ℕ → ℤ → Call
 
 -- what a call answers, and what it leaves in the slices lent to it beside the two levels
 pub data Outcome : Type 0 where
   blockOutcome : BlockAnswer → (work samples : List ℤ) → Outcome
+  inPlaceOutcome : BlockAnswer → (samples : List ℤ) → Outcome
   pluckOutcome : Refusal → Outcome
 
 abbrev pub stepsOf : Outcome → ℕ
 stepsOf (blockOutcome a work samples) = a .steps
+stepsOf (inPlaceOutcome a samples) = a .steps
 stepsOf (pluckOutcome r) = 0
 
 abbrev pub inexactOf : Outcome → ℕ
 inexactOf (blockOutcome a work samples) = a .inexact
+inexactOf (inPlaceOutcome a samples) = a .inexact
 inexactOf (pluckOutcome r) = 0
 
 abbrev pub samplesOf : Outcome → List ℤ
 samplesOf (blockOutcome a work samples) = samples
+samplesOf (inPlaceOutcome a samples) = samples
 samplesOf (pluckOutcome r) = []
 
 abbrev pub refusalOf : Outcome → Refusal
 refusalOf (blockOutcome a work samples) = a .refusal
+refusalOf (inPlaceOutcome a samples) = a .refusal
 refusalOf (pluckOutcome r) = r
 
 -- all that a call leaves
@@ -128,21 +135,27 @@ pub record Left : Type 0 where
 abbrev pub leftByBlock : AfterBlock → Left
 leftByBlock a = record { outcome = blockOutcome (a .answer) (a .work) (a .samples); older = a .older; newer = a .newer }
 
+abbrev pub leftByInPlace : AfterInPlace → Left
+leftByInPlace a = record { outcome = inPlaceOutcome (a .answer) (a .samples); older = a .older; newer = a .newer }
+
 abbrev pub leftByPluck : AfterPluck → Left
 leftByPluck a = record { outcome = pluckOutcome (a .refusal); older = a .older; newer = a .newer }
 
 -- a call of the two levels
 unfoldable pub leaves : Call → (older newer : List ℤ) → Left
 leaves (blockCall i work samples pick h) older newer = leftByBlock (block i older newer work samples pick h)
+leaves (inPlaceCall i samples pick h) older newer = leftByInPlace (blockInPlace i older newer samples pick h)
 leaves (pluckCall g c w a) older newer = leftByPluck (pluck g older newer c w a)
 
 -- "It is fed the calls' arguments, lent levels included, and each block's answered count of steps, which the rules above fix."
 unfoldable pub bookCall : Call → Outcome → (older newer : List ℤ) → Book → Book
 bookCall (blockCall i work samples pick h) o older newer b = bookBlock i h older newer (stepsOf o) b
+bookCall (inPlaceCall i samples pick h) o older newer b = bookBlock i h older newer (stepsOf o) b
 bookCall (pluckCall g c w a) o older newer b = bookPluck (accepted (refusalOf o)) (pluckLevel table g c w a) b
 
 unfoldable pub sumCall : Call → Outcome → Book → ℕ → ℕ
 sumCall (blockCall i work samples pick h) o b sum = sumBlock i (stepsOf o) (inexactOf o) b sum
+sumCall (inPlaceCall i samples pick h) o b sum = sumBlock i (stepsOf o) (inexactOf o) b sum
 sumCall (pluckCall g c w a) o b sum = sumPluck (accepted (refusalOf o)) sum
 
 -- ---- a list of calls

@@ -1,4 +1,4 @@
--- Block, pluck and float reading: all that each answers and leaves, for every argument.
+-- Blocks, pluck and float reading: all that each answers and leaves, for every argument.
 use mathlib.Core.Path.{_≡_}
 use mathlib.Core.Bool.{Bool, true, false, cond}
 use mathlib.Core.List.{List, [], _∷_}
@@ -140,6 +140,34 @@ block i older newer work samples pick h =
     let r = blockRefusal i older newer (wrongLength (i .grid) (length work)) pick h in
     let done = withWorkZero (points (i .grid)) (play i pick h older newer samples) in
     cond (accepted r) done (blockRefused r older newer work samples)
+
+-- ---- a block on two levels
+
+-- what it answers, and its three lent slices afterwards
+pub record AfterInPlace : Type 0 where
+  pub answer : BlockAnswer
+  pub older : List ℤ
+  pub newer : List ℤ
+  pub samples : List ℤ
+
+-- the same of a call that was made
+abbrev pub inPlaceLeft : BlockAnswer → (older newer samples : List ℤ) → AfterInPlace
+inPlaceLeft answer older newer samples = record { answer = answer; older = older; newer = newer; samples = samples }
+
+-- what a block answers and leaves, but for work
+abbrev pub withoutWork : AfterBlock → AfterInPlace
+withoutWork a = inPlaceLeft (a .answer) (a .older) (a .newer) (a .samples)
+
+-- "a block that takes only older and newer and gives the same samples, counts, refusals and levels as the three-level one":
+-- as that one with a work level of zeros. "Refusal 6 looks at the two lengths only."
+unfoldable pub blockInPlace : Instrument → (older newer samples : List ℤ) → ℕ → Hit → AfterInPlace
+blockInPlace i older newer samples pick h =
+    withoutWork (block i older newer (replicate (points (i .grid)) (pos 0)) samples pick h)
+
+-- "the agreement for every lent content, given a work level of the grid's length". Proved as `blocks-agree`.
+abbrev pub BlocksAgree : Type 0
+BlocksAgree = (i : Instrument) (older newer work samples : List ℤ) (pick : ℕ) (h : Hit) → length work ≡ points (i .grid)
+    → blockInPlace i older newer samples pick h ≡ withoutWork (block i older newer work samples pick h)
 
 -- ---- a pluck
 

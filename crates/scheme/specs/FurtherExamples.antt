@@ -1,5 +1,5 @@
 -- A second table: what A to J leave loose. Each kind's step, both sides of every refusal's border,
--- remainders and counts, samples, readings, plucks, blocks, energy, and the book of lists of calls.
+-- remainders and counts, samples, readings, plucks, blocks, blocks on two levels, energy, and the book of lists of calls.
 -- The numbers come from the reference in another language under host/, or by hand.
 use mathlib.Core.Path.{_≡_}
 use mathlib.Core.Bool.{false}
@@ -20,9 +20,10 @@ use Rattle.scheme.specs.Lists.{point}
 use Rattle.scheme.specs.Step.{roundAway, nextLevel, remainderOf, inexactIn, sampleOf}
 use Rattle.scheme.specs.Pluck.{pluckLevel}
 use Rattle.scheme.specs.Refusals.{wrongLength, instrumentRefusal, blockRefusal, pluckRefusal, readingRefusal}
-use Rattle.scheme.specs.Calls.{AfterBlock, capped, reported, block, pluck, reading}
+use Rattle.scheme.specs.Calls.{AfterBlock, capped, reported, block, AfterInPlace, inPlaceLeft, blockInPlace, pluck, reading}
 use Rattle.scheme.specs.Energy.{energy}
-use Rattle.scheme.specs.Book.{stepOf, Call, blockCall, pluckCall, blockOutcome, pluckOutcome, AfterCalls, State, start, calls}
+use Rattle.scheme.specs.Book.{stepOf, Call, blockCall, inPlaceCall, pluckCall, blockOutcome, inPlaceOutcome, pluckOutcome}
+use Rattle.scheme.specs.Book.{AfterCalls, State, start, calls}
 use Rattle.scheme.specs.Claims.{distance, bound, Near}
 use Rattle.scheme.specs.Examples.{grid, instrument, level, minus, next, middle3, middle9}
 
@@ -85,11 +86,31 @@ plucks = pluckCall (grid 1 4 1) 2 2 (pos 9)
 abbrev pluckTurnedDown : Call
 pluckTurnedDown = pluckCall (grid 1 4 1) 0 2 (pos 9)
 
+-- a block of the list on two levels instead
+abbrev onTwo : Call → Call
+onTwo (blockCall i work samples pick h) = inPlaceCall i samples pick h
+onTwo (inPlaceCall i samples pick h) = inPlaceCall i samples pick h
+onTwo (pluckCall g c w a) = pluckCall g c w a
+
 abbrev fromHere : List Call → AfterCalls
 fromHere ks = calls ks (start (pos 0 ∷ pos 1 ∷ minus 2 ∷ pos 0 ∷ []) (level (0 ∷ 3 ∷ 4 ∷ 0 ∷ [])))
 
 abbrev after : List Call → State
 after ks = fromHere ks .state
+
+-- where the book goes on through three steps
+abbrev threeOn : State
+threeOn = record {
+  older = level (0 ∷ 19 ∷ 13 ∷ 0 ∷ []);
+  newer = level (0 ∷ 22 ∷ 16 ∷ 0 ∷ []);
+  book = record {
+    n = 3;
+    older = level (0 ∷ 5131748136475191 ∷ 3783153414978756 ∷ 0 ∷ []);
+    newer = level (0 ∷ 5982145047920445 ∷ 4594315337286502 ∷ 0 ∷ []);
+    last = stepOf (voice 5);
+  };
+  inexact = 6;
+}
 
 -- one step of a free string of 20 points after which every point lies half a unit from the unrounded scheme
 abbrev halves : Instrument
@@ -127,8 +148,18 @@ pub data Further : Type 0 where
       lowestFirst : Further
   -- samples, readings, plucks, blocks
   samples readings plucked pluckedDown pluckedFree pluckedBoth ringListing silence endedBlock atOnce blockTurnedDown emptyBlock : Further
+  -- blocks on two levels
+  inPlaceEnded inPlaceAtOnce inPlaceSteps inPlaceLengths inPlaceTurnedDown inPlaceEmpty : Further
   -- energy, distance and book
-  energies bookGoesOn bookStartsAnew pluckedBook pluckThenStep outcomes distances halfOff : Further
+  energies bookGoesOn bookInPlace bookStartsAnew pluckedBook pluckThenStep outcomes inPlaceOutcomes distances halfOff : Further
+
+-- a block on two levels of a string of five points at rest, hit by 4
+abbrev struck : List ℤ → AfterInPlace
+struck places = blockInPlace (instrument 1 5 1 16384 0 0) five five places 1 (At 1 (pos 4))
+
+-- what one of the string of four points is refused by
+abbrev inPlaceRefusedBy : (older newer : List ℤ) → ℕ
+inPlaceRefusedBy older newer = number (blockInPlace string older newer (level (7 ∷ [])) 0 Absent .answer .refusal)
 
 -- the count of a step without a hit, from newer and older
 abbrev count : Instrument → (newer older : List ℤ) → ℕ
@@ -401,6 +432,33 @@ shows emptyBlock =
       work = rest;
       samples = [];
     }
+-- "A step that would exceed the ceiling must be found before any point is overwritten": point 1 would have become 5
+shows inPlaceEnded =
+    blockInPlace (instrument 1 4 1 0 0 0) (pos 0 ∷ minus 1 ∷ pos 6000000000000 ∷ pos 0 ∷ []) (level (0 ∷ 1 ∷ 7000000000000 ∷ 0 ∷ []))
+    (level (7 ∷ 8 ∷ 9 ∷ [])) 2 Absent
+    ≡ inPlaceLeft (record { steps = 1; inexact = 0; refusal = NextBeyond }) (level (0 ∷ 1 ∷ 7000000000000 ∷ 0 ∷ []))
+    (level (0 ∷ 3 ∷ 8000000000000 ∷ 0 ∷ [])) (level (29802 ∷ 8 ∷ 9 ∷ []))
+-- 13 at the first step
+shows inPlaceAtOnce =
+    blockInPlace (instrument 1 3 1 0 0 0) (middle3 (minus 1)) (middle3 (pos 4397912293375)) (level (7 ∷ [])) 1 (At 1 (pos 2))
+    ≡ inPlaceLeft (record { steps = 0; inexact = 0; refusal = NextBeyond }) (middle3 (minus 1)) (middle3 (pos 4397912293375))
+    (level (7 ∷ []))
+-- an odd and an even number of steps
+shows inPlaceSteps =
+    (struck (level (7 ∷ 7 ∷ 7 ∷ [])) ≡ inPlaceLeft (record { steps = 3; inexact = 2; refusal = Nothing }) (level (0 ∷ 6 ∷ 1 ∷ 0 ∷ 0 ∷ []))
+    (level (0 ∷ 5 ∷ 3 ∷ 0 ∷ 0 ∷ [])) (level (0 ∷ 0 ∷ 0 ∷ []))) ×
+    (struck (level (7 ∷ 7 ∷ 7 ∷ 7 ∷ [])) ≡ inPlaceLeft (record { steps = 4; inexact = 5; refusal = Nothing })
+    (level (0 ∷ 5 ∷ 3 ∷ 0 ∷ 0 ∷ [])) (level (0 ∷ 2 ∷ 5 ∷ 1 ∷ 0 ∷ [])) (level (0 ∷ 0 ∷ 0 ∷ 0 ∷ [])))
+-- "Refusal 6 looks at the two lengths only."
+shows inPlaceLengths =
+    inPlaceRefusedBy rest rest ∷ inPlaceRefusedBy five rest ∷ inPlaceRefusedBy rest five ∷ inPlaceRefusedBy five five ∷ []
+    ≡ 0 ∷ 6 ∷ 6 ∷ 6 ∷ []
+shows inPlaceTurnedDown =
+    blockInPlace string rest (level (0 ∷ 1 ∷ 2 ∷ 0 ∷ [])) (level (7 ∷ 8 ∷ [])) 4 Absent
+    ≡ inPlaceLeft (record { steps = 0; inexact = 0; refusal = PickUp }) rest (level (0 ∷ 1 ∷ 2 ∷ 0 ∷ [])) (level (7 ∷ 8 ∷ []))
+shows inPlaceEmpty =
+    blockInPlace string rest (level (0 ∷ 1 ∷ 2 ∷ 0 ∷ [])) [] 0 (At 1 (pos 5))
+    ≡ inPlaceLeft (record { steps = 0; inexact = 0; refusal = Nothing }) rest (level (0 ∷ 1 ∷ 2 ∷ 0 ∷ [])) []
 -- times 2D
 shows energies =
     (energy (instrument 3 3 1 65536 0 0) (point (level (4 ∷ 0 ∷ 0 ∷ []))) (point (middle3 (pos 1))) ≡ pos 655360) ×
@@ -408,17 +466,11 @@ shows energies =
     ≡ pos 8139968) ×
     (energy (instrument 5 4 3 20000 0 7) (point (pos 0 ∷ pos 0 ∷ pos 0 ∷ pos 0 ∷ pos 0 ∷ pos 5 ∷ minus 3 ∷ pos 0 ∷ pos 0 ∷ pos 0 ∷ pos 0
     ∷ pos 0 ∷ [])) (point (level (0 ∷ 0 ∷ 0 ∷ 0 ∷ 0 ∷ 2 ∷ 9 ∷ 0 ∷ 0 ∷ 0 ∷ 0 ∷ 0 ∷ []))) ≡ pos 15774016)
-shows bookGoesOn = after (twoSteps ∷ refused ∷ pluckTurnedDown ∷ noSteps ∷ oneStep ∷ []) ≡ record {
-  older = level (0 ∷ 19 ∷ 13 ∷ 0 ∷ []);
-  newer = level (0 ∷ 22 ∷ 16 ∷ 0 ∷ []);
-  book = record {
-    n = 3;
-    older = level (0 ∷ 5131748136475191 ∷ 3783153414978756 ∷ 0 ∷ []);
-    newer = level (0 ∷ 5982145047920445 ∷ 4594315337286502 ∷ 0 ∷ []);
-    last = stepOf (voice 5);
-  };
-  inexact = 6;
-}
+shows bookGoesOn = after (twoSteps ∷ refused ∷ pluckTurnedDown ∷ noSteps ∷ oneStep ∷ []) ≡ threeOn
+-- on two levels, and on two levels after a block
+shows bookInPlace =
+    (after (map onTwo (twoSteps ∷ refused ∷ pluckTurnedDown ∷ noSteps ∷ oneStep ∷ [])) ≡ threeOn) ×
+    (after (twoSteps ∷ onTwo oneStep ∷ []) ≡ threeOn)
 shows bookStartsAnew = after (twoSteps ∷ refused ∷ oneStep ∷ pluckTurnedDown ∷ noSteps ∷ otherStep ∷ []) ≡ record {
   older = level (0 ∷ 22 ∷ 16 ∷ 0 ∷ []);
   newer = level (0 ∷ 21 ∷ 17 ∷ 0 ∷ []);
@@ -453,6 +505,10 @@ shows outcomes = fromHere (twoSteps ∷ refused ∷ noSteps ∷ plucks ∷ pluck
     blockOutcome (record { steps = 0; inexact = 0; refusal = Nothing }) rest [] ∷
     pluckOutcome Nothing ∷
     pluckOutcome NotMoving ∷ []
+shows inPlaceOutcomes = fromHere (map onTwo (twoSteps ∷ refused ∷ noSteps ∷ [])) .outcomes ≡
+    inPlaceOutcome (record { steps = 2; inexact = 4; refusal = Nothing }) (level (0 ∷ 0 ∷ [])) ∷
+    inPlaceOutcome (record { steps = 0; inexact = 0; refusal = PickUp }) (level (0 ∷ 0 ∷ [])) ∷
+    inPlaceOutcome (record { steps = 0; inexact = 0; refusal = Nothing }) [] ∷ []
 -- the distance of `bookGoesOn`, times 2 × (D+s)⁶, and its bound times 32 × (D+s)⁶
 shows distances =
     (distance (voice 5) 3 (level (0 ∷ 22 ∷ 16 ∷ 0 ∷ [])) (level (0 ∷ 5982145047920445 ∷ 4594315337286502 ∷ 0 ∷ []))

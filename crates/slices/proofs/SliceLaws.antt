@@ -54,6 +54,10 @@ zeros-are n = is-tabulate n (λ k. pos 0) (pos 0) (replicate n (pos 0)) (length-
 
 -- ---- copies
 
+-- what two lengths have in common, the other way round
+pub common-swapped : {m n r : ℕ} → Common m n r → Common n m r
+common-swapped c = record { first = c .second; second = c .first; all = λ j h l. c .all j l h }
+
 pub copied-is : (xs ys₀ : List ℤ) {ys : List ℤ} {n k : ℕ} → Common (length xs) (length ys₀) n → k ≡ n → Passed (point xs) ys₀ ys k
     → ys ≡ copied xs ys₀
 unfolding copied

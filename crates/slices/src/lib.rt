@@ -33,3 +33,18 @@ pub fn copy(xs: &[i64], ys: &mut [i64])
         j += 1;
     }
 }
+
+// Exchanges as many points as both slices have. Ruled out: one slice copied over the other; point 0 left as it was.
+pub fn exchange(xs: &mut [i64], ys: &mut [i64])
+    ensures { λ _. ⌜ (now (xs .exit) ≡ copied (now (ys .entry)) (now (xs .entry)))
+        × (now (ys .exit) ≡ copied (now (xs .entry)) (now (ys .entry))) ⌝ }
+{
+    let both = common(xs.len(), ys.len());
+    let mut at = 0;
+    while at < both {
+        let x = xs[at];
+        xs[at] = ys[at];
+        ys[at] = x;
+        at += 1;
+    }
+}

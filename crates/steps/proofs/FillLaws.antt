@@ -1,11 +1,13 @@
 -- A list that is filled, and runs that fill it: how they begin, grow and end.
 use mathlib.Core.Path.{_≡_, refl, sym, ap, _∙_, subst}
-use mathlib.Core.Bool.{Bool, true, false, cond, _&&_, true≢false}
+use mathlib.Core.Bool.{Bool, true, false, cond, not, _&&_, true≢false}
 use mathlib.Core.List.{List}
 use mathlib.Core.Logic.{_⊎_, inl, inr}
-use Prim.Native.Nat.{ℕ, _+_, _-_, _≤_, _<_}
+use Prim.Native.Nat.{ℕ, _+_, _-_, _≤_, _<_, zero-le}
 use native.Mathlib.Decide.{decLt}
+use native.Mathlib.Nat.{sub-zero}
 use native.Mathlib.Omega.{arith}
+use borrow.Author.Tests.{not-true, not-false}
 use lib.IntN.{ℤ, pos}
 use lib.ListN.{length, set, length-set}
 use lib.Seq.{getD-set-same, getD-set-other}
@@ -13,7 +15,7 @@ use Rattle.scheme.specs.Lists.{point}
 use Rattle.scheme.specs.Instruments.{beyond}
 use Rattle.steps.specs.declared.progress.Progress.{Progress}
 use Rattle.steps.specs.declared.stretch.Stretch.{Stretch}
-use Rattle.steps.specs.Run.{Next, Filled, NoneBeyond, OneBeyond, Counted, Ran, Placed}
+use Rattle.steps.specs.Run.{Next, Filled, NoneBeyond, OneBeyond, Tested, Counted, Ran, Placed}
 use Rattle.steps.proofs.CountLaws.{counted-none, counted-one, counted-append, counted-most, counted-same}
 
 -- k between from and from + 1 is from
@@ -224,3 +226,61 @@ module _ {v : ℕ → Next} {write : Bool} {base : ℕ} where
   pub ran-ends : {out₀ out : List ℤ} {a b b′ : ℕ} {r : Progress} → b ≡ b′ → Ran v write base out₀ out a b r
       → Ran v write base out₀ out a b′ r
   ran-ends {out₀} {out} {a} {r = r} e q = subst (λ (n : ℕ). Ran v write base out₀ out a n r) e q
+
+-- ---- a loop that puts values: those of the places from..at are put
+
+pub record Putting (v : ℕ → ℤ) (xs₀ : List ℤ) (from to : ℕ) (xs : List ℤ) (at : ℕ) : Type 0 where
+  pub filled : Filled v true 0 xs₀ xs from at
+  pub order : from ≤ at
+  pub upto : at ≤ to
+
+module _ {v : ℕ → ℤ} where
+  pub putting-start : (xs : List ℤ) (from to : ℕ) → from ≤ to → Putting v xs from to xs from
+  putting-start xs from to h = record { filled = filled-none v true 0 xs from; order = omega arith; upto = h }
+
+  pub putting-on : {xs₀ xs : List ℤ} {from to at next : ℕ} → Putting v xs₀ from to xs at → next ≡ at + 1 → at < to
+      → to ≤ length xs₀ → (x : ℤ) → x ≡ v at → Putting v xs₀ from to (set xs at x) next
+  putting-on {xs₀} {xs} {from} {to} {at} {next} p more h room x e = record {
+    filled = filled-append v true 0 zero-le (p .order) (omega arith) (p .filled)
+        (coe 0 1 (j. Filled v true 0 xs (set xs (sub-zero at j) x) at (sym more j))
+        (filled-one v true 0 xs at x refl zero-le (omega (arith, p .filled .long)) e));
+    order = omega (arith, p .order);
+    upto = omega arith;
+  }
+
+  pub putting-done : {xs₀ xs : List ℤ} {from to at : ℕ} → Putting v xs₀ from to xs at → to ≤ at → Filled v true 0 xs₀ xs from to
+  putting-done {xs₀} {xs} {from} {to} p h = subst (Filled v true 0 xs₀ xs from) (omega (arith, p .upto)) (p .filled)
+
+-- ---- a run that tests
+
+module _ {v : ℕ → Next} where
+  -- none of the points, or no more of them
+  pub tested-none : {a b : ℕ} → a ≡ b → Tested v a b true
+  tested-none e = record { low = λ t k s h. absurd (omega arith); stopped = λ t. absurd (true≢false t) }
+
+  pub tested-ends : {a b c : ℕ} → b ≡ c → Tested v a b true → Tested v a c true
+  tested-ends {a} e p = subst (λ (n : ℕ). Tested v a n true) e p
+
+  -- a point, by the test that was made of it
+  pub tested-point : {a b : ℕ} (r : Bool) → a + 1 ≡ b → r ≡ not (beyond (v a .value)) → Tested v a b r
+  tested-point {a} {b} r e t = record {
+    low = λ u. subst (NoneBeyond (valueOf v) a) e (low-there (valueOf v) a (not-true _ (sym t ∙ u)));
+    stopped = λ u. record { at = a; first = omega arith; last = omega arith; beyond-there = not-false _ (sym t ∙ u) };
+  }
+
+  -- one run after the other
+  pub tested-append : {a b c : ℕ} {r r′ : Bool} → a ≤ b → Tested v a b r → r ≡ true → Tested v b c r′ → Tested v a c r′
+  tested-append {b = b} l p e q = record {
+    low = λ u k s h. by {b = b} k (λ t. p .low e k s t) (λ t. q .low u k t h);
+    stopped = λ u. let o = q .stopped u in
+        record { at = o .at; first = omega (arith, o .first); last = o .last; beyond-there = o .beyond-there };
+  }
+
+  -- a run that stopped
+  pub tested-stops : {a b c : ℕ} {r : Bool} → b ≤ c → Tested v a b r → r ≡ false → Tested v a c false
+  tested-stops l p e =
+      let o = p .stopped e in
+      record {
+        low = λ t. absurd (true≢false (sym t));
+        stopped = λ t. record { at = o .at; first = o .first; last = omega (arith, o .last); beyond-there = o .beyond-there };
+      }

@@ -29,13 +29,13 @@ use Rattle.steps.proofs.FillLaws.{Running, running-on, running-most, ru
 use Rattle.steps.proofs.StretchLaws.{force-away}
 
 -- a force within the ceiling
-force-low : (h : Hit) → tooStrong h ≡ false → (k : ℕ) → natAbs (forceOf h k) ≤ ceiling
+pub force-low : (h : Hit) → tooStrong h ≡ false → (k : ℕ) → natAbs (forceOf h k) ≤ ceiling
 force-low Absent e k = zero-le
 force-low (At p f) e k =
     cond-ind (eqb k p) f (pos 0) (λ (z : ℤ). natAbs z ≤ ceiling) (λ t. ltb-false ceiling (natAbs f) e) (λ t. zero-le)
 
 -- what is ready for one force is ready for another
-ready-force : {p : Plan} {f f′ : ℤ} {older newer : List ℤ} → Ready p f older newer → natAbs f′ ≤ ceiling → Ready p f′ older newer
+pub ready-force : {p : Plan} {f f′ : ℤ} {older newer : List ℤ} → Ready p f older newer → natAbs f′ ≤ ceiling → Ready p f′ older newer
 ready-force r l = record {
   planned = r .planned;
   older-long = r .older-long;
@@ -47,7 +47,7 @@ ready-force r l = record {
 }
 
 -- some of the moving points
-some-move : {g : Grid} {from to a b : ℕ} → Moves g from to → from ≤ a → a ≤ b → b ≤ to → Moves g a b
+pub some-move : {g : Grid} {from to a b : ℕ} → Moves g from to → from ≤ a → a ≤ b → b ≤ to → Moves g a b
 some-move m l o h = record { order = o; each = λ k p q. m .each k (omega arith) (omega arith) }
 
 -- they lie in the grid
@@ -57,7 +57,7 @@ run-inside {g} {from} {to} m s =
     omega arith
 
 -- what is made of a point with the hit's force is the scheme's
-next-value : (i : Instrument) (h : Hit) (older newer : List ℤ) (f : ℤ) (k : ℕ) → moving (i .grid) k ≡ true → forceOf h k ≡ f
+pub next-value : (i : Instrument) (h : Hit) (older newer : List ℤ) (f : ℤ) (k : ℕ) → moving (i .grid) k ≡ true → forceOf h k ≡ f
     → nextBy i f older newer k ≡ nextOf i h older newer k
 unfolding nextBy numerator inexactAt
 next-value i h older newer f k m e =

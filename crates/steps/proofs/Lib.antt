@@ -12,6 +12,7 @@ pub mod RoleLaws
 pub mod BendLaws
 pub mod LineLaws
 pub mod HitLaws
+pub mod PassLaws
 pub mod RowLaws
 pub mod PlateLaws
 pub mod PlateRowLaws

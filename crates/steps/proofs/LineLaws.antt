@@ -91,6 +91,13 @@ module _ (s : Stretch) {p : Plan} {older newer : List ℤ} (r : Ready p (s .forc
   to-last : clamp (s .from) (s .to) (n - 1) ≤ clamp (s .from) (s .to) n
   to-last = clamp-rises (s .from) (s .to) order (n - 1) n (omega arith)
 
+  -- the ends, from the first point and to the last
+  pub first-end : FreeEnd i 1 (s .from) (clamp (s .from) (s .to) 1)
+  first-end = subst (λ (a : ℕ). FreeEnd i 1 a (clamp (s .from) (s .to) 1)) begin first-part
+
+  pub last-end : FreeEnd i (n - 2) (clamp (s .from) (s .to) (n - 1)) (s .to)
+  last-end = subst (FreeEnd i (n - 2) (clamp (s .from) (s .to) (n - 1))) end last-part
+
   module _ (placed : s .base ≤ s .from) {out₀ out₁ : List ℤ} where
     -- from the first point of the stretch
     from-first : {b : ℕ} {r : Progress} → Advanced p s older newer out₀ out₁ (clamp (s .from) (s .to) 0) b r

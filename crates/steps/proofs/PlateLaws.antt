@@ -3,7 +3,7 @@ use mathlib.Core.Path.{_≡_, refl, sym, ap, _∙_, subst}
 use mathlib.Core.Bool.{Bool, true, false, cond, not}
 use mathlib.Core.List.{List}
 use mathlib.Core.Logic.{_⊎_, inl, inr}
-use Prim.Native.Nat.{ℕ, _+_, _-_, _*_, _≤_, _<_, zero-le}
+use Prim.Native.Nat.{ℕ, _+_, _-_, _*_, _≤_, _<_}
 use native.Mathlib.Nat as N
 use native.Mathlib.Decide.{decLt, ℕ-discrete}
 use native.Mathlib.Omega.{arith}
@@ -25,31 +25,6 @@ use Rattle.steps.specs.Plates.{TwoRows, InRow, Readable, secondAt}
 use Rattle.steps.proofs.KindLaws.{count-few}
 use Rattle.steps.proofs.BesideLaws.{sum-four, around-neighbours}
 use Rattle.steps.proofs.PointLaws.{inner-low}
-use Rattle.steps.proofs.FillLaws.{filled-none, filled-one, filled-append}
-
--- ---- a loop that puts values: those of the places from..at are put
-
-pub record Putting (v : ℕ → ℤ) (sums₀ : List ℤ) (from to : ℕ) (sums : List ℤ) (at : ℕ) : Type 0 where
-  pub filled : Filled v true 0 sums₀ sums from at
-  pub order : from ≤ at
-  pub upto : at ≤ to
-
-module _ {v : ℕ → ℤ} where
-  pub putting-start : (sums : List ℤ) (from to : ℕ) → from ≤ to → Putting v sums from to sums from
-  putting-start sums from to h = record { filled = filled-none v true 0 sums from; order = omega arith; upto = h }
-
-  pub putting-on : {sums₀ sums : List ℤ} {from to at next : ℕ} → Putting v sums₀ from to sums at → next ≡ at + 1 → at < to
-      → to ≤ length sums₀ → (x : ℤ) → x ≡ v at → Putting v sums₀ from to (set sums at x) next
-  putting-on {sums₀} {sums} {from} {to} {at} {next} p more h room x e = record {
-    filled = filled-append v true 0 zero-le (p .order) (omega arith) (p .filled)
-        (coe 0 1 (j. Filled v true 0 sums (set sums (N.sub-zero at j) x) at (sym more j))
-        (filled-one v true 0 sums at x refl zero-le (omega (arith, p .filled .long)) e));
-    order = omega (arith, p .order);
-    upto = omega arith;
-  }
-
-  pub putting-done : {sums₀ sums : List ℤ} {from to at : ℕ} → Putting v sums₀ from to sums at → to ≤ at → Filled v true 0 sums₀ sums from to
-  putting-done {sums₀} {sums} {from} {to} p h = subst (Filled v true 0 sums₀ sums from) (omega (arith, p .upto)) (p .filled)
 
 -- what is put among small values leaves them small
 pub put-low : {B : ℕ} {v : ℕ → ℤ} {sums₀ sums : List ℤ} {from to : ℕ} → Filled v true 0 sums₀ sums from to

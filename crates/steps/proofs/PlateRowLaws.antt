@@ -25,11 +25,13 @@ use Rattle.steps.specs.declared.plan.Plan.{Plan}
 use Rattle.steps.specs.declared.plates.SumRows.{SumRows}
 use Rattle.steps.specs.declared.progress.Progress.{Progress}
 use Rattle.steps.specs.Plan.{AtMost, innerSum}
-use Rattle.steps.specs.Run.{Filled, Stepping, fourBeside}
-use Rattle.steps.specs.Roles.{Steppable, Stepped}
+use Rattle.steps.specs.Run.{Filled, fourBeside}
+use Rattle.steps.specs.Roles.{Steppable}
+use Rattle.steps.specs.Pass.{target, Passable, Passing, Passed}
 use Rattle.steps.specs.Plates.{SumRow, TwoRows, InRow}
 use Rattle.steps.proofs.KindLaws.{Edge, at-edge, wide, plate-sized}
-use Rattle.steps.proofs.FillLaws.{passed, ran-none}
+use Rattle.steps.proofs.FillLaws.{passed}
+use Rattle.steps.proofs.PassLaws.{passing-none}
 use Rattle.steps.proofs.RowLaws.{RowRun, row-run, Rows, rows-start, rows-more, rows-most, rows-stop, rows-done, steppable-ready}
 use Rattle.steps.proofs.RowLaws.{run-moves, row-room, stepped-all, stepped-not}
 use Rattle.steps.proofs.PlateLaws.{put-low, sum-still, sum-around, sum-low}
@@ -98,8 +100,9 @@ turn-apart first h = inl (omega arith)
 
 -- ---- a loop over the rows: those above have their next values, n of them inexact, the sums of the row and of the one above it stand
 
-pub record PlateRows (i : Instrument) (h : Hit) (older newer out₀ out sums : List ℤ) (other here row start n : ℕ) : Type 0 where
-  pub rows : Rows i h older newer out₀ out row start n
+pub record PlateRows (i : Instrument) (h : Hit) (write inPlace : Bool) (older₀ newer out₀ older out sums : List ℤ)
+    (other here row start n : ℕ) : Type 0 where
+  pub rows : Rows i h write inPlace older₀ newer out₀ older out row start n
   pub some : 1 ≤ row
   pub upto : row + 1 ≤ i .grid .rows
   pub turning : Turning other here
@@ -108,9 +111,12 @@ pub record PlateRows (i : Instrument) (h : Hit) (older newer out₀ out sums : L
   pub here-row : SumRow (i .grid) newer sums start here
   pub low : AtMost (4 * ceiling) (point sums)
 
-module _ {p : Plan} {h : Hit} {older newer out₀ : List ℤ} (s : Steppable p h older newer out₀)
+module _ {p : Plan} {h : Hit} {inPlace : Bool} {older₀ newer out₀ : List ℤ} (a : Passable p h inPlace older₀ newer out₀)
     (is-plate : kind (p .instrument .grid) ≡ plate)
   where
+    abbrev s : Steppable p h older₀ newer (target inPlace older₀ out₀)
+    s = a .given
+
     abbrev i : Instrument
     i = p .instrument
 
@@ -136,11 +142,12 @@ module _ {p : Plan} {h : Hit} {older newer out₀ : List ℤ} (s : Steppable p h
     grid e = omega (arith, some-rows)
 
     -- a row that is passed over: nothing of it moves
-    ring-more : {out : List ℤ} {row start n : ℕ} → Rows i h older newer out₀ out row start n → row < g .rows → Edge (g .rows) row
-        → Rows i h older newer out₀ out (row + 1) (start + g .columns) n
-    ring-more {out} {row} {start} {n} l m e =
-        subst (Rows i h older newer out₀ out (row + 1) (start + g .columns)) (omega arith)
-        (rows-more s l m (run 0 0) (ring-run g size is-plate row m e) (ran-none out (start + 0)) refl)
+    ring-more : {write : Bool} {older out : List ℤ} {row start n : ℕ} → Rows i h write inPlace older₀ newer out₀ older out row start n
+        → row < g .rows → Edge (g .rows) row
+        → Rows i h write inPlace older₀ newer out₀ older out (row + 1) (start + g .columns) n
+    ring-more {write} {older} {out} {row} {start} {n} l m e =
+        subst (Rows i h write inPlace older₀ newer out₀ older out (row + 1) (start + g .columns)) (omega arith)
+        (rows-more a l m (run 0 0) (ring-run g size is-plate row m e) (passing-none older out (start + 0)) refl)
 
     -- the sum at either end of a row
     left-zero : (row : ℕ) → row < g .rows → (k : ℕ) → row * g .columns ≡ k → S k ≡ pos 0
@@ -197,10 +204,10 @@ module _ {p : Plan} {h : Hit} {older newer out₀ : List ℤ} (s : Steppable p h
         small j a b = subst (λ (z : ℤ). natAbs z ≤ 4 * ceiling) (sym (between (j - 64) (omega arith) (omega arith)))
             (sum-low (steppable-ready s) (g .columns + (j - 64)))
 
-        pub plate-start : PlateRows i h older newer out₀ out₀ sums′ 0 64 1 (g .columns) 0
-        plate-start = record {
-          rows = subst (λ (n : ℕ). Rows i h older newer out₀ out₀ 1 n 0) (N.zero-add (g .columns))
-              (ring-more (rows-start i h older newer out₀) (omega (arith, some-rows)) (inl refl));
+        pub plate-start : {write : Bool} → PlateRows i h write inPlace older₀ newer out₀ older₀ out₀ sums′ 0 64 1 (g .columns) 0
+        plate-start {write} = record {
+          rows = subst (λ (n : ℕ). Rows i h write inPlace older₀ newer out₀ older₀ out₀ 1 n 0) (N.zero-add (g .columns))
+              (ring-more (rows-start older₀ out₀) (omega (arith, some-rows)) (inl refl));
           some = omega arith;
           upto = omega (arith, some-rows);
           turning = zeroth;
@@ -215,8 +222,8 @@ module _ {p : Plan} {h : Hit} {older newer out₀ : List ℤ} (s : Steppable p h
 
     -- ---- a row
 
-    module _ {out sums : List ℤ} {other here row start n : ℕ} (t : PlateRows i h older newer out₀ out sums other here row start n)
-        (l : row + 1 < g .rows) where
+    module _ {write : Bool} {older out sums : List ℤ} {other here row start n : ℕ}
+        (t : PlateRows i h write inPlace older₀ newer out₀ older out sums other here row start n) (l : row + 1 < g .rows) where
       in-grid : row < g .rows
       in-grid = omega arith
 
@@ -230,7 +237,7 @@ module _ {p : Plan} {h : Hit} {older newer out₀ : List ℤ} (s : Steppable p h
 
       -- the row lies in the level
       pub in-level : start + g .columns ≤ points g
-      in-level = row-room s (t .rows) in-grid (run 1 (g .columns - 1)) columns-run
+      in-level = row-room a (t .rows) in-grid (run 1 (g .columns - 1)) columns-run
 
       -- the rows above and below
       high : g .columns ≤ start
@@ -259,7 +266,7 @@ module _ {p : Plan} {h : Hit} {older newer out₀ : List ℤ} (s : Steppable p h
       pub in-row : InRow g here-now (start + 1) (start + (g .columns - 1))
       in-row = record {
         grid = grid;
-        moves = run-moves s (t .rows) in-grid (run 1 (g .columns - 1)) columns-run;
+        moves = run-moves a (t .rows) in-grid (run 1 (g .columns - 1)) columns-run;
         first = omega arith;
         last = omega (arith, some-columns);
         below = below-moves;
@@ -282,8 +289,9 @@ module _ {p : Plan} {h : Hit} {older newer out₀ : List ℤ} (s : Steppable p h
       }
 
       -- after its last one
-      module _ {out′ sums′ : List ℤ} {x : Progress} (q : Stepping i h true 0 older newer out out′ (start + 1) (start + (g .columns - 1)) x)
-          (e : x .within ≡ true) (w : TwoRows g newer sums′ here-now (start + (g .columns - 1))) (long : length sums′ ≡ length sums) where
+      module _ {older′ out′ sums′ : List ℤ} {x : Progress}
+          (q : Passing i h write inPlace older newer out older′ out′ (start + 1) (start + (g .columns - 1)) x) (e : x .within ≡ true)
+          (w : TwoRows g newer sums′ here-now (start + (g .columns - 1))) (long : length sums′ ≡ length sums) where
         below-each : (c : ℕ) → c < g .columns → point sums′ (other + c) ≡ S (start + g .columns + c)
         below-each c m = go (decLt c (g .columns - 1))
           where
@@ -294,9 +302,10 @@ module _ {p : Plan} {h : Hit} {older newer out₀ : List ℤ} (s : Steppable p h
                 right-zero (row - 1) (omega (arith, t .some)) (start - g .columns + c) (omega (arith, a, above-start)) ∙
                 sym (right-zero (row + 1) l (start + g .columns + c) (omega (arith, a, below-start)))
 
-        pub plate-next : PlateRows i h older newer out₀ out′ sums′ here other (row + 1) (start + g .columns) (n + x .inexact)
+        pub plate-next : PlateRows i h write inPlace older₀ newer out₀ older′ out′ sums′ here other (row + 1) (start + g .columns)
+            (n + x .inexact)
         plate-next = record {
-          rows = rows-more s (t .rows) in-grid (run 1 (g .columns - 1)) columns-run q e;
+          rows = rows-more a (t .rows) in-grid (run 1 (g .columns - 1)) columns-run q e;
           some = omega arith;
           upto = omega arith;
           turning = turn (t .turning);
@@ -306,16 +315,18 @@ module _ {p : Plan} {h : Hit} {older newer out₀ : List ℤ} (s : Steppable p h
           low = w .low;
         }
 
-      module _ {out′ : List ℤ} {x : Progress} (q : Stepping i h true 0 older newer out out′ (start + 1) (start + (g .columns - 1)) x) where
-        pub plate-stops : x .within ≡ false → Stepped i h older newer out′ x
-        plate-stops e = stepped-not s (rows-stop s (t .rows) in-grid (run 1 (g .columns - 1)) columns-run q e) e
+      module _ {older′ out′ : List ℤ} {x : Progress}
+          (q : Passing i h write inPlace older newer out older′ out′ (start + 1) (start + (g .columns - 1)) x) where
+        pub plate-stops : x .within ≡ false → Passed i h write inPlace older₀ newer out₀ older′ out′ x
+        plate-stops e = stepped-not a (rows-stop a (t .rows) in-grid (run 1 (g .columns - 1)) columns-run q e) e
 
         pub plate-most : x .within ≡ true → n + x .inexact ≤ points g
-        plate-most e = rows-most s (t .rows) in-grid (run 1 (g .columns - 1)) columns-run q e
+        plate-most e = rows-most a (t .rows) in-grid (run 1 (g .columns - 1)) columns-run q e
 
     -- after the last of them
-    pub plate-done : {out sums : List ℤ} {other here row start n : ℕ}
-        → PlateRows i h older newer out₀ out sums other here row start n → g .rows ≤ row + 1 → Stepped i h older newer out (passed n)
+    pub plate-done : {write : Bool} {older out sums : List ℤ} {other here row start n : ℕ}
+        → PlateRows i h write inPlace older₀ newer out₀ older out sums other here row start n → g .rows ≤ row + 1
+        → Passed i h write inPlace older₀ newer out₀ older out (passed n)
     plate-done {row = row} t m =
         let last : row + 1 ≡ g .rows = omega (arith, t .upto) in
-        stepped-all s (rows-done s (ring-more (t .rows) (omega (arith, t .upto)) (inr last)) m)
+        stepped-all a (rows-done a (ring-more (t .rows) (omega (arith, t .upto)) (inr last)) m)

@@ -2,6 +2,7 @@
 use mathlib.Core.Path.{_≡_, refl, sym, ap, _∙_, subst}
 use mathlib.Core.Bool.{Bool, true, false, cond, not}
 use mathlib.Core.List.{List, [], _∷_, _++_, append-assoc}
+use mathlib.Core.Logic.{inl, inr}
 use Prim.Native.Nat.{ℕ, zero, suc, _+_, _≤_, _<_}
 use native.Mathlib.Omega.{arith}
 use borrow.Author.Tests.{lt-ltb, le-ltb, not-true, not-false}
@@ -25,7 +26,7 @@ use Rattle.steps.specs.declared.plan.Plan.{Plan}
 use Rattle.steps.specs.declared.play.Steps.{Steps}
 use Rattle.steps.specs.declared.progress.Progress.{Progress}
 use Rattle.steps.specs.Roles.{Room, Steppable, Stepped, SteppedIn, Played, turnedOf, olderOf, newerOf, outOf}
-use Rattle.steps.proofs.RoleLaws.{turned-older, turned-newer, turned-out}
+use Rattle.steps.proofs.RoleLaws.{turned-older, turned-newer, turned-room}
 
 -- ---- steps done before the rest
 
@@ -75,7 +76,7 @@ set-next (y ∷ vs) x v xs (suc j) e = ap (y ∷_) (set-next vs x v xs j (omega 
 
 -- ---- the loop over the places: j steps are done
 
-pub record Playing (i : Instrument) (pick : ℕ) (hit : Hit) (whole : AfterSteps) (n : ℕ) (older newer out samples : List ℤ)
+pub record Playing (i : Instrument) (pick : ℕ) (hit : Hit) (whole : AfterSteps) (n : ℕ) (older newer samples : List ℤ)
     (j held : ℕ) : Type 0 where
   pub vs : List ℤ
   pub inexact : ℕ
@@ -87,15 +88,14 @@ pub record Playing (i : Instrument) (pick : ℕ) (hit : Hit) (whole : AfterSteps
   pub whole-is : whole ≡ after vs inexact (play i pick (hitAfter hit j) older newer places)
   pub older-passes : LevelPasses (i .grid) older
   pub newer-passes : LevelPasses (i .grid) newer
-  pub room : Room (i .grid) out
 
 -- a level that passes is room for another
-room-of : (g : Grid) (xs : List ℤ) → LevelPasses g xs → Room g xs
+pub room-of : (g : Grid) (xs : List ℤ) → LevelPasses g xs → Room g xs
 room-of g xs p = record { long = p .long; still = passes-still g xs p .still }
 
 module _ {p : Plan} {hit : Hit} {older newer out : List ℤ} (s : Steppable p hit older newer out) where
   pub playing-start : (pick : ℕ) (samples : List ℤ)
-      → Playing (p .instrument) pick hit (play (p .instrument) pick hit older newer samples) (length samples) older newer out samples 0 0
+      → Playing (p .instrument) pick hit (play (p .instrument) pick hit older newer samples) (length samples) older newer samples 0 0
   playing-start pick samples = record {
     vs = [];
     inexact = 0;
@@ -107,18 +107,18 @@ module _ {p : Plan} {hit : Hit} {older newer out : List ℤ} (s : Steppable p hi
     whole-is = after-none (play (p .instrument) pick hit older newer samples);
     older-passes = s .older-passes;
     newer-passes = s .newer-passes;
-    room = s .room;
   }
 
   -- the next step may be taken: its hit is the block's or none
   pub playing-steppable : {pick n j held : ℕ} {whole : AfterSteps} {older′ newer′ out′ samples : List ℤ} {hit′ : Hit}
       → hit′ ≡ hitAfter hit j
-      → Playing (p .instrument) pick hit whole n older′ newer′ out′ samples j held → Steppable p hit′ older′ newer′ out′
-  playing-steppable {j = j} same g = record {
+      → Playing (p .instrument) pick hit whole n older′ newer′ samples j held → Room (p .instrument .grid) out′
+      → Steppable p hit′ older′ newer′ out′
+  playing-steppable {j = j} same g room = record {
     planned = s .planned;
     older-passes = g .older-passes;
     newer-passes = g .newer-passes;
-    room = g .room;
+    room = room;
     hit-moving = ap (notMoving (p .instrument .grid)) same ∙ moves j;
     hit-low = ap tooStrong same ∙ low j;
   }
@@ -131,8 +131,8 @@ module _ {p : Plan} {hit : Hit} {older newer out : List ℤ} (s : Steppable p hi
       low zero = s .hit-low
       low (suc j) = refl
 
-module _ {i : Instrument} {pick n j held : ℕ} {hit : Hit} {whole : AfterSteps} {older newer out samples : List ℤ}
-    (g : Playing i pick hit whole n older newer out samples j held) where
+module _ {i : Instrument} {pick n j held : ℕ} {hit : Hit} {whole : AfterSteps} {older newer samples : List ℤ}
+    (g : Playing i pick hit whole n older newer samples j held) where
   abbrev next : List ℤ
   next = nextLevel i (hitAfter hit j) older newer
 
@@ -157,9 +157,9 @@ module _ {i : Instrument} {pick n j held : ℕ} {hit : Hit} {whole : AfterSteps}
       }
 
   module _ (h : j < n) {out′ : List ℤ} {x : Progress} {hit′ : Hit} (same : hit′ ≡ hitAfter hit j)
-      (s : Stepped i hit′ older newer out′ x) where
-    t : Stepped i (hitAfter hit j) older newer out′ x
-    t = subst (λ (h : Hit). Stepped i h older newer out′ x) same s
+      (s : Stepped i hit′ true older newer out′ x) where
+    t : Stepped i (hitAfter hit j) true older newer out′ x
+    t = subst (λ (h : Hit). Stepped i h true older newer out′ x) same s
 
     -- the next level passes
     module _ (d : not (x .within) ≡ false) where
@@ -167,14 +167,14 @@ module _ {i : Instrument} {pick n j held : ℕ} {hit : Hit} {whole : AfterSteps}
       low = not-true (someBeyond next) (sym (t .within-is) ∙ not-false (x .within) d)
 
       next-is : out′ ≡ next
-      next-is = t .next-is (not-false (x .within) d)
+      next-is = t .next-is refl (not-false (x .within) d)
 
       pub stepped-passes : LevelPasses (i .grid) out′
       stepped-passes = subst (LevelPasses (i .grid)) (sym next-is) (next-passes i (hitAfter hit j) older newer low)
 
     -- one more step, with its sample
     pub playing-on : not (x .within) ≡ false → (v : ℤ) → v ≡ sampleOf (point out′ pick) → (c : ℕ) → c ≡ capped (held + x .inexact)
-        → Playing i pick hit whole n newer out′ older (set samples j v) (j + 1) c
+        → Playing i pick hit whole n newer out′ (set samples j v) (j + 1) c
     playing-on d v e c f = go (g .places) (g .samples-are) (g .long) (g .whole-is)
       where
         step : suc j ≡ j + 1
@@ -185,7 +185,7 @@ module _ {i : Instrument} {pick n j held : ℕ} {hit : Hit} {whole : AfterSteps}
 
         go : (places : List ℤ) → samples ≡ g .vs ++ places → j + length places ≡ n → whole
             ≡ after (g .vs) (g .inexact) (play i pick (hitAfter hit j) older newer places)
-            → Playing i pick hit whole n newer out′ older (set samples j v) (j + 1) c
+            → Playing i pick hit whole n newer out′ (set samples j v) (j + 1) c
         go [] a l w = absurd (omega (arith, l, h))
         go (y ∷ xs) a l w = record {
           vs = g .vs ++ (v ∷ []);
@@ -198,12 +198,11 @@ module _ {i : Instrument} {pick n j held : ℕ} {hit : Hit} {whole : AfterSteps}
           whole-is = w ∙ ap (after (g .vs) (g .inexact)) (play-goes i pick (hitAfter hit j) older newer y xs (low d))
               ∙ after-more (g .vs) (g .inexact) (sampleOf (point next pick)) (inexactIn i (hitAfter hit j) older newer)
               (play i pick Absent newer next xs)
-              ∙ (λ k. after (g .vs ++ (sampled k ∷ [])) (g .inexact + sym (t .inexact-is (not-false (x .within) d)) k)
+              ∙ (λ k. after (g .vs ++ (sampled k ∷ [])) (g .inexact + sym (t .inexact-is refl (not-false (x .within) d)) k)
               (play i pick Absent newer (sym (next-is d) k) xs))
               ∙ ap (λ (k : ℕ). after (g .vs ++ (v ∷ [])) (g .inexact + x .inexact) (play i pick (hitAfter hit k) newer out′ xs)) step;
           older-passes = g .newer-passes;
           newer-passes = stepped-passes d;
-          room = room-of (i .grid) older (g .older-passes);
         }
 
     -- the next step would pass the ceiling
@@ -232,27 +231,28 @@ module _ {i : Instrument} {pick n j held : ℕ} {hit : Hit} {whole : AfterSteps}
       go (y ∷ xs) a l w = absurd (omega (arith, l, h))
       go [] a l w = ended-by phase Nothing [] a w (sym (ap (λ (t : Bool). cond t NextBeyond Nothing) (le-ltb j n h)))
 
--- ---- the three slices by their roles
+-- ---- the slices by their roles
 
 module _ {p : ℕ} {i : Instrument} {h : Hit} {a₀ b₀ c₀ a b c : List ℤ} {x : Progress} (s : SteppedIn p i h a₀ b₀ c₀ a b c x) where
   -- after a step
   pub playing-turned : {p′ pick n j held : ℕ} {hit : Hit} {whole : AfterSteps} {samples : List ℤ} → p′ ≡ turnedOf p
-      → Playing i pick hit whole n (newerOf p a₀ b₀ c₀) (outOf p a b c) (olderOf p a₀ b₀ c₀) samples j held
-      → Playing i pick hit whole n (olderOf p′ a b c) (newerOf p′ a b c) (outOf p′ a b c) samples j held
+      → Playing i pick hit whole n (newerOf p a₀ b₀ c₀) (outOf p a b c) samples j held
+      → Playing i pick hit whole n (olderOf p′ a b c) (newerOf p′ a b c) samples j held
   playing-turned {p′} {pick} {n} {j} {held} {hit} {whole} {samples} e g =
       let older : olderOf p′ a b c ≡ newerOf p a₀ b₀ c₀ = ap (λ (p : ℕ). olderOf p a b c) e ∙ turned-older p a b c ∙ s .newer-kept in
       let newer : newerOf p′ a b c ≡ outOf p a b c = ap (λ (p : ℕ). newerOf p a b c) e ∙ turned-newer p a b c in
-      let out : outOf p′ a b c ≡ olderOf p a₀ b₀ c₀ = ap (λ (p : ℕ). outOf p a b c) e ∙ turned-out p a b c ∙ s .older-kept in
-      coe 1 0 (k. Playing i pick hit whole n (older k) (newer k) (out k) samples j held) g
+      coe 1 0 (k. Playing i pick hit whole n (older k) (newer k) samples j held) g
+
+  -- there is room for the next one
+  pub room-turned : {p′ : ℕ} → p′ ≡ turnedOf p → LevelPasses (i .grid) (olderOf p a₀ b₀ c₀) → LevelPasses (i .grid) (newerOf p a₀ b₀ c₀)
+      → Room (i .grid) (outOf p′ a b c)
+  room-turned e older newer =
+      subst (λ (q : ℕ). Room (i .grid) (outOf q a b c)) (sym e)
+      (turned-room (Room (i .grid)) p a b c
+      (λ l. subst (Room (i .grid)) (sym (s .older-kept (inl l))) (room-of (i .grid) _ older))
+      (subst (Room (i .grid)) (sym (s .newer-kept)) (room-of (i .grid) _ newer)))
 
   -- a step that is not done leaves the two levels
-  pub played-kept : {whole : AfterSteps} {n : ℕ} {r : Steps} {samples : List ℤ}
+  pub played-kept : {whole : AfterSteps} {n : ℕ} {r : Steps} {samples : List ℤ} → x .within ≡ false
       → Played whole n r (olderOf p a₀ b₀ c₀) (newerOf p a₀ b₀ c₀) samples → Played whole n r (olderOf p a b c) (newerOf p a b c) samples
-  played-kept {whole} {n} {r} {samples} q = coe 1 0 (k. Played whole n r (s .older-kept k) (s .newer-kept k) samples) q
-
--- the lengths of the slices, by those of the roles
-pub long-in-roles : (p n : ℕ) (a b c : List ℤ) → length (olderOf p a b c) ≡ n → length (newerOf p a b c) ≡ n → length (outOf p a b c) ≡ n
-    → (length a ≡ n) × (length b ≡ n) × (length c ≡ n)
-long-in-roles zero n a b c x y z = (x, y, z)
-long-in-roles (suc zero) n a b c x y z = (z, x, y)
-long-in-roles (suc (suc k)) n a b c x y z = (y, z, x)
+  played-kept {whole} {n} {r} {samples} e q = coe 1 0 (k. Played whole n r (s .older-kept (inr e) k) (s .newer-kept k) samples) q

@@ -7,6 +7,8 @@ use Prim.Native.Nat.{ℕ, _*_, _≤_, zero-le}
 use native.Mathlib.Nat as N
 use native.Mathlib.Omega.{arith}
 use lib.IntN.{ℤ, pos, natAbs, _+ℤ_, _-ℤ_, _*ℤ_, zero-*ℤ}
+use mir.Syntax.{w64}
+use mir.Val.{toZ, ofZ}
 use Rattle.integers.specs.Sum.{sumOver}
 use Rattle.integers.proofs.Ring.{#_, _⊕_, _⊖_, _⊗_, _≈_, ring}
 use Rattle.integers.proofs.Size.{size-over}
@@ -21,6 +23,7 @@ use Rattle.scheme.specs.Step.{neighbours, laplacian, innerLaplacian, biharmonic
 use Rattle.steps.specs.declared.plan.Plan.{Plan}
 use Rattle.steps.specs.Plan.{countOf, innerSum, bendingOf, Updatable, Ready, Neighbouring}
 use Rattle.steps.specs.Run.{nextOver, nextBy}
+use Rattle.steps.proofs.Held.{held, held-below}
 use Rattle.steps.proofs.PlanLaws.{few, near-part, stiff-part}
 use Rattle.steps.proofs.BesideLaws.{count-is}
 
@@ -166,3 +169,20 @@ module _ {p : Plan} {f : ℤ} {older newer : List ℤ} {k : ℕ} {sum second : �
   pub next-is : nextOver (numeratorOf s u l b (point older k) f) (divisor s) ≡ nextBy i f older newer k
   unfolding nextBy
   next-is = ap (λ (n : ℤ). nextOver n (divisor s)) numerator-is
+
+-- ---- the same, each number as the machine has it
+
+module _ {p : Plan} {f : ℤ} {older newer : List ℤ} {k : ℕ} {sum second : ℤ} (r : Ready p f older newer)
+    (n : Neighbouring (p .instrument) newer k sum second) where
+  pub force-held : toZ w64 (ofZ w64 f) ≡ f
+  force-held = held (r .f-low)
+
+  pub ready-held : Ready p (toZ w64 (ofZ w64 f)) older newer
+  ready-held = subst (λ (z : ℤ). Ready p z older newer) (sym force-held) r
+
+  pub beside-held : Neighbouring (p .instrument) newer k (toZ w64 (ofZ w64 sum)) (toZ w64 (ofZ w64 second))
+  beside-held =
+      let u = updatable r n in
+      let x : toZ w64 (ofZ w64 sum) ≡ sum = held-below (4 * ceiling) tt (u .sum-low) in
+      let y : toZ w64 (ofZ w64 second) ≡ second = held-below (16 * ceiling) tt (u .second-low) in
+      coe 1 0 (j. Neighbouring (p .instrument) newer k (x j) (y j)) n

@@ -1,20 +1,30 @@
--- The roles of the three slices.
+-- The roles of the slices.
 use mathlib.Core.Path.{_≡_, refl, sym, ap, _∙_, subst}
+use mathlib.Core.Bool.{Bool, true, false, true≢false}
 use mathlib.Core.List.{List}
-use Prim.Native.Nat.{ℕ, zero, suc}
+use mathlib.Core.Logic.{⊎-elim}
+use Prim.Native.Nat.{ℕ, zero, suc, _≤_, _<_}
+use native.Mathlib.Decide.{decLt}
+use native.Mathlib.Omega.{arith}
 use lib.IntN.{ℤ}
+use lib.ListN.{length}
 use Rattle.types.specs.declared.Instrument.{Instrument}
 use Rattle.types.specs.declared.Hit.{Hit}
+use Rattle.scheme.specs.Instruments.{points}
 use Rattle.steps.specs.declared.plan.Plan.{Plan}
 use Rattle.steps.specs.declared.progress.Progress.{Progress}
-use Rattle.steps.specs.Roles.{Steppable, Stepped, SteppedIn, turnedOf, olderOf, newerOf, outOf}
+use Rattle.steps.specs.Roles.{Steppable, Stepped, SteppedInPlace, SteppedIn, SameLevels, piece, turnedOf, olderOf, newerOf, outOf}
+use Rattle.steps.specs.Pass.{Passable, Passed}
 
--- ---- a phase that is neither 0 nor 1
+-- ---- a phase that is none of 0 to 3
 
-pub later : (P : ℕ → Type 0) → ((k : ℕ) → P (suc (suc k))) → (p : ℕ) → (p ≡ 0 → ⊥) → (p ≡ 1 → ⊥) → P p
-later P f zero n m = absurd (n refl)
-later P f (suc zero) n m = absurd (m refl)
-later P f (suc (suc k)) n m = f k
+pub later : (P : ℕ → Type 0) → ((k : ℕ) → P (suc (suc (suc (suc k))))) → (p : ℕ) → (p ≡ 0 → ⊥) → (p ≡ 1 → ⊥) → (p ≡ 2 → ⊥) → (p ≡ 3 → ⊥)
+    → P p
+later P f zero n₀ n₁ n₂ n₃ = absurd (n₀ refl)
+later P f (suc zero) n₀ n₁ n₂ n₃ = absurd (n₁ refl)
+later P f (suc (suc zero)) n₀ n₁ n₂ n₃ = absurd (n₂ refl)
+later P f (suc (suc (suc zero))) n₀ n₁ n₂ n₃ = absurd (n₃ refl)
+later P f (suc (suc (suc (suc k)))) n₀ n₁ n₂ n₃ = f k
 
 -- ---- which slice has which role
 
@@ -24,64 +34,174 @@ module _ (p : ℕ) (a b c : List ℤ) where
     pub newer-is : newerOf p a b c ≡ newer
     pub out-is : outOf p a b c ≡ out
 
-  pub roles-0 : p ≡ 0 → InRoles a b c
-  roles-0 e = record {
+  -- a phase that is known
+  pub roles-at : (q : ℕ) → p ≡ q → InRoles (olderOf q a b c) (newerOf q a b c) (outOf q a b c)
+  roles-at q e = record {
     older-is = ap (λ (p : ℕ). olderOf p a b c) e;
     newer-is = ap (λ (p : ℕ). newerOf p a b c) e;
     out-is = ap (λ (p : ℕ). outOf p a b c) e;
   }
 
-  pub roles-1 : p ≡ 1 → InRoles b c a
-  roles-1 e = record {
-    older-is = ap (λ (p : ℕ). olderOf p a b c) e;
-    newer-is = ap (λ (p : ℕ). newerOf p a b c) e;
-    out-is = ap (λ (p : ℕ). outOf p a b c) e;
+  pub roles-4 : (p ≡ 0 → ⊥) → (p ≡ 1 → ⊥) → (p ≡ 2 → ⊥) → (p ≡ 3 → ⊥) → InRoles b a b
+  roles-4 n₀ n₁ n₂ n₃ = record {
+    older-is = later (λ p. olderOf p a b c ≡ b) (λ k. refl) p n₀ n₁ n₂ n₃;
+    newer-is = later (λ p. newerOf p a b c ≡ a) (λ k. refl) p n₀ n₁ n₂ n₃;
+    out-is = later (λ p. outOf p a b c ≡ b) (λ k. refl) p n₀ n₁ n₂ n₃;
   }
 
-  pub roles-2 : (p ≡ 0 → ⊥) → (p ≡ 1 → ⊥) → InRoles c a b
-  roles-2 n m = record {
-    older-is = later (λ p. olderOf p a b c ≡ c) (λ k. refl) p n m;
-    newer-is = later (λ p. newerOf p a b c ≡ a) (λ k. refl) p n m;
-    out-is = later (λ p. outOf p a b c ≡ b) (λ k. refl) p n m;
+-- of three levels, the last phase
+pub roles-2 : (p : ℕ) (a b c : List ℤ) → p < 3 → (p ≡ 0 → ⊥) → (p ≡ 1 → ⊥) → InRoles p a b c c a b
+roles-2 p a b c l n₀ n₁ = roles-at p a b c 2 (omega (arith, n₀, n₁))
+
+-- ---- a step in place: a pass that tests, then one that writes
+
+pub in-place-given : {p : Plan} {h : Hit} {older newer room : List ℤ} → Steppable p h older newer older → piece ≤ length room
+    → Passable p h true older newer room
+in-place-given s l = record { given = s; room = record { for-piece = λ e. l; for-all = λ e. absurd (true≢false e) } }
+
+module _ {i : Instrument} {h : Hit} {older₀ newer room₀ older₁ room₁ : List ℤ} {x : Progress}
+    (p : Passed i h false true older₀ newer room₀ older₁ room₁ x) where
+  -- a value lies beyond the ceiling: nothing was written
+  pub tested-not : x .within ≡ false → SteppedInPlace i h older₀ newer older₁ x
+  tested-not e = record {
+    stepped = record {
+      within-is = p .stepped .within-is;
+      next-is = λ w t. absurd (true≢false (sym t ∙ e));
+      inexact-is = λ w t. absurd (true≢false (sym t ∙ e));
+      long = p .stepped .long;
+    };
+    kept = λ t. p .passing .kept refl;
   }
 
--- what a step is given and leaves, by the slices that have the roles
+  -- none does: the second pass writes them all
+  pub tested-written : {room₂ older₂ : List ℤ} {y : Progress} → x .within ≡ true → Passed i h true true older₁ newer room₁ older₂ room₂ y
+      → SteppedInPlace i h older₀ newer older₂ y
+  tested-written {older₂ = older₂} {y} e q =
+      let s : Stepped i h true older₀ newer older₂ y =
+      subst (λ (xs : List ℤ). Stepped i h true xs newer older₂ y) (p .passing .kept refl) (q .stepped) in
+      record {
+        stepped = s;
+        kept = λ t. absurd (true≢false (sym e ∙ p .stepped .within-is ∙ sym (s .within-is) ∙ t));
+      }
+
+-- ---- a step of small levels: a pass beside them, then a copy
+
+pub small-given : {p : Plan} {h : Hit} {older newer room : List ℤ} → Steppable p h older newer older → room ≡ older
+    → Passable p h false older newer room
+small-given {p} {h} {older} {newer} s e = record {
+  given = subst (Steppable p h older newer) (sym e) s;
+  room = record { for-piece = λ t. absurd (true≢false (sym t)); for-all = λ t. omega (arith, ap length e, s .older-passes .long) };
+}
+
+module _ {i : Instrument} {h : Hit} {older₀ newer room₀ older₁ room₁ : List ℤ} {x : Progress}
+    (p : Passed i h true false older₀ newer room₀ older₁ room₁ x) where
+  -- a value lies beyond the ceiling: nothing was copied
+  pub small-not : length older₀ ≡ points (i .grid) → x .within ≡ false → SteppedInPlace i h older₀ newer older₁ x
+  small-not l e = record {
+    stepped = record {
+      within-is = p .stepped .within-is;
+      next-is = λ w t. absurd (true≢false (sym t ∙ e));
+      inexact-is = λ w t. absurd (true≢false (sym t ∙ e));
+      long = p .passing .older-long ∙ l;
+    };
+    kept = λ t. p .passing .kept refl;
+  }
+
+  pub small-copied : {older₂ : List ℤ} → x .within ≡ true → older₂ ≡ room₁ → SteppedInPlace i h older₀ newer older₂ x
+  small-copied {older₂} e f = record {
+    stepped = subst (λ (xs : List ℤ). Stepped i h true older₀ newer xs x) (sym f) (p .stepped);
+    kept = λ t. absurd (true≢false (sym e ∙ t));
+  }
+
+-- ---- what a step is given and leaves, by the slices that have the roles
+
 module _ {p : ℕ} {a₀ b₀ c₀ older newer out₀ : List ℤ} (r₀ : InRoles p a₀ b₀ c₀ older newer out₀) where
   pub given-in : {q : Plan} {h : Hit} → Steppable q h (olderOf p a₀ b₀ c₀) (newerOf p a₀ b₀ c₀) (outOf p a₀ b₀ c₀)
       → Steppable q h older newer out₀
   given-in {q} {h} s = coe 0 1 (j. Steppable q h (r₀ .older-is j) (r₀ .newer-is j) (r₀ .out-is j)) s
 
-  pub stepped-in : {i : Instrument} {h : Hit} {a b c out : List ℤ} {x : Progress} → InRoles p a b c older newer out
-      → Stepped i h older newer out x
+  pub passable-in : {q : Plan} {h : Hit} → Steppable q h (olderOf p a₀ b₀ c₀) (newerOf p a₀ b₀ c₀) (outOf p a₀ b₀ c₀)
+      → Passable q h false older newer out₀
+  passable-in s =
+      let t = given-in s in
+      record { given = t; room = record { for-piece = λ e. absurd (true≢false (sym e)); for-all = λ e. omega (arith, t .room .long) } }
+
+  -- the next level beside the two
+  pub stepped-in : {i : Instrument} {h : Hit} {a b c older₁ out : List ℤ} {x : Progress} → InRoles p a b c older₁ newer out
+      → Passed i h true false older newer out₀ older₁ out x
       → SteppedIn p i h a₀ b₀ c₀ a b c x
   stepped-in {i} {h} {x = x} r s = record {
-    stepped = coe 1 0 (j. Stepped i h (r₀ .older-is j) (r₀ .newer-is j) (r .out-is j) x) s;
-    older-kept = r .older-is ∙ sym (r₀ .older-is);
+    stepped = coe 1 0 (j. Stepped i h true (r₀ .older-is j) (r₀ .newer-is j) (r .out-is j) x) (s .stepped);
+    older-kept = λ t. r .older-is ∙ s .passing .kept refl ∙ sym (r₀ .older-is);
     newer-kept = r .newer-is ∙ sym (r₀ .newer-is);
   }
 
--- the same of another name of the hit
-module _ {h h′ : Hit} (e : h ≡ h′) where
-  pub given-as : {q : Plan} {older newer out : List ℤ} → Steppable q h older newer out → Steppable q h′ older newer out
-  given-as {q} {older} {newer} {out} = subst (λ (h : Hit). Steppable q h older newer out) e
+  -- in place
+  pub in-place-in : {i : Instrument} {h : Hit} {a b c out : List ℤ} {x : Progress} → 3 ≤ p → InRoles p a b c out newer out
+      → SteppedInPlace i h older newer out x
+      → SteppedIn p i h a₀ b₀ c₀ a b c x
+  in-place-in {i} {h} {x = x} l r s = record {
+    stepped = coe 1 0 (j. Stepped i h true (r₀ .older-is j) (r₀ .newer-is j) (r .out-is j) x) (s .stepped);
+    older-kept = ⊎-elim (λ u. absurd (omega arith)) (λ e. r .older-is ∙ s .kept e ∙ sym (r₀ .older-is));
+    newer-kept = r .newer-is ∙ sym (r₀ .newer-is);
+  }
 
-  pub stepped-as : {i : Instrument} {older newer out : List ℤ} {x : Progress}
-      → Stepped i h′ older newer out x → Stepped i h older newer out x
-  stepped-as {i} {older} {newer} {out} {x} = subst (λ (h : Hit). Stepped i h older newer out x) (sym e)
+-- the same, by an equal hit
+module _ {h h′ : Hit} (e : h ≡ h′) where
+  pub given-as : {q : Plan} {inPlace : Bool} {older newer out : List ℤ} → Passable q h inPlace older newer out
+      → Passable q h′ inPlace older newer out
+  given-as {q} {inPlace} {older} {newer} {out} = subst (λ (h : Hit). Passable q h inPlace older newer out) e
+
+  pub stepped-as : {i : Instrument} {write inPlace : Bool} {older₀ newer out₀ older out : List ℤ} {x : Progress}
+      → Passed i h′ write inPlace older₀ newer out₀ older out x → Passed i h write inPlace older₀ newer out₀ older out x
+  stepped-as {i} {write} {inPlace} {older₀} {newer} {out₀} {older} {out} {x} =
+      subst (λ (h : Hit). Passed i h write inPlace older₀ newer out₀ older out x) (sym e)
 
 -- ---- after a step the level in the role of newer is older, and the next level newer
 
 pub turned-older : (p : ℕ) (a b c : List ℤ) → olderOf (turnedOf p) a b c ≡ newerOf p a b c
 turned-older zero a b c = refl
 turned-older (suc zero) a b c = refl
-turned-older (suc (suc k)) a b c = refl
+turned-older (suc (suc zero)) a b c = refl
+turned-older (suc (suc (suc zero))) a b c = refl
+turned-older (suc (suc (suc (suc k)))) a b c = refl
 
 pub turned-newer : (p : ℕ) (a b c : List ℤ) → newerOf (turnedOf p) a b c ≡ outOf p a b c
 turned-newer zero a b c = refl
 turned-newer (suc zero) a b c = refl
-turned-newer (suc (suc k)) a b c = refl
+turned-newer (suc (suc zero)) a b c = refl
+turned-newer (suc (suc (suc zero))) a b c = refl
+turned-newer (suc (suc (suc (suc k)))) a b c = refl
 
-pub turned-out : (p : ℕ) (a b c : List ℤ) → outOf (turnedOf p) a b c ≡ olderOf p a b c
-turned-out zero a b c = refl
-turned-out (suc zero) a b c = refl
-turned-out (suc (suc k)) a b c = refl
+-- room for the level after it: of three levels older's, of two newer's
+pub turned-room : (P : List ℤ → Type 0) (p : ℕ) (a b c : List ℤ) → (p < 3 → P (olderOf p a b c)) → P (newerOf p a b c)
+    → P (outOf (turnedOf p) a b c)
+turned-room P zero a b c x y = x (omega arith)
+turned-room P (suc zero) a b c x y = x (omega arith)
+turned-room P (suc (suc zero)) a b c x y = x (omega arith)
+turned-room P (suc (suc (suc zero))) a b c x y = y
+turned-room P (suc (suc (suc (suc k)))) a b c x y = y
+
+-- as many levels as before
+pub turned-levels : {first : ℕ} (p : ℕ) → SameLevels first p → SameLevels first (turnedOf p)
+turned-levels p s = record { three = λ l. below p (s .three l); two = λ l. above p (s .two l) }
+  where
+    below : (p : ℕ) → p < 3 → turnedOf p < 3
+    below zero l = omega arith
+    below (suc zero) l = omega arith
+    below (suc (suc zero)) l = omega arith
+    below (suc (suc (suc k))) l = absurd (omega arith)
+
+    above : (p : ℕ) → 3 ≤ p → 3 ≤ turnedOf p
+    above zero l = absurd (omega arith)
+    above (suc zero) l = absurd (omega arith)
+    above (suc (suc zero)) l = absurd (omega arith)
+    above (suc (suc (suc zero))) l = omega arith
+    above (suc (suc (suc (suc k)))) l = omega arith
+
+pub levels-two : {p q : ℕ} → SameLevels p q → 3 ≤ q → 3 ≤ p
+levels-two {p} s l = go (decLt p 3)
+  where
+    go : Dec (p < 3) → 3 ≤ p
+    go (yes h) = absurd (omega (arith, s .three h, l))
+    go (no h) = omega (arith, h)

@@ -28,10 +28,12 @@ use Rattle.levels.proofs.LevelLaws.{next-row, row-inside}
 use Rattle.steps.specs.declared.plan.Plan.{Plan}
 use Rattle.steps.specs.declared.progress.Progress.{Progress}
 use Rattle.steps.specs.Plan.{Ready}
-use Rattle.steps.specs.Run.{Next, nextOf, Ran, Stepping, Moves}
-use Rattle.steps.specs.Roles.{Steppable, Stepped}
-use Rattle.steps.proofs.CountLaws.{counted-not, counted-most, counted-all}
-use Rattle.steps.proofs.FillLaws.{filled-there, passed, ran-none, ran-all, ran-passed, ran-append, ran-stops, ran-ends}
+use Rattle.steps.specs.Run.{Next, nextOf, Ran, Counted, Moves}
+use Rattle.steps.specs.Roles.{Steppable}
+use Rattle.steps.specs.Pass.{target, Passable, Passing, Passed}
+use Rattle.steps.proofs.CountLaws.{counted-not, counted-all}
+use Rattle.steps.proofs.FillLaws.{filled-there, passed, ran-all, ran-append}
+use Rattle.steps.proofs.PassLaws.{passing-none, passing-most, passing-append, passing-stops}
 
 -- ---- a row
 
@@ -69,17 +71,33 @@ module _ (g : Grid) (b : ℕ) (size : inTable g ≡ true) (h : b < g .rows) wher
 
 -- ---- a loop over the rows: the points before start have their next values, n of them inexact
 
-pub record Rows (i : Instrument) (h : Hit) (older newer out₀ out : List ℤ) (row start n : ℕ) : Type 0 where
+pub record Rows (i : Instrument) (h : Hit) (write inPlace : Bool) (older₀ newer out₀ older out : List ℤ) (row start n : ℕ) : Type 0 where
   pub start-is : start ≡ row * i .grid .columns
   pub upto : row ≤ i .grid .rows
-  pub ran : Stepping i h true 0 older newer out₀ out 0 start (passed n)
+  pub done : Passing i h write inPlace older₀ newer out₀ older out 0 start (passed n)
 
-pub rows-start : (i : Instrument) (h : Hit) (older newer out : List ℤ) → Rows i h older newer out out 0 0 0
-rows-start i h older newer out = record { start-is = omega arith; upto = zero-le; ran = ran-none out 0 }
+pub rows-start : {i : Instrument} {h : Hit} {write inPlace : Bool} {newer : List ℤ} (older out : List ℤ)
+    → Rows i h write inPlace older newer out older out 0 0 0
+rows-start older out = record { start-is = omega arith; upto = zero-le; done = passing-none older out 0 }
 
 -- ---- what a step is given
 
-module _ {p : Plan} {h : Hit} {older newer out₀ : List ℤ} (s : Steppable p h older newer out₀) where
+module _ {p : Plan} {h : Hit} {older₀ newer room : List ℤ} (s : Steppable p h older₀ newer room) where
+  pub steppable-ready : Ready p (pos 0) older₀ newer
+  steppable-ready = record {
+    planned = s .planned;
+    older-long = s .older-passes .long;
+    newer-long = s .newer-passes .long;
+    older-low = passes-low (p .instrument .grid) older₀ (s .older-passes);
+    newer-low = passes-low (p .instrument .grid) newer (s .newer-passes);
+    newer-still = passes-still (p .instrument .grid) newer (s .newer-passes) .still;
+    f-low = zero-le;
+  }
+
+module _ {p : Plan} {h : Hit} {inPlace : Bool} {older₀ newer out₀ : List ℤ} (a : Passable p h inPlace older₀ newer out₀) where
+  abbrev s : Steppable p h older₀ newer (target inPlace older₀ out₀)
+  s = a .given
+
   abbrev i : Instrument
   i = p .instrument
 
@@ -88,37 +106,33 @@ module _ {p : Plan} {h : Hit} {older newer out₀ : List ℤ} (s : Steppable p h
 
   -- the next values
   abbrev v : ℕ → Next
-  v = nextOf i h older newer
-
-  pub steppable-ready : Ready p (pos 0) older newer
-  steppable-ready = record {
-    planned = s .planned;
-    older-long = s .older-passes .long;
-    newer-long = s .newer-passes .long;
-    older-low = passes-low g older (s .older-passes);
-    newer-low = passes-low g newer (s .newer-passes);
-    newer-still = passes-still g newer (s .newer-passes) .still;
-    f-low = zero-le;
-  }
+  v = nextOf i h older₀ newer
 
   -- points from b on that do not move hold their next values, 0, and none is inexact
-  still : {out : List ℤ} {b c n : ℕ} → Ran v true 0 out₀ out 0 b (passed n) → b ≤ c → ((k : ℕ) → b ≤ k → k < c → moving g k ≡ false)
-      → Ran v true 0 out out b c (passed 0)
-  still {out} {b} {c} r o all =
+  still : {write : Bool} {xs : List ℤ} {b c n : ℕ} → Ran v write 0 (target inPlace older₀ out₀) xs 0 b (passed n) → b ≤ c
+      → ((k : ℕ) → b ≤ k → k < c → moving g k ≡ false)
+      → Ran v write 0 xs xs b c (passed 0)
+  still {write} {xs} {b} {c} r o all =
       ran-all
-      (filled-there (λ k. v k .value) true 0 out b c
-      (λ k l m. r .filled refl .kept (k - 0) (inr (inr (omega arith))) ∙ ap (point out₀) (sub-zero k) ∙ s .room .still k (all k l m) ∙
-      sym (next-still i h older newer k (all k l m))))
-      (λ k l m. ap beyond (next-still i h older newer k (all k l m)))
-      (counted-not o (λ k l m. inexact-still i h older newer k (all k l m)))
+      (filled-there (λ k. v k .value) write 0 xs b c
+      (λ k l m. r .filled refl .kept (k - 0) (inr (inr (omega arith))) ∙ ap (point (target inPlace older₀ out₀)) (sub-zero k)
+      ∙ s .room .still k (all k l m) ∙ sym (next-still i h older₀ newer k (all k l m))))
+      (λ k l m. ap beyond (next-still i h older₀ newer k (all k l m)))
+      (counted-not o (λ k l m. ap (λ (t : Bool). write && t) (inexact-still i h older₀ newer k (all k l m)) ∙ and-false write))
 
-  and-still : {out : List ℤ} {b c n : ℕ} → Ran v true 0 out₀ out 0 b (passed n) → b ≤ c → ((k : ℕ) → b ≤ k → k < c → moving g k ≡ false)
-      → Ran v true 0 out₀ out 0 c (passed n)
-  and-still {out} {b} {c} {n} r l all =
-      subst (λ (m : ℕ). Ran v true 0 out₀ out 0 c (passed m)) (omega arith) (ran-append zero-le zero-le l r (still r l all))
+  and-still : {write : Bool} {older out : List ℤ} {b c n : ℕ} → Passing i h write inPlace older₀ newer out₀ older out 0 b (passed n) → b ≤ c
+      → ((k : ℕ) → b ≤ k → k < c → moving g k ≡ false)
+      → Passing i h write inPlace older₀ newer out₀ older out 0 c (passed n)
+  and-still {write} {older} {out} {b} {c} {n} q l all = record {
+    ran = subst (λ (m : ℕ). Ran v write 0 (target inPlace older₀ out₀) (target inPlace older out) 0 c (passed m)) (omega arith)
+        (ran-append zero-le zero-le l (q .ran) (still (q .ran) l all));
+    older-long = q .older-long;
+    out-long = q .out-long;
+    kept = q .kept;
+  }
 
-  module _ {out : List ℤ} {row start n : ℕ} (l : Rows i h older newer out₀ out row start n) (m : row < g .rows) (r : Run)
-      (e : r ≡ runOf g row) where
+  module _ {write : Bool} {older out : List ℤ} {row start n : ℕ} (l : Rows i h write inPlace older₀ newer out₀ older out row start n)
+      (m : row < g .rows) (r : Run) (e : r ≡ runOf g row) where
     pub run-here : RowRun g start r
     run-here =
         subst (λ (n : ℕ). RowRun g n r) (sym (l .start-is))
@@ -131,68 +145,79 @@ module _ {p : Plan} {h : Hit} {older newer out₀ : List ℤ} (s : Steppable p h
     pub run-moves : Moves g (start + r .from) (start + r .to)
     run-moves = record { order = omega (arith, run-here .rising); each = run-here .moves }
 
-    module _ {out′ : List ℤ} {x : Progress} (q : Stepping i h true 0 older newer out out′ (start + r .from) (start + r .to) x) where
-      as-far : Stepping i h true 0 older newer out₀ out 0 (start + r .from) (passed n)
-      as-far = and-still (l .ran) (omega arith) (run-here .before)
+    module _ {older′ out′ : List ℤ} {x : Progress}
+        (q : Passing i h write inPlace older newer out older′ out′ (start + r .from) (start + r .to) x) where
+      as-far : Passing i h write inPlace older₀ newer out₀ older out 0 (start + r .from) (passed n)
+      as-far = and-still (l .done) (omega arith) (run-here .before)
 
       -- a value of the row lies beyond the ceiling
-      pub rows-stop : x .within ≡ false → Stepping i h true 0 older newer out₀ out′ 0 (points g) x
-      rows-stop y = ran-stops zero-le zero-le (run-moves .order) as-far (omega (arith, run-here .inside, row-room)) q y
+      pub rows-stop : x .within ≡ false → Passing i h write inPlace older₀ newer out₀ older′ out′ 0 (points g) x
+      rows-stop y = passing-stops zero-le (run-moves .order) as-far q (omega (arith, run-here .inside, row-room)) y
 
       -- one more row
       module _ (y : x .within ≡ true) where
-        row-ran : Stepping i h true 0 older newer out₀ out′ 0 (start + r .to) (passed (n + x .inexact))
-        row-ran = ran-append zero-le zero-le (run-moves .order) as-far (ran-passed y q)
+        row-done : Passing i h write inPlace older₀ newer out₀ older′ out′ 0 (start + r .to) (passed (n + x .inexact))
+        row-done = passing-append zero-le (run-moves .order) as-far q y
 
-        pub rows-more : Rows i h older newer out₀ out′ (row + 1) (start + g .columns) (n + x .inexact)
+        pub rows-more : Rows i h write inPlace older₀ newer out₀ older′ out′ (row + 1) (start + g .columns) (n + x .inexact)
         rows-more = record {
           start-is = ap (λ (n : ℕ). n + g .columns) (l .start-is) ∙ next-row row (g .columns);
           upto = omega arith;
-          ran = and-still row-ran (omega (arith, run-here .inside)) (run-here .after);
+          done = and-still row-done (omega (arith, run-here .inside)) (run-here .after);
         }
 
         -- no more points are inexact than there are
         pub rows-most : n + x .inexact ≤ points g
-        rows-most = omega (arith, counted-most (row-ran .counted refl), run-here .inside, row-room)
+        rows-most = omega (arith, passing-most row-done, run-here .inside, row-room)
 
   -- after the last row
-  pub rows-done : {out : List ℤ} {row start n : ℕ} → Rows i h older newer out₀ out row start n → g .rows ≤ row
-      → Stepping i h true 0 older newer out₀ out 0 (points g) (passed n)
-  rows-done {row = row} l m =
+  pub rows-done : {write : Bool} {older out : List ℤ} {row start n : ℕ} → Rows i h write inPlace older₀ newer out₀ older out row start n
+      → g .rows ≤ row → Passing i h write inPlace older₀ newer out₀ older out 0 (points g) (passed n)
+  rows-done {write} {older} {out} {row} {n = n} l m =
       let last : row ≡ g .rows = omega (arith, l .upto) in
-      ran-ends (l .start-is ∙ ap (λ (n : ℕ). n * g .columns) last ∙ mul-comm (g .rows) (g .columns)) (l .ran)
+      subst (λ (k : ℕ). Passing i h write inPlace older₀ newer out₀ older out 0 k (passed n))
+      (l .start-is ∙ ap (λ (n : ℕ). n * g .columns) last ∙ mul-comm (g .rows) (g .columns)) (l .done)
 
   -- ---- what a step leaves
 
   -- every point has its next value
-  pub stepped-all : {out : List ℤ} {n : ℕ} → Stepping i h true 0 older newer out₀ out 0 (points g) (passed n)
-      → Stepped i h older newer out (passed n)
+  pub stepped-all : {write : Bool} {older out : List ℤ} {n : ℕ}
+      → Passing i h write inPlace older₀ newer out₀ older out 0 (points g) (passed n)
+      → Passed i h write inPlace older₀ newer out₀ older out (passed n)
   unfolding nextLevel inexactIn
-  stepped-all {out} q =
-      let low : someBeyond (nextLevel i h older newer) ≡ false =
-      all-low (nextLevel i h older newer)
-      (λ k m. ltb-false ceiling _ (ap beyond (next-point i h older newer k)
-      ∙ q .low refl k zero-le (omega (arith, length-next i h older newer)))) in
+  stepped-all {write} {older} {out} {n} q =
+      let ran = q .ran in
+      let low : someBeyond (nextLevel i h older₀ newer) ≡ false =
+      all-low (nextLevel i h older₀ newer)
+      (λ k m. ltb-false ceiling _ (ap beyond (next-point i h older₀ newer k)
+      ∙ ran .low refl k zero-le (omega (arith, length-next i h older₀ newer)))) in
       record {
-        within-is = sym (ap not low);
-        next-is = λ t. is-tabulate (points g) (nextAt i h older newer) (pos 0) out (q .long ∙ s .room .long)
-            (λ k m. ap (point out) (sym (sub-zero k)) ∙ q .filled refl .written refl k zero-le m);
-        inexact-is = λ t. counted-all (q .counted refl);
-        long = q .long ∙ s .room .long;
+        stepped = record {
+          within-is = sym (ap not low);
+          next-is = λ w t. is-tabulate (points g) (nextAt i h older₀ newer) (pos 0) (target inPlace older out) (ran .long ∙ s .room .long)
+              (λ k m. ap (point (target inPlace older out)) (sym (sub-zero k)) ∙ ran .filled refl .written w k zero-le m);
+          inexact-is = λ w t. counted-all (coe 0 1 (j. Counted (λ k. w j && v k .inexact) 0 (points g) n) (ran .counted refl));
+          long = ran .long ∙ s .room .long;
+        };
+        passing = q;
       }
 
   -- a next value lies beyond the ceiling
-  pub stepped-not : {out : List ℤ} {x : Progress} → Stepping i h true 0 older newer out₀ out 0 (points g) x → x .within ≡ false
-      → Stepped i h older newer out x
+  pub stepped-not : {write : Bool} {older out : List ℤ} {x : Progress}
+      → Passing i h write inPlace older₀ newer out₀ older out 0 (points g) x
+      → x .within ≡ false → Passed i h write inPlace older₀ newer out₀ older out x
   unfolding someBeyond
-  stepped-not {out} q e =
-      let o = q .stopped e in
-      let next = nextLevel i h older newer in
+  stepped-not q e =
+      let o = q .ran .stopped e in
+      let next = nextLevel i h older₀ newer in
       record {
-        within-is = e ∙ sym (ap not (some-at (length next) (λ k. beyond (point next k)) (o .at)
-            (omega (arith, o .last, length-next i h older newer))
-            (ap beyond (next-point i h older newer (o .at)) ∙ o .beyond-there)));
-        next-is = λ t. absurd (true≢false (sym t ∙ e));
-        inexact-is = λ t. absurd (true≢false (sym t ∙ e));
-        long = q .long ∙ s .room .long;
+        stepped = record {
+          within-is = e ∙ sym (ap not (some-at (length next) (λ k. beyond (point next k)) (o .at)
+              (omega (arith, o .last, length-next i h older₀ newer))
+              (ap beyond (next-point i h older₀ newer (o .at)) ∙ o .beyond-there)));
+          next-is = λ w t. absurd (true≢false (sym t ∙ e));
+          inexact-is = λ w t. absurd (true≢false (sym t ∙ e));
+          long = q .ran .long ∙ s .room .long;
+        };
+        passing = q;
       }

@@ -1,11 +1,14 @@
 -- What the steps of a block are given, where 1 to 12 let it pass, and what they leave.
 use mathlib.Core.Path.{_≡_, refl, sym, ap, _∙_, subst}
-use mathlib.Core.Bool.{true, false, cond, true≢false}
+use mathlib.Core.Bool.{Bool, true, false, cond, not, true≢false}
 use mathlib.Core.List.{List}
-use Prim.Native.Nat.{ℕ, _<_}
-use lib.Dec.{ltb}
+use Prim.Native.Nat.{ℕ, zero, suc, _≤_, _<_}
+use native.Mathlib.Omega.{arith}
+use borrow.Author.Tests.{ne-eqb}
+use lib.Dec.{ltb, eqb}
 use lib.IntN.{ℤ, pos}
 use lib.ListN.{length, replicate, length-replicate}
+use Rattle.types.specs.declared.Grid.{Grid}
 use Rattle.types.specs.declared.Instrument.{Instrument}
 use Rattle.types.specs.declared.Hit.{Hit}
 use Rattle.types.specs.declared.Refusal.{Refusal}
@@ -13,41 +16,60 @@ use Rattle.types.specs.declared.Refusal.the-variants.{Nothing, NextBeyond}
 use Rattle.scheme.specs.Instruments.{points}
 use Rattle.scheme.specs.Refusals.{wrongLength, blockRefusal}
 use Rattle.scheme.specs.Passing.{BlockPasses}
-use Rattle.scheme.specs.Calls.{AfterBlock, accepted, play, block}
+use Rattle.scheme.specs.Calls.{AfterBlock, AfterInPlace, accepted, play, block, blockInPlace}
 use Rattle.scheme.proofs.Laws.Refusals.{right-length, block-passes}
 use Rattle.slices.proofs.SliceLaws.{zeros}
-use Rattle.scheme.proofs.Laws.Calls.{stands-behind, block-refused, block-done}
+use Rattle.scheme.proofs.Laws.Calls.{stands-behind, block-refused, block-done, in-place-refused, in-place-done}
 use Rattle.steps.specs.declared.plan.Plan.{Plan}
 use Rattle.steps.specs.declared.play.Steps.{Steps}
 use Rattle.steps.specs.Plan.{Planned}
-use Rattle.steps.specs.Roles.{Room, Steppable, Played, olderOf, newerOf}
-use Rattle.steps.specs.Turns.{Turned}
+use Rattle.steps.specs.Roles.{Room, Steppable, Begins, Played, olderOf, newerOf}
+use Rattle.steps.specs.Turns.{Opens, three, two, Turned, TurnedInPlace}
+use Rattle.steps.proofs.PlayLaws.{room-of}
 
-module _ (i : Instrument) (older newer work : List ℤ) (pick : ℕ) (h : Hit)
-    (e : blockRefusal i older newer (wrongLength (i .grid) (length work)) pick h ≡ Nothing)
+-- what nothing refuses is refused for nothing else that was lent, and work has the grid's length
+pub rest-right : (i : Instrument) (older newer : List ℤ) (wrong : Bool) (pick : ℕ) (h : Hit)
+    → blockRefusal i older newer wrong pick h ≡ Nothing → blockRefusal i older newer false pick h ≡ Nothing
+rest-right i older newer wrong pick h e =
+    subst (λ (t : Bool). blockRefusal i older newer t pick h ≡ Nothing) (block-passes i older newer wrong pick h e .rest-right) e
+
+pub work-right : (i : Instrument) (older newer work : List ℤ) (pick : ℕ) (h : Hit)
+    → blockRefusal i older newer (wrongLength (i .grid) (length work)) pick h ≡ Nothing → length work ≡ points (i .grid)
+work-right i older newer work pick h e =
+    right-length (i .grid) (length work) (block-passes i older newer (wrongLength (i .grid) (length work)) pick h e .rest-right)
+
+module _ (i : Instrument) (older newer : List ℤ) (pick : ℕ) (h : Hit) (e : blockRefusal i older newer false pick h ≡ Nothing)
     (p : Plan) (own : p .instrument ≡ i) where
-  passes : BlockPasses (p .instrument) older newer (wrongLength (i .grid) (length work)) pick h
+  passes : BlockPasses (p .instrument) older newer false pick h
   passes =
-      subst (λ (i′ : Instrument). BlockPasses i′ older newer (wrongLength (i .grid) (length work)) pick h) (sym own)
-      (block-passes i older newer (wrongLength (i .grid) (length work)) pick h e)
+      subst (λ (i′ : Instrument). BlockPasses i′ older newer false pick h) (sym own) (block-passes i older newer false pick h e)
 
   pub pick-inside : pick < points (p .instrument .grid)
   pick-inside = passes .pick-in
 
-  work-long : length work ≡ points (i .grid)
-  work-long = right-length (i .grid) (length work) (passes .rest-right)
-
-  pub first-steppable : Planned p → (cleared : List ℤ) → cleared ≡ replicate (length work) (pos 0) → Steppable p h older newer cleared
-  first-steppable q cleared z = record {
+  steppable : Planned p → (out : List ℤ) → Room (p .instrument .grid) out → Steppable p h older newer out
+  steppable q out room = record {
     planned = q;
     older-passes = passes .older-passes;
     newer-passes = passes .newer-passes;
-    room = subst (Room (p .instrument .grid)) (sym z) (record {
-      long = length-replicate (length work) (pos 0) ∙ work-long ∙ ap (λ (i : Instrument). points (i .grid)) (sym own);
-      still = λ k m. zeros (length work) k;
-    });
+    room = room;
     hit-moving = passes .hit-moving;
     hit-low = passes .hit-low;
+  }
+
+  -- work was cleared
+  pub first-steppable : Planned p → {first : ℕ} (work cleared : List ℤ) → cleared ≡ replicate (length work) (pos 0)
+      → Opens (i .grid) work first → Begins first p h older newer cleared
+  first-steppable q work cleared z (three l) = record {
+    given = steppable q cleared (subst (Room (p .instrument .grid)) (sym z) (record {
+      long = length-replicate (length work) (pos 0) ∙ l ∙ ap (λ (i : Instrument). points (i .grid)) (sym own);
+      still = λ k m. zeros (length work) k;
+    }));
+    third = λ t. absurd (omega arith);
+  }
+  first-steppable q work cleared z (two l) = record {
+    given = steppable q older (room-of (p .instrument .grid) older (passes .older-passes));
+    third = λ t. omega (arith, l, ap length z ∙ length-replicate (length work) (pos 0));
   }
 
   -- the steps of the plan are the instrument's
@@ -56,6 +78,25 @@ module _ (i : Instrument) (older newer work : List ℤ) (pick : ℕ) (h : Hit)
       → Played (play i pick h older newer samples) n r older₁ newer₁ samples₁
   own-steps samples {n} {r} {older₁} {newer₁} {samples₁} s =
       subst (λ (i : Instrument). Played (play i pick h older newer samples) n r older₁ newer₁ samples₁) own s
+
+-- the steps begin with the slices in the roles that they were lent for
+pub opened : {g : Grid} {work : List ℤ} {first : ℕ} → Opens g work first → (i : Instrument) (pick : ℕ) (h : Hit)
+    (older newer cleared samples : List ℤ) {n : ℕ} {r : Steps} {older₁ newer₁ samples₁ : List ℤ}
+    → Played (play i pick h (olderOf first older newer cleared) (newerOf first older newer cleared) samples) n r older₁ newer₁ samples₁
+    → Played (play i pick h older newer samples) n r older₁ newer₁ samples₁
+opened (three l) i pick h older newer cleared samples p = p
+opened (two l) i pick h older newer cleared samples p = p
+
+-- which of two slices has which role
+two-slices : (p : ℕ) (a b c : List ℤ) → 3 ≤ p
+    → (cond (not (eqb p 3)) b a ≡ olderOf p a b c) × (cond (not (eqb p 3)) a b ≡ newerOf p a b c)
+two-slices zero a b c l = absurd (omega arith)
+two-slices (suc zero) a b c l = absurd (omega arith)
+two-slices (suc (suc zero)) a b c l = absurd (omega arith)
+two-slices (suc (suc (suc zero))) a b c l = (refl, refl)
+two-slices (suc (suc (suc (suc k)))) a b c l =
+    let e = ap not (ne-eqb (suc (suc (suc (suc k)))) 3 (λ s. omega arith)) in
+    (ap (λ (t : Bool). cond t b a) e, ap (λ (t : Bool). cond t a b) e)
 
 -- what a call leaves
 module _ (i : Instrument) (older newer work samples : List ℤ) (pick : ℕ) (h : Hit) where
@@ -76,12 +117,13 @@ module _ (i : Instrument) (older newer work samples : List ℤ) (pick : ℕ) (h 
         older-is = ap (λ (b : AfterBlock). b .older) b;
         newer-is = ap (λ (b : AfterBlock). b .newer) b;
         samples-are = ap (λ (b : AfterBlock). b .samples) b;
+        three = omega arith;
         refused = λ t. (refl, ap (λ (b : AfterBlock). b .work) b);
         carried = λ t. absurd (true≢false (sym t));
       }
 
   -- one that is carried out: 13 where places are left
-  module _ (e : refuses ≡ Nothing) {r : Steps} {older₁ newer₁ work₁ samples₁ : List ℤ} {refusal : Refusal}
+  module _ (e : refuses ≡ Nothing) {r : Steps} {older₁ newer₁ work₁ samples₁ : List ℤ} {refusal : Refusal} (levels : r .phase < 3)
       (older-kept : length older₁ ≡ length older) (newer-kept : length newer₁ ≡ length newer) (work-kept : length work₁ ≡ length work)
       (s : Played (play i pick h older newer samples) (length samples) r (olderOf (r .phase) older₁ newer₁ work₁)
       (newerOf (r .phase) older₁ newer₁ work₁) samples₁) where
@@ -92,7 +134,7 @@ module _ (i : Instrument) (older newer work samples : List ℤ) (pick : ℕ) (h 
     carried-out d =
         let b = sym (block-done i older newer work samples pick h e) in
         let passes = block-passes i older newer (wrongLength (i .grid) (length work)) pick h e in
-        let long = right-length (i .grid) (length work) (passes .rest-right) in
+        let long = work-right i older newer work pick h e in
         let places : length samples₁ ≡ length samples =
         ap length (s .samples-are) ∙ stands-behind i pick h older newer samples .places-long in
         record {
@@ -104,10 +146,58 @@ module _ (i : Instrument) (older newer work samples : List ℤ) (pick : ℕ) (h 
           older-is = s .older-is ∙ ap (λ (b : AfterBlock). b .older) b;
           newer-is = s .newer-is ∙ ap (λ (b : AfterBlock). b .newer) b;
           samples-are = s .samples-are ∙ ap (λ (b : AfterBlock). b .samples) b;
+          three = levels;
           refused = λ t. absurd (true≢false t);
           carried = λ t. record {
             newer-long = newer-kept ∙ passes .newer-passes .long ∙ sym (passes .older-passes .long) ∙ sym older-kept;
             work-long = work-kept ∙ long ∙ sym (passes .older-passes .long) ∙ sym older-kept;
             zeros-are = sym (ap (λ (b : AfterBlock). b .work) b) ∙ ap (λ (n : ℕ). replicate n (pos 0)) (sym (work-kept ∙ long));
           };
+        }
+
+-- what a call on two levels leaves
+module _ (i : Instrument) (older newer samples : List ℤ) (pick : ℕ) (h : Hit) where
+  abbrev refuses-two : Refusal
+  refuses-two = blockRefusal i older newer false pick h
+
+  -- one that is refused
+  pub turned-down-two : {r : Refusal} → r ≡ refuses-two → accepted refuses-two ≡ false
+      → TurnedInPlace (blockInPlace i older newer samples pick h)
+      (record { steps = 0; inexact = 0; refusal = r; exchanged = false }) older newer samples
+  turned-down-two e f =
+      let b = sym (in-place-refused i older newer samples pick h f) in
+      record {
+        steps-are = ap (λ (b : AfterInPlace). b .answer .steps) b;
+        inexact-is = ap (λ (b : AfterInPlace). b .answer .inexact) b;
+        refusal-is = e ∙ ap (λ (b : AfterInPlace). b .answer .refusal) b;
+        older-is = ap (λ (b : AfterInPlace). b .older) b;
+        newer-is = ap (λ (b : AfterInPlace). b .newer) b;
+        samples-are = ap (λ (b : AfterInPlace). b .samples) b;
+        same-long = λ t. absurd (true≢false (sym t));
+      }
+
+  -- one that is carried out
+  module _ (e : refuses-two ≡ Nothing) {r : Steps} {older₁ newer₁ samples₁ : List ℤ} {refusal : Refusal} (third₁ : List ℤ)
+      (levels : 3 ≤ r .phase)
+      (older-kept : length older₁ ≡ length older) (newer-kept : length newer₁ ≡ length newer)
+      (s : Played (play i pick h older newer samples) (length samples) r (olderOf (r .phase) older₁ newer₁ third₁)
+      (newerOf (r .phase) older₁ newer₁ third₁) samples₁) where
+    pub carried-out-two : refusal ≡ cond (ltb (r .done) (length samples₁)) NextBeyond Nothing
+        → TurnedInPlace (blockInPlace i older newer samples pick h)
+        (record { steps = r .done; inexact = r .inexact; refusal = refusal; exchanged = not (eqb (r .phase) 3) }) older₁ newer₁ samples₁
+    carried-out-two d =
+        let b = sym (in-place-done i older newer samples pick h e) in
+        let passes = block-passes i older newer false pick h e in
+        let two = two-slices (r .phase) older₁ newer₁ third₁ levels in
+        let places : length samples₁ ≡ length samples =
+        ap length (s .samples-are) ∙ stands-behind i pick h older newer samples .places-long in
+        record {
+          steps-are = s .done-is ∙ ap (λ (b : AfterInPlace). b .answer .steps) b;
+          inexact-is = s .inexact-is ∙ ap (λ (b : AfterInPlace). b .answer .inexact) b;
+          refusal-is = d ∙ ap (λ (n : ℕ). cond (ltb (r .done) n) NextBeyond Nothing) places ∙ sym (s .refusal-is)
+              ∙ ap (λ (b : AfterInPlace). b .answer .refusal) b;
+          older-is = two .0 ∙ s .older-is ∙ ap (λ (b : AfterInPlace). b .older) b;
+          newer-is = two .1 ∙ s .newer-is ∙ ap (λ (b : AfterInPlace). b .newer) b;
+          samples-are = s .samples-are ∙ ap (λ (b : AfterInPlace). b .samples) b;
+          same-long = λ t. newer-kept ∙ passes .newer-passes .long ∙ sym (passes .older-passes .long) ∙ sym older-kept;
         }

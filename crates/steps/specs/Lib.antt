@@ -4,4 +4,5 @@ pub mod Run
 pub mod Plates
 pub mod Edges
 pub mod Roles
+pub mod Pass
 pub mod Turns

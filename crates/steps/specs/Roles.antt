@@ -1,8 +1,9 @@
 -- Whole levels by their roles: what a step and the steps of a block leave in the lent slices. Vocabulary of private functions.
 use mathlib.Core.Path.{_≡_}
-use mathlib.Core.Bool.{true, false, cond, not}
+use mathlib.Core.Bool.{Bool, true, false, cond, not}
 use mathlib.Core.List.{List}
-use Prim.Native.Nat.{ℕ, zero, suc}
+use mathlib.Core.Logic.{_⊎_}
+use Prim.Native.Nat.{ℕ, zero, suc, _≤_, _<_}
 use lib.Dec.{ltb}
 use lib.IntN.{ℤ, pos}
 use lib.ListN.{length}
@@ -35,43 +36,75 @@ pub record Steppable (p : Plan) (h : Hit) (older newer out : List ℤ) : Type 0 
   pub hit-moving : notMoving (p .instrument .grid) h ≡ false
   pub hit-low : tooStrong h ≡ false
 
--- what a step leaves: the next level in out, and its inexact points counted, where it lies within the ceiling
-pub record Stepped (i : Instrument) (h : Hit) (older newer out : List ℤ) (r : Progress) : Type 0 where
+-- what a step leaves: the next level in out, if it is written, and its inexact points counted, where it lies within the ceiling
+pub record Stepped (i : Instrument) (h : Hit) (write : Bool) (older newer out : List ℤ) (r : Progress) : Type 0 where
   pub within-is : r .within ≡ not (someBeyond (nextLevel i h older newer))
-  pub next-is : r .within ≡ true → out ≡ nextLevel i h older newer
-  pub inexact-is : r .within ≡ true → r .inexact ≡ inexactIn i h older newer
+  pub next-is : write ≡ true → r .within ≡ true → out ≡ nextLevel i h older newer
+  pub inexact-is : write ≡ true → r .within ≡ true → r .inexact ≡ inexactIn i h older newer
   pub long : length out ≡ points (i .grid)
 
--- ---- three slices in turn: after a step the newer level is older, the next one newer, and the older one's place is free
+-- the same in place: the next level in older itself, which is as it was where a point would lie beyond the ceiling
+pub record SteppedInPlace (i : Instrument) (h : Hit) (older₀ newer older : List ℤ) (r : Progress) : Type 0 where
+  pub stepped : Stepped i h true older₀ newer older r
+  pub kept : r .within ≡ false → older ≡ older₀
 
--- the phase: 0, 1 or 2
+-- ---- slices in turn: after a step the newer level is older, and the next one newer. Of three levels the older one's place is free then;
+-- of two the next one stands there.
+
+-- the phase: 0, 1 or 2 of three levels, 3 or 4 of two
 abbrev pub turnedOf : ℕ → ℕ
 turnedOf zero = 1
 turnedOf (suc zero) = 2
-turnedOf (suc (suc k)) = 0
+turnedOf (suc (suc zero)) = 0
+turnedOf (suc (suc (suc zero))) = 4
+turnedOf (suc (suc (suc (suc k)))) = 3
 
--- of three slices, the one in the role of older
+-- of the slices, the one in the role of older
 abbrev pub olderOf : ℕ → (a b c : List ℤ) → List ℤ
 olderOf zero a b c = a
 olderOf (suc zero) a b c = b
-olderOf (suc (suc k)) a b c = c
+olderOf (suc (suc zero)) a b c = c
+olderOf (suc (suc (suc zero))) a b c = a
+olderOf (suc (suc (suc (suc k)))) a b c = b
 
 -- in the role of newer
 abbrev pub newerOf : ℕ → (a b c : List ℤ) → List ℤ
 newerOf zero a b c = b
 newerOf (suc zero) a b c = c
-newerOf (suc (suc k)) a b c = a
+newerOf (suc (suc zero)) a b c = a
+newerOf (suc (suc (suc zero))) a b c = b
+newerOf (suc (suc (suc (suc k)))) a b c = a
 
 -- that the next level is put into
 abbrev pub outOf : ℕ → (a b c : List ℤ) → List ℤ
 outOf zero a b c = c
 outOf (suc zero) a b c = a
-outOf (suc (suc k)) a b c = b
+outOf (suc (suc zero)) a b c = b
+outOf (suc (suc (suc zero))) a b c = a
+outOf (suc (suc (suc (suc k)))) a b c = b
 
--- what a step leaves in the slices: the next level in its place, the other two as they were
+-- the most points of a piece of a row: a row of a grid has no more
+abbrev pub piece : ℕ
+piece = 64
+
+-- phases of as many levels
+pub record SameLevels (p q : ℕ) : Type 0 where
+  pub three : p < 3 → q < 3
+  pub two : 3 ≤ p → 3 ≤ q
+
+-- of two levels the third slice has room for a piece of a row
+abbrev pub Third : ℕ → (c : List ℤ) → Type 0
+Third phase c = 3 ≤ phase → piece ≤ length c
+
+-- what the steps of a block begin with
+pub record Begins (phase : ℕ) (p : Plan) (h : Hit) (a b c : List ℤ) : Type 0 where
+  pub given : Steppable p h (olderOf phase a b c) (newerOf phase a b c) (outOf phase a b c)
+  pub third : Third phase c
+
+-- what a step leaves in the slices: the next level in its place, newer as it was, and older too where it is not overwritten
 pub record SteppedIn (phase : ℕ) (i : Instrument) (h : Hit) (a₀ b₀ c₀ a b c : List ℤ) (r : Progress) : Type 0 where
-  pub stepped : Stepped i h (olderOf phase a₀ b₀ c₀) (newerOf phase a₀ b₀ c₀) (outOf phase a b c) r
-  pub older-kept : olderOf phase a b c ≡ olderOf phase a₀ b₀ c₀
+  pub stepped : Stepped i h true (olderOf phase a₀ b₀ c₀) (newerOf phase a₀ b₀ c₀) (outOf phase a b c) r
+  pub older-kept : (phase < 3) ⊎ (r .within ≡ false) → olderOf phase a b c ≡ olderOf phase a₀ b₀ c₀
   pub newer-kept : newerOf phase a b c ≡ newerOf phase a₀ b₀ c₀
 
 -- what the steps of a block leave, with n places for samples: p is what the definition says

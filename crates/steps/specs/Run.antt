@@ -54,6 +54,11 @@ pub record OneBeyond (v : ℕ → ℤ) (from to : ℕ) : Type 0 where
   pub last : at < to
   pub beyond-there : beyond (v at) ≡ true
 
+-- whether none has
+pub record Tested (v : ℕ → Next) (from to : ℕ) (r : Bool) : Type 0 where
+  pub low : r ≡ true → NoneBeyond (λ k. v k .value) from to
+  pub stopped : r ≡ false → OneBeyond (λ k. v k .value) from to
+
 -- n of the points from..to pass the test
 pub record Counted (test : ℕ → Bool) (from to n : ℕ) : Type 0 where
   pub sum : countBelow from test + n ≡ countBelow to test

@@ -1,14 +1,23 @@
--- What the steps of a call leave in three slices whose roles turn. Vocabulary between the engine's crates: no call that a maker embeds
--- cites it. What the call itself promises is `block` of crate scheme.
+-- What the steps of a call leave in slices whose roles turn. Vocabulary between the engine's crates: no call that a maker embeds
+-- cites it. What the calls themselves promise is `block` and `blockInPlace` of crate scheme.
 use mathlib.Core.Path.{_≡_}
-use mathlib.Core.Bool.{true, false}
+use mathlib.Core.Bool.{true, false, cond}
 use mathlib.Core.List.{List}
+use Prim.Native.Nat.{ℕ, _≤_, _<_}
 use lib.IntN.{ℤ, pos}
 use lib.ListN.{length, replicate}
 use Rattle.types.specs.declared.Refusal.{Refusal}
-use Rattle.scheme.specs.Calls.{AfterBlock, accepted}
+use Rattle.types.specs.declared.Grid.{Grid}
+use Rattle.scheme.specs.Instruments.{points}
+use Rattle.scheme.specs.Calls.{AfterBlock, AfterInPlace, accepted}
+use Rattle.steps.specs.declared.turns.InPlace.{InPlace}
 use Rattle.steps.specs.declared.turns.InTurn.{InTurn}
-use Rattle.steps.specs.Roles.{olderOf, newerOf}
+use Rattle.steps.specs.Roles.{piece, olderOf, newerOf}
+
+-- the third slice that the steps begin with: of three levels, in phase 0, one of the grid's length; of two, in phase 3, room for a piece
+pub data Opens (g : Grid) (work : List ℤ) : ℕ → Type 0 where
+  three : length work ≡ points g → Opens g work 0
+  two : piece ≤ length work → Opens g work 3
 
 -- three slices that can take each other's place, and the zeros that are owed in work
 pub record Exchangeable (zeros older newer work : List ℤ) : Type 0 where
@@ -26,5 +35,16 @@ pub record Turned (r : Refusal) (b : AfterBlock) (t : InTurn) (older newer work 
   pub older-is : olderOf (t .phase) older newer work ≡ b .older
   pub newer-is : newerOf (t .phase) older newer work ≡ b .newer
   pub samples-are : samples ≡ b .samples
+  pub three : t .phase < 3
   pub refused : t .begun ≡ false → (t .phase ≡ 0) × (work ≡ b .work)
   pub carried : t .begun ≡ true → Exchangeable (b .work) older newer work
+
+-- the answer and the samples of the block b on two levels, and its levels in their slices, or each in the other's
+pub record TurnedInPlace (b : AfterInPlace) (t : InPlace) (older newer samples : List ℤ) : Type 0 where
+  pub steps-are : t .steps ≡ b .answer .steps
+  pub inexact-is : t .inexact ≡ b .answer .inexact
+  pub refusal-is : t .refusal ≡ b .answer .refusal
+  pub older-is : cond (t .exchanged) newer older ≡ b .older
+  pub newer-is : cond (t .exchanged) older newer ≡ b .newer
+  pub samples-are : samples ≡ b .samples
+  pub same-long : t .exchanged ≡ true → length newer ≡ length older

@@ -1,4 +1,6 @@
-// The next values of a whole level: row by row, and in a row stretch by stretch.
+// The next values of a whole level: row by row, and in a row stretch by stretch. A pass puts them into out, or in place, into older itself;
+// one that does not write only tests them. `write` and `in_place` are arguments and not fields, so that the compiler knows them in each
+// library that has one of the two blocks.
 ghost use mathlib.Core.Path.{_≡_};
 ghost use mathlib.Core.Bool.{true, false};
 ghost use lib.IntN.{pos};
@@ -6,8 +8,11 @@ ghost use lib.ListN.{length};
 ghost use Rattle.scheme.specs.Refusals.{tooStrong};
 ghost use Rattle.steps.specs.Plan.{Ready, SoftGrid};
 ghost use Rattle.steps.specs.Run.{Stepping, Placed, Moves};
+ghost use Rattle.steps.specs.Pass.{Passable, Passing, Passed, RowRoom};
 ghost use Rattle.steps.specs.Edges.{EdgesOf};
-ghost use Rattle.steps.specs.Roles.{Steppable, Stepped};
+use crate::pieces::base_of;
+use crate::pieces::piece_end;
+use crate::pieces::put_piece;
 use crate::plan::Plan;
 use crate::plates::plate_level;
 use crate::plates::struck_level;
@@ -16,6 +21,7 @@ use crate::progress::Progress;
 use crate::stretch::Stretch;
 use crate::stretch::force_at;
 use crate::stretch::stretch_end;
+use crate::within::is_row_within;
 use types::Hit;
 
 // The moving points of a row.
@@ -56,19 +62,73 @@ fn row_run(
     }
 }
 
+// The moving points of a row, piece by piece: in place each piece is put into older once it is worked out.
+fn row_pass(
+    plan: Plan,
+    older: &mut [i64],
+    newer: &[i64],
+    from: usize,
+    to: usize,
+    hit: Hit,
+    out: &mut [i64],
+    write: bool,
+    in_place: bool,
+) -> Progress
+    requires { ⌜ Ready plan (pos 0) (now older) (now newer) × RowRoom «in_place» to (now out) ⌝ }
+    requires { ⌜ Moves (plan .instrument .grid) from to × (tooStrong hit ≡ false) × SoftGrid (plan .instrument) ⌝ }
+    ensures { λ r. ⌜ Passing (plan .instrument) hit write «in_place» (now (older .entry)) (now (newer .entry)) (now (out .entry))
+        (now (older .exit)) (now (out .exit)) from to r ⌝ }
+{
+    if !write {
+        if plan.m == 0 {
+            return Progress {
+                within: is_row_within(plan, older, newer, from, to, hit),
+                inexact: 0,
+            };
+        }
+    }
+    let mut inexact = 0;
+    let mut at = from;
+    while at < to {
+        let end = piece_end(at, to, in_place);
+        let base = base_of(at, in_place);
+        let piece = Stretch {
+            from: at,
+            to: end,
+            force: 0,
+            base,
+            write,
+        };
+        let p = row_run(plan, older, newer, piece, hit, out);
+        if !p.within {
+            return p;
+        }
+        put_piece(out, at, end, base, older, in_place & write);
+        inexact += p.inexact;
+        at = end;
+    }
+    Progress {
+        within: true,
+        inexact,
+    }
+}
+
 // Every moving point: from and to have the moving columns of each row. Off a line there is no stiffness.
 fn level_run(
     plan: Plan,
     from: &[u16; 64],
     to: &[u16; 64],
-    older: &[i64],
+    older: &mut [i64],
     newer: &[i64],
     out: &mut [i64],
     hit: Hit,
+    write: bool,
+    in_place: bool,
 ) -> Progress
-    requires { ⌜ Steppable plan hit (now older) (now newer) (now out) ⌝ }
+    requires { ⌜ Passable plan hit «in_place» (now older) (now newer) (now out) ⌝ }
     requires { ⌜ EdgesOf (plan .instrument .grid) (now from) (now to) × SoftGrid (plan .instrument) ⌝ }
-    ensures { λ r. ⌜ Stepped (plan .instrument) hit (now (older .entry)) (now (newer .entry)) (now (out .exit)) r ⌝ }
+    ensures { λ r. ⌜ Passed (plan .instrument) hit write «in_place» (now (older .entry)) (now (newer .entry)) (now (out .entry))
+        (now (older .exit)) (now (out .exit)) r ⌝ }
 {
     let columns = plan.instrument.grid.columns;
     let rows = plan.instrument.grid.rows;
@@ -76,14 +136,9 @@ fn level_run(
     let mut row = 0;
     let mut start = 0;
     while row < rows {
-        let moving = Stretch {
-            from: start + from[row] as usize,
-            to: start + to[row] as usize,
-            force: 0,
-            base: 0,
-            write: true,
-        };
-        let p = row_run(plan, older, newer, moving, hit, out);
+        let first = start + from[row] as usize;
+        let end = start + to[row] as usize;
+        let p = row_pass(plan, older, newer, first, end, hit, out, write, in_place);
         if !p.within {
             return p;
         }
@@ -97,26 +152,32 @@ fn level_run(
     }
 }
 
-// The next level. Off a line only a plate is stiff.
+// The next level, worked out beside the two, tested in place or written in place. Off a line only a plate is stiff.
 pub(crate) fn next_level(
     plan: Plan,
     from: &[u16; 64],
     to: &[u16; 64],
-    older: &[i64],
+    older: &mut [i64],
     newer: &[i64],
     out: &mut [i64],
     hit: Hit,
+    write: bool,
+    in_place: bool,
 ) -> Progress
-    requires { ⌜ Steppable plan hit (now older) (now newer) (now out) × EdgesOf (plan .instrument .grid) (now from) (now to) ⌝ }
-    ensures { λ r. ⌜ Stepped (plan .instrument) hit (now (older .entry)) (now (newer .entry)) (now (out .exit)) r ⌝ }
+    requires { ⌜ Passable plan hit «in_place» (now older) (now newer) (now out) ⌝ }
+    requires { ⌜ EdgesOf (plan .instrument .grid) (now from) (now to) ⌝ }
+    ensures { λ r. ⌜ Passed (plan .instrument) hit write «in_place» (now (older .entry)) (now (newer .entry)) (now (out .entry))
+        (now (older .exit)) (now (out .exit)) r ⌝ }
 {
     if plan.m != 0 {
         if plan.instrument.grid.rows != 1 {
             return match hit {
-                Hit::Absent => plate_level(plan, older, newer, out),
-                Hit::At { point: _, force: _ } => struck_level(plan, older, newer, out, hit),
+                Hit::Absent => plate_level(plan, older, newer, out, write, in_place),
+                Hit::At { point: _, force: _ } => {
+                    struck_level(plan, older, newer, out, hit, write, in_place)
+                }
             };
         }
     }
-    level_run(plan, from, to, older, newer, out, hit)
+    level_run(plan, from, to, older, newer, out, hit, write, in_place)
 }

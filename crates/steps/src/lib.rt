@@ -1,8 +1,9 @@
-// The steps of a block, on three slices whose roles turn.
+// The steps of a block, on three levels or on two whose roles turn.
 mod arithmetic;
 mod edges;
 mod level;
 mod neighbours;
+mod pieces;
 mod plan;
 mod plates;
 mod play;
@@ -11,6 +12,9 @@ mod progress;
 mod roles;
 mod stretch;
 mod turns;
+mod within;
 
+pub use turns::InPlace;
 pub use turns::InTurn;
+pub use turns::steps_in_place;
 pub use turns::steps_in_turn;

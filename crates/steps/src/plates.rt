@@ -12,13 +12,16 @@ ghost use Rattle.scheme.specs.Step.{divisor};
 ghost use Rattle.scheme.specs.Refusals.{tooStrong};
 ghost use Rattle.steps.specs.Plan.{AtMost, Planned, Ready};
 ghost use Rattle.steps.specs.Run.{Filled, Advanced, Stepping, Placed, fourBeside, hitIn};
-ghost use Rattle.steps.specs.Roles.{Steppable, Stepped};
+ghost use Rattle.steps.specs.Pass.{Passable, Passed};
 ghost use Rattle.steps.specs.Plates.{TwoRows, InRow, Readable, secondAt};
 use crate::neighbours::around;
+use crate::pieces::base_of;
+use crate::pieces::put_piece;
 use crate::plan::Plan;
 use crate::points::next_point;
 use crate::progress::Progress;
 use crate::stretch::Stretch;
+use crate::stretch::as_written;
 use crate::stretch::force_at;
 use types::Hit;
 use types::Settings;
@@ -144,6 +147,28 @@ fn plate_run(
     }
 }
 
+// The same by one of two loops, each with `write` a constant.
+fn plate_row(
+    plan: Plan,
+    older: &[i64],
+    newer: &[i64],
+    rows: SumRows,
+    s: Stretch,
+    sums: &mut [i64],
+    out: &mut [i64],
+) -> Progress
+    requires { ⌜ Ready plan (s .force) (now older) (now newer) × Placed s (length (now out)) ⌝ }
+    requires { ⌜ TwoRows (plan .instrument .grid) (now newer) (now sums) rows (s .from)
+        × InRow (plan .instrument .grid) rows (s .from) (s .to) ⌝ }
+    ensures { λ r. ⌜ Advanced plan s (now (older .entry)) (now (newer .entry)) (now (out .entry)) (now (out .exit)) (s .from) (s .to) r
+        × (r .within ≡ true → TwoRows (plan .instrument .grid) (now (newer .entry)) (now (sums .exit)) rows (s .to)) ⌝ }
+{
+    if s.write {
+        return plate_run(plan, older, newer, rows, as_written(s, true), sums, out);
+    }
+    plate_run(plan, older, newer, rows, as_written(s, false), sums, out)
+}
+
 // Points of a row with a hit: each is a stretch of its own.
 fn struck_run(
     plan: Plan,
@@ -221,9 +246,17 @@ fn struck_row(
 }
 
 // Every moving point of a plate, in a step without a hit. After a row the two places of the sums change roles.
-pub(crate) fn plate_level(plan: Plan, older: &[i64], newer: &[i64], out: &mut [i64]) -> Progress
-    requires { ⌜ Steppable plan Absent (now older) (now newer) (now out) × (kind (plan .instrument .grid) ≡ plate) ⌝ }
-    ensures { λ r. ⌜ Stepped (plan .instrument) Absent (now (older .entry)) (now (newer .entry)) (now (out .exit)) r ⌝ }
+pub(crate) fn plate_level(
+    plan: Plan,
+    older: &mut [i64],
+    newer: &[i64],
+    out: &mut [i64],
+    write: bool,
+    in_place: bool,
+) -> Progress
+    requires { ⌜ Passable plan Absent «in_place» (now older) (now newer) (now out) × (kind (plan .instrument .grid) ≡ plate) ⌝ }
+    ensures { λ r. ⌜ Passed (plan .instrument) Absent write «in_place» (now (older .entry)) (now (newer .entry)) (now (out .entry))
+        (now (older .exit)) (now (out .exit)) r ⌝ }
 {
     let g = plan.instrument.grid;
     let columns = g.columns;
@@ -243,17 +276,19 @@ pub(crate) fn plate_level(plan: Plan, older: &[i64], newer: &[i64], out: &mut [i
             other,
             last: row + 1 == last,
         };
+        let base = base_of(start, in_place);
         let moving = Stretch {
             from: start + 1,
             to: start + right,
             force: 0,
-            base: 0,
-            write: true,
+            base,
+            write,
         };
-        let p = plate_run(plan, older, newer, rows, moving, &mut sums, out);
+        let p = plate_row(plan, older, newer, rows, moving, &mut sums, out);
         if !p.within {
             return p;
         }
+        put_piece(out, start + 1, start + right, base, older, in_place & write);
         inexact += p.inexact;
         let free = other;
         other = here;
@@ -270,13 +305,16 @@ pub(crate) fn plate_level(plan: Plan, older: &[i64], newer: &[i64], out: &mut [i
 // The same in a step with a hit: a loop of its own, so that the other steps have no force to look for.
 pub(crate) fn struck_level(
     plan: Plan,
-    older: &[i64],
+    older: &mut [i64],
     newer: &[i64],
     out: &mut [i64],
     hit: Hit,
+    write: bool,
+    in_place: bool,
 ) -> Progress
-    requires { ⌜ Steppable plan hit (now older) (now newer) (now out) × (kind (plan .instrument .grid) ≡ plate) ⌝ }
-    ensures { λ r. ⌜ Stepped (plan .instrument) hit (now (older .entry)) (now (newer .entry)) (now (out .exit)) r ⌝ }
+    requires { ⌜ Passable plan hit «in_place» (now older) (now newer) (now out) × (kind (plan .instrument .grid) ≡ plate) ⌝ }
+    ensures { λ r. ⌜ Passed (plan .instrument) hit write «in_place» (now (older .entry)) (now (newer .entry)) (now (out .entry))
+        (now (older .exit)) (now (out .exit)) r ⌝ }
 {
     let g = plan.instrument.grid;
     let columns = g.columns;
@@ -296,17 +334,19 @@ pub(crate) fn struck_level(
             other,
             last: row + 1 == ring,
         };
+        let base = base_of(start, in_place);
         let moving = Stretch {
             from: start + 1,
             to: start + right,
             force: 0,
-            base: 0,
-            write: true,
+            base,
+            write,
         };
         let p = struck_row(plan, older, newer, rows, moving, hit, &mut sums, out);
         if !p.within {
             return p;
         }
+        put_piece(out, start + 1, start + right, base, older, in_place & write);
         inexact += p.inexact;
         let spare = other;
         other = here;

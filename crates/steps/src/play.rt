@@ -6,7 +6,7 @@ ghost use Rattle.scheme.specs.Instruments.{points};
 ghost use Rattle.scheme.specs.Calls as Calls;
 ghost use Rattle.scheme.specs.Calls.{hitAfter};
 ghost use Rattle.steps.specs.Edges.{EdgesOf};
-ghost use Rattle.steps.specs.Roles.{Steppable, Played, olderOf, newerOf};
+ghost use Rattle.steps.specs.Roles.{Begins, Played, SameLevels, olderOf, newerOf};
 use crate::plan::Plan;
 use crate::roles::sample_in_roles;
 use crate::roles::step_in_roles;
@@ -29,14 +29,14 @@ fn put(samples: &mut [i16], place: usize, v: i16)
     samples[place] = v;
 }
 
-// How many steps were done, how many points were inexact in them, and the phase that the three slices are in.
+// How many steps were done, how many points were inexact in them, and the phase that the slices are in.
 pub(crate) struct Steps {
     pub(crate) done: usize,
     pub(crate) inexact: u64,
     pub(crate) phase: usize,
 }
 
-// A step for each place of samples, until the next would put a point beyond the ceiling.
+// A step for each place of samples, until the next would put a point beyond the ceiling. The slices begin in phase `first`.
 pub(crate) fn play(
     plan: Plan,
     from: &[u16; 64],
@@ -47,15 +47,19 @@ pub(crate) fn play(
     samples: &mut [i16],
     pick: usize,
     hit: Hit,
+    first: usize,
 ) -> Steps
-    requires { ⌜ Steppable plan hit (now older) (now newer) (now work) × (pick < points (plan .instrument .grid)) ⌝ }
+    requires { ⌜ Begins first plan hit (now older) (now newer) (now work) × (pick < points (plan .instrument .grid)) ⌝ }
     requires { ⌜ EdgesOf (plan .instrument .grid) (now from) (now to) ⌝ }
-    ensures { λ r. ⌜ Played (Calls.play (plan .instrument) pick hit (now (older .entry)) (now (newer .entry)) (now (samples .entry)))
+    ensures { λ r. ⌜ Played
+        (Calls.play (plan .instrument) pick hit (olderOf first (now (older .entry)) (now (newer .entry)) (now (work .entry)))
+        (newerOf first (now (older .entry)) (now (newer .entry)) (now (work .entry))) (now (samples .entry)))
         (length (now (samples .entry))) r (olderOf (r .phase) (now (older .exit)) (now (newer .exit)) (now (work .exit)))
-        (newerOf (r .phase) (now (older .exit)) (now (newer .exit)) (now (work .exit))) (now (samples .exit)) ⌝ }
+        (newerOf (r .phase) (now (older .exit)) (now (newer .exit)) (now (work .exit))) (now (samples .exit))
+        × SameLevels first (r .phase) ⌝ }
 {
     let mut inexact = 0;
-    let mut phase = 0;
+    let mut phase = first;
     let mut j = 0;
     while j < samples.len() {
         let h = hit_of(hit, j);

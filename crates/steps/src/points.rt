@@ -1,12 +1,13 @@
 // The next values of a stretch of moving points, put into a slice that is neither older nor newer.
 // At the first that lies beyond the ceiling each function stops.
 ghost use mathlib.Core.Path.{_≡_};
-ghost use Prim.Native.Nat.{_+_, _-_, _≤_, _<_};
+ghost use Prim.Native.Nat.{_+_, _-_, _^_, _≤_, _<_};
+ghost use lib.IntN.{natAbs};
 ghost use lib.ListN.{length};
 ghost use Rattle.steps.specs.Plan.{Ready, SoftGrid, Neighbouring};
 ghost use Rattle.scheme.specs.Instruments.{bar, kind};
 ghost use Rattle.scheme.specs.Step.{divisor};
-ghost use Rattle.steps.specs.Run.{Advanced, Placed, Moves, OnLine, FreeEnd};
+ghost use Rattle.steps.specs.Run.{nextOver, nextBy, Advanced, Placed, Moves, OnLine, FreeEnd};
 use crate::arithmetic::is_within;
 use crate::arithmetic::numerator;
 use crate::arithmetic::round_away;
@@ -18,7 +19,24 @@ use crate::progress::Progress;
 use crate::stretch::Stretch;
 use crate::stretch::part;
 
-// One point: sum is that of its neighbours, second that of their sums, d the divisor.
+// The numerator at a point: sum is that of its neighbours, second that of their sums.
+pub(crate) fn numerator_at(
+    plan: Plan,
+    older: &[i64],
+    newer: &[i64],
+    at: usize,
+    sum: i64,
+    second: i64,
+    force: i64,
+) -> i64
+    requires { ⌜ Ready plan force (now older) (now newer) × Neighbouring (plan .instrument) (now newer) at sum second ⌝ }
+    ensures { λ r. ⌜ (nextOver r (divisor (plan .instrument .settings))
+        ≡ nextBy (plan .instrument) force (now (older .entry)) (now (newer .entry)) at) × (natAbs r ≤ 2 ^ 62) ⌝ }
+{
+    numerator(plan, newer[at], sum, second, older[at], force)
+}
+
+// One point: its next value, d being the divisor.
 pub(crate) fn next_point(
     plan: Plan,
     d: u64,
@@ -34,7 +52,7 @@ pub(crate) fn next_point(
     requires { ⌜ Placed s (length (now out)) × (s .from ≤ at) × (at < s .to) × (d ≡ divisor (plan .instrument .settings)) ⌝ }
     ensures { λ r. ⌜ Advanced plan s (now (older .entry)) (now (newer .entry)) (now (out .entry)) (now (out .exit)) at (at + 1) r ⌝ }
 {
-    let n = numerator(plan, newer[at], sum, second, older[at], s.force);
+    let n = numerator_at(plan, older, newer, at, sum, second, s.force);
     if !is_within(plan, n) {
         return Progress {
             within: false,

@@ -1,21 +1,71 @@
-// Three slices in turn: older, newer, and the one that the next level is put into. After a step newer is older, the next level is newer.
-// The phase, 0, 1 or 2, tells which is which.
+// Slices in turn: older, newer, and the one that the next level is put into. After a step newer is older, the next level is newer.
+// The phase tells which is which: 0, 1 or 2 of three levels; 3 or 4 of two, where the next level is put into older itself and the third
+// slice has room for a piece of a row.
 ghost use mathlib.Core.Path.{_≡_};
-ghost use Prim.Native.Nat.{_<_};
+ghost use Prim.Native.Nat.{_≤_, _<_};
 ghost use lib.ListN.{length};
 ghost use Rattle.types.specs.Numbers.{ceiling};
 ghost use Rattle.scheme.specs.Lists.{point};
 ghost use Rattle.scheme.specs.Step.{sampleOf};
 ghost use Rattle.steps.specs.Plan.{AtMost};
 ghost use Rattle.steps.specs.Edges.{EdgesOf};
-ghost use Rattle.steps.specs.Roles.{Steppable, SteppedIn, turnedOf, olderOf, newerOf, outOf};
+ghost use Rattle.steps.specs.Roles.{Steppable, SteppedInPlace, SteppedIn, Third, piece, turnedOf, olderOf, newerOf, outOf};
 use crate::arithmetic::sample;
 use crate::level::next_level;
+use crate::pieces::PIECE;
 use crate::plan::Plan;
 use crate::progress::Progress;
+use slices::copy;
 use types::Hit;
 
-// A step with the three slices in their roles.
+// A step of two levels that have no more points than a piece: the next level is worked out beside them, then copied to older.
+fn small_step(
+    plan: Plan,
+    from: &[u16; 64],
+    to: &[u16; 64],
+    older: &mut [i64],
+    newer: &[i64],
+    room: &mut [i64],
+    hit: Hit,
+) -> Progress
+    requires { ⌜ Steppable plan hit (now older) (now newer) (now older) × (length (now room) ≡ length (now older)) ⌝ }
+    requires { ⌜ EdgesOf (plan .instrument .grid) (now from) (now to) ⌝ }
+    ensures { λ r. ⌜ SteppedInPlace (plan .instrument) hit (now (older .entry)) (now (newer .entry)) (now (older .exit)) r ⌝ }
+{
+    copy(older, room);
+    let p = next_level(plan, from, to, older, newer, room, hit, true, false);
+    if p.within {
+        copy(room, older);
+    }
+    p
+}
+
+// A step of two levels: no point of older is written unless every next value lies within the ceiling.
+fn step_in_place(
+    plan: Plan,
+    from: &[u16; 64],
+    to: &[u16; 64],
+    older: &mut [i64],
+    newer: &[i64],
+    room: &mut [i64],
+    hit: Hit,
+) -> Progress
+    requires { ⌜ Steppable plan hit (now older) (now newer) (now older) × (piece ≤ length (now room)) ⌝ }
+    requires { ⌜ EdgesOf (plan .instrument .grid) (now from) (now to) ⌝ }
+    ensures { λ r. ⌜ SteppedInPlace (plan .instrument) hit (now (older .entry)) (now (newer .entry)) (now (older .exit)) r ⌝ }
+{
+    let n = older.len();
+    if n <= PIECE {
+        return small_step(plan, from, to, older, newer, &mut room[..n], hit);
+    }
+    let tested = next_level(plan, from, to, older, newer, room, hit, false, true);
+    if !tested.within {
+        return tested;
+    }
+    next_level(plan, from, to, older, newer, room, hit, true, true)
+}
+
+// A step with the slices in their roles.
 pub(crate) fn step_in_roles(
     plan: Plan,
     from: &[u16; 64],
@@ -28,14 +78,16 @@ pub(crate) fn step_in_roles(
 ) -> Progress
     requires { ⌜ Steppable plan hit (olderOf phase (now older) (now newer) (now work)) (newerOf phase (now older) (now newer) (now work))
         (outOf phase (now older) (now newer) (now work)) ⌝ }
-    requires { ⌜ EdgesOf (plan .instrument .grid) (now from) (now to) ⌝ }
+    requires { ⌜ EdgesOf (plan .instrument .grid) (now from) (now to) × Third phase (now work) ⌝ }
     ensures { λ r. ⌜ SteppedIn phase (plan .instrument) hit (now (older .entry)) (now (newer .entry)) (now (work .entry))
         (now (older .exit)) (now (newer .exit)) (now (work .exit)) r ⌝ }
 {
     match phase {
-        0 => next_level(plan, from, to, older, newer, work, hit),
-        1 => next_level(plan, from, to, newer, work, older, hit),
-        _ => next_level(plan, from, to, work, older, newer, hit),
+        0 => next_level(plan, from, to, older, newer, work, hit, true, false),
+        1 => next_level(plan, from, to, newer, work, older, hit, true, false),
+        2 => next_level(plan, from, to, work, older, newer, hit, true, false),
+        3 => step_in_place(plan, from, to, older, newer, work, hit),
+        _ => step_in_place(plan, from, to, newer, older, work, hit),
     }
 }
 
@@ -54,6 +106,8 @@ pub(crate) fn sample_in_roles(
     match phase {
         0 => sample(work[pick]),
         1 => sample(older[pick]),
+        2 => sample(newer[pick]),
+        3 => sample(older[pick]),
         _ => sample(newer[pick]),
     }
 }
@@ -65,6 +119,8 @@ pub(crate) fn turned(phase: usize) -> usize
     match phase {
         0 => 1,
         1 => 2,
-        _ => 0,
+        2 => 0,
+        3 => 4,
+        _ => 3,
     }
 }

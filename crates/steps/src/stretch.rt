@@ -42,6 +42,20 @@ pub(crate) fn part(s: Stretch, a: usize, e: usize) -> Stretch
     }
 }
 
+// s, with its `write` as the caller's constant.
+pub(crate) fn as_written(s: Stretch, write: bool) -> Stretch
+    requires { ⌜ (natAbs (s .force) ≤ ceiling) × (s .write ≡ write) ⌝ }
+    ensures { λ r. ⌜ r ≡ s ⌝ }
+{
+    Stretch {
+        from: s.from,
+        to: s.to,
+        force: s.force,
+        base: s.base,
+        write,
+    }
+}
+
 // The force of a hit on a point.
 pub(crate) fn force_at(hit: Hit, at: usize) -> i64
     requires { ⌜ tooStrong hit ≡ false ⌝ }

@@ -1,15 +1,16 @@
 // The steps of a call: its checks, and its steps where nothing refuses them.
 ghost use mathlib.Core.Path.{_≡_};
-ghost use mathlib.Core.Bool.{cond};
+ghost use mathlib.Core.Bool.{false, cond};
 ghost use lib.Dec.{ltb};
 ghost use lib.ListN.{length};
 ghost use Rattle.types.specs.declared.Refusal.the-variants.{Nothing, NextBeyond};
 ghost use Rattle.scheme.specs.Refusals.{wrongLength, blockRefusal};
-ghost use Rattle.scheme.specs.Calls.{block};
+ghost use Rattle.scheme.specs.Calls.{block, blockInPlace};
 ghost use Rattle.scheme.specs.Calls as Calls;
-ghost use Rattle.steps.specs.Roles.{Played, olderOf, newerOf};
-ghost use Rattle.steps.specs.Turns.{Turned};
+ghost use Rattle.steps.specs.Roles.{Played, SameLevels, olderOf, newerOf};
+ghost use Rattle.steps.specs.Turns.{Opens, Turned, TurnedInPlace};
 use crate::edges::row_edges;
+use crate::pieces::PIECE;
 use crate::plan::make_plan;
 use crate::play::Steps;
 use crate::play::play;
@@ -21,13 +22,21 @@ use types::Instrument;
 use types::Refusal;
 
 // What the steps of a call leave: whether it was carried out, the steps done, how many points were inexact in them,
-// what refused or ended them, and the phase that the three slices are in.
+// what refused or ended them, and the phase that the slices are in.
 pub struct InTurn {
     pub begun: bool,
     pub steps: usize,
     pub inexact: u64,
     pub refusal: Refusal,
     pub phase: usize,
+}
+
+// The same on two levels. `exchanged` tells that each of them stands in the other's slice.
+pub struct InPlace {
+    pub steps: usize,
+    pub inexact: u64,
+    pub refusal: Refusal,
+    pub exchanged: bool,
 }
 
 // 13 where fewer steps were done than there are places.
@@ -41,7 +50,7 @@ fn ending(done: usize, places: usize) -> Refusal
     }
 }
 
-// The steps of a block that 1 to 12 let pass.
+// The steps of a block that 1 to 12 let pass: of three levels from phase 0, of two from phase 3.
 fn begin(
     i: Instrument,
     older: &mut [i64],
@@ -50,18 +59,31 @@ fn begin(
     samples: &mut [i16],
     pick: usize,
     hit: Hit,
+    first: usize,
 ) -> Steps
-    requires { ⌜ blockRefusal i (now older) (now newer) (wrongLength (i .grid) (length (now work))) pick hit ≡ Nothing ⌝ }
+    requires { ⌜ (blockRefusal i (now older) (now newer) false pick hit ≡ Nothing) × Opens (i .grid) (now work) first ⌝ }
     ensures { λ r. ⌜ Played (Calls.play i pick hit (now (older .entry)) (now (newer .entry)) (now (samples .entry)))
         (length (now (samples .entry))) r (olderOf (r .phase) (now (older .exit)) (now (newer .exit)) (now (work .exit)))
-        (newerOf (r .phase) (now (older .exit)) (now (newer .exit)) (now (work .exit))) (now (samples .exit)) ⌝ }
+        (newerOf (r .phase) (now (older .exit)) (now (newer .exit)) (now (work .exit))) (now (samples .exit))
+        × SameLevels first (r .phase) ⌝ }
 {
     let plan = make_plan(i);
     let mut from = [0u16; 64];
     let mut to = [0u16; 64];
     row_edges(plan.instrument.grid, &mut from, &mut to);
     clear(work);
-    play(plan, &from, &to, older, newer, work, samples, pick, hit)
+    play(
+        plan,
+        &from,
+        &to,
+        older,
+        newer,
+        work,
+        samples,
+        pick,
+        hit,
+        first,
+    )
 }
 
 // As many steps as samples has places, the hit in the first, each level left in the slice that the phase tells; or what refuses them.
@@ -91,12 +113,44 @@ pub fn steps_in_turn(
             phase: 0,
         };
     }
-    let steps = begin(i, older, newer, work, samples, pick, hit);
+    let steps = begin(i, older, newer, work, samples, pick, hit, 0);
     InTurn {
         begun: true,
         steps: steps.done,
         inexact: steps.inexact,
         refusal: ending(steps.done, samples.len()),
         phase: steps.phase,
+    }
+}
+
+// The same on two levels: no third one is lent.
+// Ruled out: older written over though a later point passes the ceiling; the levels' roles kept after a step.
+pub fn steps_in_place(
+    i: Instrument,
+    older: &mut [i64],
+    newer: &mut [i64],
+    samples: &mut [i16],
+    pick: usize,
+    hit: Hit,
+) -> InPlace
+    ensures { λ r. ⌜ TurnedInPlace (blockInPlace i (now (older .entry)) (now (newer .entry)) (now (samples .entry)) pick hit)
+        r (now (older .exit)) (now (newer .exit)) (now (samples .exit)) ⌝ }
+{
+    let refusal = block_refusal(i, older, newer, false, pick, hit);
+    if !is_nothing(refusal) {
+        return InPlace {
+            steps: 0,
+            inexact: 0,
+            refusal,
+            exchanged: false,
+        };
+    }
+    let mut piece = [0i64; PIECE];
+    let steps = begin(i, older, newer, &mut piece, samples, pick, hit, 3);
+    InPlace {
+        steps: steps.done,
+        inexact: steps.inexact,
+        refusal: ending(steps.done, samples.len()),
+        exchanged: steps.phase != 3,
     }
 }

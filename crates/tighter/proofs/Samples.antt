@@ -17,9 +17,9 @@ use Rattle.scheme.specs.Lists.{point, square}
 use Rattle.scheme.specs.Instruments.{points}
 use Rattle.scheme.specs.Step.{sampleOf, divisor}
 use Rattle.scheme.specs.Refusals.{wrongLength, blockRefusal}
-use Rattle.scheme.specs.Calls.{accepted, AfterBlock, play, block}
-use Rattle.scheme.specs.Book.{LastStep, stepOf, Book, fresh, scale, goesOn, bookBlock, Call, blockCall, pluckCall, leaves, State, start}
-use Rattle.scheme.specs.Book.{called, calls}
+use Rattle.scheme.specs.Calls.{accepted, AfterBlock, play, block, blockInPlace}
+use Rattle.scheme.specs.Book.{LastStep, stepOf, Book, fresh, scale, goesOn, bookBlock, Call, blockCall, inPlaceCall, pluckCall, leaves}
+use Rattle.scheme.specs.Book.{State, start, called, calls}
 use Rattle.scheme.proofs.Laws.Rounding.{sample-rule}
 use Rattle.scheme.proofs.Laws.Refusals.{accepted-is, block-passes}
 use Rattle.scheme.proofs.Laws.Calls.{stands-behind, block-done, block-refused}
@@ -113,8 +113,15 @@ module _ (C : OfSteps) (S : OfSamples)
           (at-step C i (now .newer) (now .book .newer) (now .book .n) (now .book .last) (steps-count i h j from) (steps-last i h j from)
           (subst AfterHere (block-cut i work samples pick h t z j l′) (w (blockCall i work (replicate (suc j) (pos 0)) pick h ∷ [])))))
 
+  -- on two levels: those of a block with a work level of zeros
+  in-place-samples : (i : Instrument) (samples : List ℤ) (pick : ℕ) (h : Hit) (t : State) → Whatever t
+      → EachSample S t (inPlaceCall i samples pick h) (called (inPlaceCall i samples pick h) t .outcome)
+  unfolding leaves blockInPlace
+  in-place-samples i samples pick h t w = block-samples i (replicate (points (i .grid)) (pos 0)) samples pick h t w
+
   call-samples : (k : Call) (t : State) → Whatever t → EachSample S t k (called k t .outcome)
   call-samples (blockCall i work samples pick h) t w = block-samples i work samples pick h t w
+  call-samples (inPlaceCall i samples pick h) t w = in-place-samples i samples pick h t w
   call-samples (pluckCall g c a x) t w = tt
 
   every-sample : OfEveryList C → OfEverySample S

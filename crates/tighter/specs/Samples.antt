@@ -6,10 +6,12 @@ use Prim.Native.Nat.{ℕ, suc, _-_, _*_, _^_, _≤_, _<_}
 use lib.IntN.{ℤ, pos, natAbs, _-ℤ_, _*ℤ_}
 use lib.Signed.{_≤ℤ_}
 use Rattle.types.specs.declared.Instrument.{Instrument}
+use Rattle.types.specs.declared.Hit.{Hit}
 use Rattle.scheme.specs.Lists.{point, square}
 use Rattle.scheme.specs.Step.{divisor}
 use Rattle.scheme.specs.Energy.{weight}
-use Rattle.scheme.specs.Book.{scale, bookBlock, Call, blockCall, pluckCall, Outcome, stepsOf, samplesOf, State, start, EachCall}
+use Rattle.scheme.specs.Book.{scale, bookBlock, Call, blockCall, inPlaceCall, pluckCall, Outcome, stepsOf, samplesOf, State, start}
+use Rattle.scheme.specs.Book.{EachCall}
 use Rattle.scheme.specs.Program.{Made, AllKept, EachMade}
 use Rattle.tighter.specs.Bounds.{Bound, limit, Row, demanded, numbers}
 use Rattle.tighter.specs.Claims.{voice}
@@ -20,10 +22,15 @@ use Rattle.tighter.specs.Claims.{voice}
 abbrev pub OfSamples : Type 1
 OfSamples = Instrument → (n pick : ℕ) (x v : ℤ) → Type 0
 
--- each sample that a call writes, beside the book after as many of its steps
-abbrev pub EachSample : OfSamples → State → Call → Outcome → Type 0
-EachSample P t (blockCall i work samples pick h) o = (j : ℕ) → j < stepsOf o →
+-- each sample of a block's steps done, beside the book after as many of them
+abbrev pub OfBlock : OfSamples → State → Instrument → ℕ → Hit → Outcome → Type 0
+OfBlock P t i pick h o = (j : ℕ) → j < stepsOf o →
     let b = bookBlock i h (t .older) (t .newer) (suc j) (t .book) in P i (b .n) pick (point (samplesOf o) j) (point (b .newer) pick)
+
+-- each sample that a call writes
+abbrev pub EachSample : OfSamples → State → Call → Outcome → Type 0
+EachSample P t (blockCall i work samples pick h) o = OfBlock P t i pick h o
+EachSample P t (inPlaceCall i samples pick h) o = OfBlock P t i pick h o
 EachSample P t (pluckCall g c w a) o = Unit {0}
 
 -- any two starting levels, any list of blocks and plucks, refused ones included

@@ -12,6 +12,7 @@ use engine::Hit;
 use engine::Instrument;
 use engine::Sheet;
 use engine::block;
+use engine::block_in_place;
 use engine::pluck;
 use engine::reading;
 use engine::settings_for;
@@ -49,6 +50,21 @@ fn block_agrees(
     is_block(
         n,
         block(instrument, older, newer, work, samples, n.n7 as usize, hit),
+    )
+}
+
+// 7, and the numbers of 3
+fn block_in_place_agrees(
+    n: Numbers,
+    older: &mut [i64],
+    newer: &mut [i64],
+    samples: &mut [i16],
+) -> bool {
+    let instrument = instrument_in(n);
+    let hit = hit_in(n);
+    is_block(
+        n,
+        block_in_place(instrument, older, newer, samples, n.n7 as usize, hit),
     )
 }
 
@@ -110,6 +126,7 @@ pub fn agrees(
         5 => pluck_agrees(n, older, newer),
         6 => reading_agrees(n, newer),
         7 => sheet_agrees(n),
+        8 => block_in_place_agrees(n, older, newer, samples),
         _ => true,
     }
 }

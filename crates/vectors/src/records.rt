@@ -9,7 +9,7 @@ use std::num::wrapping_sub_u64;
 pub const PLACES: usize = 4104;
 
 // The opcode of a line that is no record.
-const MALFORMED: u64 = 7;
+const MALFORMED: u64 = 8;
 
 // The first numbers of a record, in two's complement where they are negative: all of them, but for a buffer's values.
 pub struct Numbers {
@@ -76,7 +76,7 @@ impl Numbers {
         self
     }
 
-    // What the record is on: 0 to 3 a buffer, 4 to 7 a call, 8 nothing.
+    // What the record is on: 0 to 3 a buffer, 4 to 8 a call, 9 nothing.
     pub fn target(self) -> u64 {
         let opcode = self.n0;
         match opcode {
@@ -86,7 +86,8 @@ impl Numbers {
             4 => 5,
             5 => 6,
             6 => 7,
-            _ => 8,
+            7 => 8,
+            _ => 9,
         }
     }
 
@@ -119,6 +120,7 @@ impl Numbers {
             4 => 8,
             5 => 7,
             6 => 16,
+            7 => 14,
             _ => 0,
         }
     }

@@ -6,6 +6,7 @@ pub struct Tally {
     pub records: u64,
     pub levels: u64,
     pub blocks: u64,
+    pub blocks_in_place: u64,
     pub plucks: u64,
     pub readings: u64,
     pub sheets: u64,
@@ -31,6 +32,7 @@ impl Tally {
             records: 0,
             levels: 0,
             blocks: 0,
+            blocks_in_place: 0,
             plucks: 0,
             readings: 0,
             sheets: 0,
@@ -46,6 +48,7 @@ impl Tally {
             4 => self.plucks = one_more(self.plucks),
             5 => self.readings = one_more(self.readings),
             6 => self.sheets = one_more(self.sheets),
+            7 => self.blocks_in_place = one_more(self.blocks_in_place),
             _ => {}
         }
         self
@@ -86,6 +89,7 @@ impl Tally {
         say(path);
         say(b": ");
         say_count(self.blocks, b" blocks, ");
+        say_count(self.blocks_in_place, b" blocks in place, ");
         say_count(self.plucks, b" plucks, ");
         say_count(self.readings, b" readings, ");
         say_count(self.sheets, b" sheets, ");

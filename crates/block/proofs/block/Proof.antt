@@ -26,8 +26,9 @@ returns c = left-refused (c .before .before .before .before .before .before .ste
 settle-requires : tie.Need-settle-requires
 settle-requires c κs =
     let e = c .before .before .before in
-    let x = e .before .before .before .before .before .before .steps-in-turn .ensures .carried (not-false _ (e .if1 .left)) in
-    (x .newer-long, x .work-long)
+    let q = e .before .before .before .before .before .before .steps-in-turn .ensures in
+    let x = q .carried (not-false _ (e .if1 .left)) in
+    (x .newer-long, x .work-long, q .three)
 
 clear-requires : tie.Need-clear-requires
 clear-requires c κs = search needs

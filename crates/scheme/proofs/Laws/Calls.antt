@@ -1,20 +1,22 @@
--- Laws of block, pluck and reading, for every argument: by their cases, lengths kept, and what an accepted block leaves passes 11 and 12.
+-- Laws of block (on two levels too), pluck and reading, for every argument: by their cases, lengths kept, and what an accepted block
+-- leaves passes 11 and 12.
 use mathlib.Core.Path.{_≡_, refl, sym, ap, _∙_, subst}
-use mathlib.Core.Bool.{Bool, true, false, _&&_, cond}
+use mathlib.Core.Bool.{Bool, true, false, not, _&&_, cond}
 use mathlib.Core.List.{List, [], _∷_}
 use mathlib.Core.Logic.{_⊎_, inl, inr}
 use Prim.Native.Nat.{ℕ, zero, suc, _+_, _-_, _^_, _≤_, _<_}
 use native.Mathlib.Decide.{decLt}
 use native.Mathlib.Omega.{arith}
-use borrow.Author.Tests.{lt-ltb, le-ltb}
+use borrow.Author.Tests.{lt-ltb, le-ltb, eq-eqb}
 use lib.Dec.{ltb}
 use lib.Ieee.{binary64, ofInt}
 use lib.IntN.{ℤ, pos, natAbs}
-use lib.ListN.{length}
+use lib.ListN.{length, replicate, length-replicate}
 use Rattle.types.specs.declared.Grid.{Grid}
 use Rattle.types.specs.declared.Instrument.{Instrument}
 use Rattle.types.specs.declared.Hit.{Hit}
 use Rattle.types.specs.declared.Hit.the-variants.{Absent}
+use Rattle.types.specs.declared.Refusal.{Refusal}
 use Rattle.types.specs.declared.Refusal.the-variants.{Nothing, NextBeyond}
 use Rattle.pluck_table.specs.Table.{table}
 use Rattle.scheme.specs.Lists.{point}
@@ -24,12 +26,12 @@ use Rattle.scheme.specs.Pluck.{pluckLevel}
 use Rattle.scheme.specs.Refusals.{wrongLength, fixedNotZero, blockRefusal, pluckRefusal, readingRefusal}
 use Rattle.scheme.specs.Calls.{accepted, AfterSteps, ended, oneMore, play, levelsAfter, inexactAfter, hitAfter, StandsBehind}
 use Rattle.scheme.specs.Calls.{StepsStandBehind, AfterBlock, capped, withWorkZero, blockRefused, block, overwritten, pluckRefused}
-use Rattle.scheme.specs.Calls.{pluck, reading}
+use Rattle.scheme.specs.Calls.{reported, inPlaceLeft, withoutWork, blockInPlace, BlocksAgree, pluck, reading}
 use Rattle.scheme.specs.Claims.{LevelPasses}
 use Rattle.scheme.proofs.Laws.Bools.{cases}
 use Rattle.scheme.proofs.Laws.Lists.{none-below}
 use Rattle.scheme.proofs.Laws.Step.{fixed-still, length-next, next-fixed}
-use Rattle.scheme.proofs.Laws.Refusals.{block-passes}
+use Rattle.scheme.proofs.Laws.Refusals.{accepted-is, block-passes}
 
 -- a next level within the ceiling passes
 pub next-passes : (i : Instrument) (h : Hit) (older newer : List ℤ) → someBeyond (nextLevel i h older newer) ≡ false
@@ -215,6 +217,50 @@ module _ (i : Instrument) (older newer work samples : List ℤ) (pick : ℕ) (h 
       in
       subst (λ (r : AfterBlock). LevelPasses (i .grid) (r .older) × LevelPasses (i .grid) (r .newer)) (sym (block-done e))
       (subst (LevelPasses (i .grid)) (sym (s .older-is)) (p .0), subst (LevelPasses (i .grid)) (sym (s .newer-is)) (p .1))
+
+-- ---- a block on two levels
+
+-- with a work level of the grid's length, 6 looks at older and newer alone, and what is answered and left does not depend on work's points
+module _ (i : Instrument) (older newer work samples : List ℤ) (pick : ℕ) (h : Hit) (long : length work ≡ points (i .grid)) where
+  long-passes : blockRefusal i older newer (wrongLength (i .grid) (length work)) pick h ≡ blockRefusal i older newer false pick h
+  long-passes = ap (λ (wrong : Bool). blockRefusal i older newer wrong pick h)
+      (ap not (eq-eqb (length work) (points (i .grid)) long))
+
+  long-done : blockRefusal i older newer false pick h ≡ Nothing → withoutWork (block i older newer work samples pick h)
+      ≡ withoutWork (withWorkZero (points (i .grid)) (play i pick h older newer samples))
+  long-done e = ap (λ (a : AfterBlock). withoutWork a) (block-done i older newer work samples pick h (long-passes ∙ e))
+
+  long-refused : accepted (blockRefusal i older newer false pick h) ≡ false → withoutWork (block i older newer work samples pick h)
+      ≡ withoutWork (blockRefused (blockRefusal i older newer false pick h) older newer work samples)
+  long-refused e =
+      ap (λ (a : AfterBlock). withoutWork a)
+      (block-refused i older newer work samples pick h (ap (λ (r : Refusal). accepted r) long-passes ∙ e)) ∙
+      ap (λ (r : Refusal). withoutWork (blockRefused r older newer work samples)) long-passes
+
+module _ (i : Instrument) (older newer samples : List ℤ) (pick : ℕ) (h : Hit) where
+  abbrev after : AfterSteps
+  after = play i pick h older newer samples
+
+  abbrev zeros : List ℤ
+  zeros = replicate (points (i .grid)) (pos 0)
+
+  pub in-place-done : blockRefusal i older newer false pick h ≡ Nothing → blockInPlace i older newer samples pick h
+      ≡ inPlaceLeft (reported (after .answer)) (after .older) (after .newer) (after .samples)
+  unfolding blockInPlace
+  in-place-done e = long-done i older newer zeros samples pick h (length-replicate (points (i .grid)) (pos 0)) e
+
+  pub in-place-refused : accepted (blockRefusal i older newer false pick h) ≡ false → blockInPlace i older newer samples pick h
+      ≡ inPlaceLeft (record { steps = 0; inexact = 0; refusal = blockRefusal i older newer false pick h }) older newer samples
+  unfolding blockInPlace
+  in-place-refused e = long-refused i older newer zeros samples pick h (length-replicate (points (i .grid)) (pos 0)) e
+
+pub blocks-agree : BlocksAgree
+blocks-agree i older newer work samples pick h long =
+    cases (λ (b : Bool). blockInPlace i older newer samples pick h ≡ withoutWork (block i older newer work samples pick h))
+    (accepted (blockRefusal i older newer false pick h))
+    (λ e. in-place-done i older newer samples pick h (accepted-is _ e) ∙
+    sym (long-done i older newer work samples pick h long (accepted-is _ e)))
+    (λ e. in-place-refused i older newer samples pick h e ∙ sym (long-refused i older newer work samples pick h long e))
 
 -- ---- a pluck
 

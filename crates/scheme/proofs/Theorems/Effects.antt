@@ -1,6 +1,6 @@
 -- What a call does to the two levels, the book and the sum of counts: one of three effects.
 -- A theorem about lists of calls is proved once over effects; each call has one law that tells its effect.
-use mathlib.Core.Path.{_≡_, refl, ap, _∙_}
+use mathlib.Core.Path.{_≡_, refl, sym, ap, _∙_, subst}
 use mathlib.Core.Bool.{Bool, true, false}
 use mathlib.Core.List.{List, [], _∷_}
 use Prim.Native.Nat.{ℕ, suc, _<_}
@@ -13,11 +13,13 @@ use Rattle.types.specs.declared.Hit.{Hit}
 use Rattle.types.specs.declared.Refusal.{Refusal}
 use Rattle.types.specs.declared.Refusal.the-variants.{Nothing}
 use Rattle.pluck_table.specs.Table.{table}
+use Rattle.scheme.specs.Instruments.{points}
 use Rattle.scheme.specs.Pluck.{pluckLevel}
 use Rattle.scheme.specs.Refusals.{wrongLength, blockRefusal, pluckRefusal}
-use Rattle.scheme.specs.Calls.{accepted, AfterSteps, play, levelsAfter, inexactAfter, capped, AfterBlock, AfterPluck, block, pluck}
-use Rattle.scheme.specs.Book.{fresh, bookBlock, bookPluck, sumBlock, sumPluck, Call, blockCall, pluckCall, leaves, bookCall}
-use Rattle.scheme.specs.Book.{sumCall, State, stateAfter, called, calls, Outcome, EachCall}
+use Rattle.scheme.specs.Calls.{accepted, AfterSteps, play, levelsAfter, inexactAfter, capped, AfterBlock, AfterPluck, block}
+use Rattle.scheme.specs.Calls.{blockInPlace, pluck}
+use Rattle.scheme.specs.Book.{fresh, bookBlock, bookPluck, sumBlock, sumPluck, Call, blockCall, inPlaceCall, pluckCall, leaves}
+use Rattle.scheme.specs.Book.{bookCall, sumCall, State, stateAfter, called, calls, Outcome, EachCall}
 use Rattle.scheme.specs.Passing.{InstrumentPasses}
 use Rattle.scheme.proofs.Laws.Refusals.{accepted-is, instrument-passes, block-passes}
 use Rattle.scheme.proofs.Laws.Calls.{stands-behind, all-done, block-done, block-refused, pluck-done, pluck-refused}
@@ -100,6 +102,12 @@ block-cut i work samples pick h t e j l =
     long : length places ≡ suc j
     long = length-replicate (suc j) (pos 0)
 
+-- the state after a block on two levels is that after a block with a work level of zeros
+in-place-after : (i : Instrument) (samples : List ℤ) (pick : ℕ) (h : Hit) (t : State) → afterCall (inPlaceCall i samples pick h) t
+    ≡ afterCall (blockCall i (replicate (points (i .grid)) (pos 0)) samples pick h) t
+unfolding blockInPlace leaves bookCall sumCall
+in-place-after i samples pick h t = refl
+
 pluck-effect : (g : Grid) (c w : ℕ) (a : ℤ) (t : State) → Effect t (afterCall (pluckCall g c w a) t)
 unfolding leaves bookCall bookPluck sumCall sumPluck
 pluck-effect g c w a t = go (accepted (pluckRefusal g (length (t .older)) (length (t .newer)) c w a)) refl
@@ -126,6 +134,8 @@ pluck-effect g c w a t = go (accepted (pluckRefusal g (length (t .older)) (lengt
 -- the effect of each call
 pub effect-of : (k : Call) (t : State) → Effect t (afterCall k t)
 effect-of (blockCall i work samples pick h) t = block-effect i work samples pick h t
+effect-of (inPlaceCall i samples pick h) t =
+    subst (Effect t) (sym (in-place-after i samples pick h t)) (block-effect i (replicate (points (i .grid)) (pos 0)) samples pick h t)
 effect-of (pluckCall g c w a) t = pluck-effect g c w a t
 
 -- what every effect keeps, a list of calls keeps

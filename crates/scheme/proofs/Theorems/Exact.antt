@@ -19,8 +19,8 @@ use Rattle.scheme.specs.Step.{laplacian, biharmonic, numeratorOf, numera
 use Rattle.scheme.specs.Step.{isMultiple, inexactAt, inexactIn}
 use Rattle.scheme.specs.Calls.{accepted, Levels, levelsAfter, inexactAfter, capped}
 use Rattle.scheme.specs.Book.{LastStep, noStep, stepOf, Book, fresh, scale, unroundedAt, unroundedStep, unroundedSteps, goesOn}
-use Rattle.scheme.specs.Book.{bookBlock, sumBlock, sumPluck, sumCall, Call, blockCall, pluckCall, Outcome, stepsOf, inexactOf}
-use Rattle.scheme.specs.Book.{refusalOf, State, start, stateAfter, called, calls, EachCall}
+use Rattle.scheme.specs.Book.{bookBlock, sumBlock, sumPluck, sumCall, Call, blockCall, inPlaceCall, pluckCall, Outcome, stepsOf}
+use Rattle.scheme.specs.Book.{inexactOf, refusalOf, State, start, stateAfter, called, calls, EachCall}
 use Rattle.scheme.specs.Program.{Made, afterAll, EachMade}
 use Rattle.scheme.specs.Exact.{bookScale, Unrounded, NoneInexact, ExactSince, ExactFromStart, ProgramExactSince}
 use Rattle.scheme.specs.Exact.{ProgramExactFromStart, NeverInexact}
@@ -177,14 +177,18 @@ exact-since older newer ks =
 pub program-exact-since : ProgramExactSince
 program-exact-since = of-program Exact exact-since
 
--- a call that answered 0 keeps a sum of 0
+-- a count of 0 keeps a sum of 0
+block-sum-kept : (i : Instrument) (k c : ℕ) (b : Book) (sum : ℕ) → c ≡ 0 → sum ≡ 0 → sumBlock i k c b sum ≡ 0
+unfolding sumBlock
+block-sum-kept i zero c b sum e z = z
+block-sum-kept i (suc k) c b sum e z =
+    cases (λ x. cond x sum 0 + c ≡ 0) (goesOn i (b .last)) (λ q. omega (arith, e, z)) (λ q. omega (arith, e))
+
+-- a call that answered 0 does
 sum-kept : (k : Call) (o : Outcome) (b : Book) (sum : ℕ) → inexactOf o ≡ 0 → sum ≡ 0 → sumCall k o b sum ≡ 0
-unfolding sumCall sumBlock sumPluck
-sum-kept (blockCall i work samples pick h) o b sum e z = go (stepsOf o) (goesOn i (b .last))
-  where
-    go : (k : ℕ) (x : Bool) → sumBlock i k (inexactOf o) b sum ≡ 0
-    go zero x = z
-    go (suc k) x = cases (λ x. cond x sum 0 + inexactOf o ≡ 0) (goesOn i (b .last)) (λ q. omega (arith, e, z)) (λ q. omega (arith, e))
+unfolding sumCall sumPluck
+sum-kept (blockCall i work samples pick h) o b sum e z = block-sum-kept i (stepsOf o) (inexactOf o) b sum e z
+sum-kept (inPlaceCall i samples pick h) o b sum e z = block-sum-kept i (stepsOf o) (inexactOf o) b sum e z
 sum-kept (pluckCall g c w a) o b sum e z = cases (λ x. cond x 0 sum ≡ 0) (accepted (refusalOf o)) (λ q. refl) (λ q. z)
 
 sums-stay : (ks : List Call) (t : State) → EachCall NoneInexact ks t → t .inexact ≡ 0 → calls ks t .state .inexact ≡ 0

@@ -6,7 +6,7 @@ use borrow.Author.Needs.{needs}
 use lib.ListN.{length}
 use Rattle.bounded.proofs.Num.{back}
 use Rattle.steps.specs.Run.{fourBeside}
-use Rattle.steps.proofs.PlateLaws.{Putting, putting-start, putting-on, putting-done}
+use Rattle.steps.proofs.FillLaws.{Putting, putting-start, putting-on, putting-done}
 use Rattle.steps.proofs.plates.put_first.Statement.{statement}
 use Rattle.steps.proofs.plates.put_first.Tie as tie
 

@@ -1,31 +1,41 @@
 -- `play` meets its contract: j steps are done, and the rest is a play from where they left the levels.
-use mathlib.Core.Path.{_≡_, sym, ap, _∙_, subst}
+use mathlib.Core.Path.{_≡_, refl, sym, _∙_, subst}
 use mathlib.Core.List.{List}
 use Prim.Native.Nat.{_+_, _-_, _^_, _<_}
 use native.Mathlib.Omega.{arith}
+use borrow.Author.Needs.{needs}
+use borrow.Author.Tests.{not-true}
 use lib.IntN.{ℤ}
 use lib.ListN.{length}
 use mir.Syntax.{w16}
 use mir.ValLaws.{toZ-ofZ}
 use Rattle.types.specs.declared.Grid.{Grid}
-use Rattle.scheme.specs.Instruments.{points}
 use Rattle.scheme.specs.Calls as Calls
 use Rattle.scheme.specs.Calls.{AfterSteps}
 use Rattle.scheme.specs.Claims.{LevelPasses}
 use Rattle.scheme.proofs.Laws.Refusals.{passes-low}
-use Rattle.steps.specs.Roles.{Steppable, SteppedIn, olderOf, newerOf, outOf}
+use Rattle.steps.specs.Roles.{Room, Begins, SteppedIn, SameLevels, Third, olderOf, newerOf, outOf}
 use Rattle.steps.proofs.PlayLaws.{Playing, playing-start, playing-steppable, samples-long, stepped-passes, playing-on, playing-ends}
-use Rattle.steps.proofs.PlayLaws.{playing-done, playing-turned, played-kept, long-in-roles}
+use Rattle.steps.proofs.PlayLaws.{playing-done, playing-turned, room-turned, played-kept}
+use Rattle.steps.proofs.RoleLaws.{turned-levels, levels-two}
 use Rattle.steps.proofs.play.play.Statement.{statement}
 use Rattle.steps.proofs.play.play.Tie as tie
 
+-- the slices are as long as those that were lent
+record Longs (a b c a₀ b₀ c₀ : List ℤ) : Type 0 where
+  older : length a ≡ length a₀
+  newer : length b ≡ length b₀
+  work : length c ≡ length c₀
+
 abbrev Inv-loop : tie.InvT-loop
-Inv-loop plan from to older₀ newer₀ work₀ samples₀ pick hit inexact₀ phase₀ j₀ older newer work samples inexact phase j =
-    Playing (plan .instrument) pick hit (Calls.play (plan .instrument) pick hit older₀ newer₀ samples₀) (length samples₀)
-    (olderOf phase older newer work) (newerOf phase older newer work) (outOf phase older newer work) samples j inexact
+Inv-loop plan from to older₀ newer₀ work₀ samples₀ pick hit first inexact₀ phase₀ j₀ older newer work samples inexact phase j =
+    Playing (plan .instrument) pick hit
+    (Calls.play (plan .instrument) pick hit (olderOf first older₀ newer₀ work₀) (newerOf first older₀ newer₀ work₀) samples₀)
+    (length samples₀) (olderOf phase older newer work) (newerOf phase older newer work) samples j inexact
+    × Room (plan .instrument .grid) (outOf phase older newer work) × SameLevels first phase × Longs older newer work older₀ newer₀ work₀
 
 abbrev μ-loop : tie.MeasureT-loop
-μ-loop plan from to older₀ newer₀ work₀ samples₀ pick hit inexact₀ phase₀ j₀ older newer work samples inexact phase j =
+μ-loop plan from to older₀ newer₀ work₀ samples₀ pick hit first inexact₀ phase₀ j₀ older newer work samples inexact phase j =
     length samples₀ - j
 
 -- what the caller showed
@@ -33,21 +43,8 @@ module _ (s : tie.Start Inv-loop μ-loop) where
   abbrev g : Grid
   g = s .args .plan .instrument .grid
 
-  given : Steppable (s .args .plan) (s .args .hit) (s .args .older .now) (s .args .newer .now) (s .args .work .now)
+  given : Begins (s .args .first) (s .args .plan) (s .args .hit) (s .args .older .now) (s .args .newer .now) (s .args .work .now)
   given = s .pre .0 .0
-
-  -- three slices of the grid's length are as long as those that were lent
-  record Longs (a b c : List ℤ) : Type 0 where
-    older : length a ≡ length (s .args .older .now)
-    newer : length b ≡ length (s .args .newer .now)
-    work : length c ≡ length (s .args .work .now)
-
-  longs : {a b c : List ℤ} → (length a ≡ points g) × (length b ≡ points g) × (length c ≡ points g) → Longs a b c
-  longs l = record {
-    older = l .0 ∙ sym (given .older-passes .long);
-    newer = l .1 ∙ sym (given .newer-passes .long);
-    work = l .2 ∙ sym (given .room .long);
-  }
 
 -- where the loop stands
 module _ (c : tie.At-loop Inv-loop μ-loop) where
@@ -55,18 +52,22 @@ module _ (c : tie.At-loop Inv-loop μ-loop) where
   start = c .before
 
   abbrev whole : AfterSteps
-  whole = Calls.play (start .args .plan .instrument) (start .args .pick) (start .args .hit) (start .args .older .now)
-      (start .args .newer .now) (start .args .samples .now)
+  whole =
+      let a = start .args in
+      Calls.play (a .plan .instrument) (a .pick) (a .hit) (olderOf (a .first) (a .older .now) (a .newer .now) (a .work .now))
+      (newerOf (a .first) (a .older .now) (a .newer .now) (a .work .now)) (a .samples .now)
 
   abbrev inv : Playing (start .args .plan .instrument) (start .args .pick) (start .args .hit) whole (length (start .args .samples .now))
       (olderOf (c .loop .phase) (c .loop .older) (c .loop .newer) (c .loop .work))
-      (newerOf (c .loop .phase) (c .loop .older) (c .loop .newer) (c .loop .work))
-      (outOf (c .loop .phase) (c .loop .older) (c .loop .newer) (c .loop .work)) (c .loop .samples) (c .loop .j) (c .loop .inexact)
-  inv = c .loop .inv
+      (newerOf (c .loop .phase) (c .loop .older) (c .loop .newer) (c .loop .work)) (c .loop .samples) (c .loop .j) (c .loop .inexact)
+  inv = c .loop .inv .0
 
-  loop-longs : Longs start (c .loop .older) (c .loop .newer) (c .loop .work)
-  loop-longs = longs start (long-in-roles (c .loop .phase) (points (g start)) _ _ _ (inv .older-passes .long) (inv .newer-passes .long)
-      (inv .room .long))
+  abbrev longs : Longs (c .loop .older) (c .loop .newer) (c .loop .work) (start .args .older .now) (start .args .newer .now)
+      (start .args .work .now)
+  longs = c .loop .inv .3
+
+  third : Third (c .loop .phase) (c .loop .work)
+  third l = omega (arith, given start .third (levels-two (c .loop .inv .2) l), longs .work)
 
 -- a step
 module _ (c : tie.After-work Inv-loop μ-loop) where
@@ -96,11 +97,10 @@ module _ (c : tie.After-work Inv-loop μ-loop) where
   place : at .loop .j < length (start at .args .samples .now)
   place = omega (arith, struck .before .loop-test .taken, samples-long (inv at))
 
-  step-longs : Longs (start at) older newer work
+  step-longs : Longs older newer work (start at .args .older .now) (start at .args .newer .now) (start at .args .work .now)
   step-longs =
-      longs (start at) (long-in-roles (at .loop .phase) (points (g (start at))) older newer work
-      (ap length (left .older-kept) ∙ inv at .older-passes .long)
-      (ap length (left .newer-kept) ∙ inv at .newer-passes .long) (left .stepped .long))
+      let l = longs at in
+      record { older = (search needs) ∙ l .older; newer = (search needs) ∙ l .newer; work = (search needs) ∙ l .work }
 
 -- one that was done
 module _ (c : tie.Else1 Inv-loop μ-loop) where
@@ -122,7 +122,12 @@ abbrev written : tie.After-turned Inv-loop μ-loop → tie.After-put Inv-loop μ
 written c = c .before .before
 
 loop-holds : tie.Need-loop-holds Inv-loop μ-loop
-loop-holds c = playing-start (given c) (c .args .pick) (c .args .samples .now)
+loop-holds c = (
+  playing-start (given c .given) (c .args .pick) (c .args .samples .now),
+  given c .given .room,
+  record { three = λ l. l; two = λ l. l },
+  record { older = refl; newer = refl; work = refl },
+)
 
 hit-of-requires : tie.Need-hit-of-requires Inv-loop μ-loop
 hit-of-requires c κs = tt
@@ -131,7 +136,7 @@ step-in-roles-requires : tie.Need-step-in-roles-requires Inv-loop μ-loop
 step-in-roles-requires c κs =
     let h = c .before .before .before in
     let t = h .before .before in
-    (playing-steppable (given (start t)) (h .hit-of .ensures) (inv t), start t .pre .1)
+    (playing-steppable (given (start t) .given) (h .hit-of .ensures) (inv t) (t .loop .inv .1), (start t .pre .1, third t))
 
 same-length : tie.Need-same-length Inv-loop μ-loop
 same-length c = step-longs (c .before .before) .older
@@ -147,8 +152,11 @@ same-length-4 c = samples-long (inv (at (c .before .before)))
 
 returns : tie.Need-returns Inv-loop μ-loop
 returns c =
-    let w = c .before .before in
-    played-kept (left w) (playing-ends (inv (at w)) (place w) (struck w .hit-of .ensures) (left w .stepped) _ (c .if1 .taken))
+    let w = c .before .before in (
+      played-kept (left w) (not-true _ (c .if1 .taken))
+          (playing-ends (inv (at w)) (place w) (struck w .hit-of .ensures) (left w .stepped) _ (c .if1 .taken)),
+      at w .loop .inv .2,
+    )
 
 capped-sum-requires : tie.Need-capped-sum-requires Inv-loop μ-loop
 capped-sum-requires c κs = tt
@@ -178,30 +186,37 @@ loop-again c =
     let e = done (p .before .before) in
     let w = step e in
     let h = p .before .before .before .before .before .before .capped-sum in
-    let s = start (at w) in
-    subst
-    (λ (xs : List ℤ). Playing (s .args .plan .instrument) (s .args .pick) (s .args .hit) (whole (at w)) (length (s .args .samples .now))
-    (olderOf (c .turned .result) (older w) (newer w) (work w)) (newerOf (c .turned .result) (older w) (newer w) (work w))
-    (outOf (c .turned .result) (older w) (newer w) (work w)) xs (at w .loop .j + 1) (h .result))
-    (sym (p .put .ensures))
-    (playing-turned (left w) (c .turned .ensures)
-    (playing-on (inv (at w)) (place w) (struck w .hit-of .ensures) (left w .stepped) (e .if1 .left) _
-    (toZ-ofZ w16 (r .result) (record { sfits = r .ok }) ∙ r .ensures) _ (h .ensures)))
+    let s = start (at w) in (
+      subst
+          (λ (xs : List ℤ). Playing (s .args .plan .instrument) (s .args .pick) (s .args .hit) (whole (at w))
+          (length (s .args .samples .now)) (olderOf (c .turned .result) (older w) (newer w) (work w))
+          (newerOf (c .turned .result) (older w) (newer w) (work w)) xs (at w .loop .j + 1) (h .result))
+          (sym (p .put .ensures))
+          (playing-turned (left w) (c .turned .ensures)
+          (playing-on (inv (at w)) (place w) (struck w .hit-of .ensures) (left w .stepped) (e .if1 .left) _
+          (toZ-ofZ w16 (r .result) (record { sfits = r .ok }) ∙ r .ensures) _ (h .ensures))),
+      room-turned (left w) (c .turned .ensures) (inv (at w) .older-passes) (inv (at w) .newer-passes),
+      subst (SameLevels (s .args .first)) (sym (c .turned .ensures)) (turned-levels (at w .loop .phase) (at w .loop .inv .2)),
+      step-longs w,
+    )
 
 same-length-5 : tie.Need-same-length-5 Inv-loop μ-loop
-same-length-5 c = loop-longs (c .before) .older
+same-length-5 c = longs (c .before) .older
 
 same-length-6 : tie.Need-same-length-6 Inv-loop μ-loop
-same-length-6 c = loop-longs (c .before) .newer
+same-length-6 c = longs (c .before) .newer
 
 same-length-7 : tie.Need-same-length-7 Inv-loop μ-loop
-same-length-7 c = loop-longs (c .before) .work
+same-length-7 c = longs (c .before) .work
 
 same-length-8 : tie.Need-same-length-8 Inv-loop μ-loop
 same-length-8 c = samples-long (inv (c .before))
 
 returns-2 : tie.Need-returns-2 Inv-loop μ-loop
-returns-2 c = playing-done (inv (c .before)) _ (omega (arith, c .loop-test .left, samples-long (inv (c .before))))
+returns-2 c = (
+  playing-done (inv (c .before)) _ (omega (arith, c .loop-test .left, samples-long (inv (c .before)))),
+  c .before .loop .inv .2,
+)
 
 pub play-spec : {M : Type 1} → statement M
 play-spec =

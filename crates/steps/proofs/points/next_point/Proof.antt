@@ -1,108 +1,59 @@
--- `next_point` meets its contract: its numerator is the scheme's, and so is the value that it is rounded to.
+-- `next_point` meets its contract: the value that its numerator is rounded to is the scheme's.
 use mathlib.Core.Path.{_≡_, sym, ap, _∙_, subst}
 use mathlib.Core.Bool.{Bool, true, false, cond, not, Bool·not-not}
-use Prim.Native.Nat.{ℕ, _+_, _-_, _*_, _^_, _≤_, _<_}
+use Prim.Native.Nat.{ℕ, _+_, _-_, _^_, _≤_}
 use native.Mathlib.Omega.{arith}
 use borrow.Author.Needs.{needs}
 use borrow.Author.Tests.{ltb-false, not-true, not-false}
-use lib.IntN.{ℤ, pos, natAbs, _-ℤ_, _*ℤ_}
-use lib.ListN.{length, set}
+use lib.IntN.{ℤ, natAbs}
+use lib.ListN.{set}
 use mir.Syntax.{w64}
 use mir.Val.{toZ, ofZ}
 use Rattle.bounded.proofs.Num.{back}
-use Rattle.types.specs.declared.Settings.{Settings}
 use Rattle.types.specs.Numbers.{ceiling}
-use Rattle.scheme.specs.Lists.{point}
 use Rattle.scheme.specs.Instruments.{beyond}
-use Rattle.scheme.specs.Step.{numeratorOf, roundAway, remainderOf, divisor, isMultiple}
+use Rattle.scheme.specs.Step.{roundAway, remainderOf, divisor, isMultiple}
 use Rattle.scheme.proofs.Laws.Rounding.{remainder-rule, remainder-none, remainder-some}
-use Rattle.scheme.proofs.Laws.Step.{moving-inside}
-use Rattle.steps.specs.Plan.{countOf, bendingOf, Updatable, Ready, Neighbouring}
+use Rattle.steps.specs.Plan.{Ready, Neighbouring}
 use Rattle.steps.specs.Run.{Next, nextOver, nextBy, Ran}
-use Rattle.steps.proofs.Held.{held, held-below}
+use Rattle.steps.proofs.Held.{held}
 use Rattle.steps.proofs.FillLaws.{passed, point-beyond, point-written, point-tested}
-use Rattle.steps.proofs.NumeratorLaws.{numerator-below}
-use Rattle.steps.proofs.PointLaws.{updatable, next-is}
 use Rattle.steps.proofs.PlanLaws.{divisor-low, dividable}
+use Rattle.steps.proofs.PointLaws.{force-held, ready-held, beside-held}
 use Rattle.steps.proofs.points.next_point.Statement.{statement}
 use Rattle.steps.proofs.points.next_point.Tie as tie
 
 -- what the caller showed
 module _ (s : tie.Start) where
-  abbrev c : Settings
-  c = s .args .plan .instrument .settings
-
   ready : Ready (s .args .plan) (s .args .s .force) (s .args .older .now) (s .args .newer .now)
   ready = s .pre .0 .0
 
   beside : Neighbouring (s .args .plan .instrument) (s .args .newer .now) (s .args .at) (s .args .sum) (s .args .second)
   beside = s .pre .0 .1
 
-  -- the point is in both levels
-  in-newer : s .args .at < length (s .args .newer .now)
-  in-newer = omega (arith, ready .newer-long, moving-inside _ (s .args .at) (beside .moves))
-
-  in-older : s .args .at < length (s .args .older .now)
-  in-older = omega (arith, ready .older-long, moving-inside _ (s .args .at) (beside .moves))
-
-  -- each number as the machine has it
-  abbrev u : ℤ
-  u = point (s .args .newer .now) (s .args .at)
-
-  abbrev p : ℤ
-  p = point (s .args .older .now) (s .args .at)
-
-  abbrev f : ℤ
-  f = s .args .s .force
-
-  given : Updatable (s .args .plan) u (s .args .sum) (s .args .second) p f
-  given = updatable ready beside
-
-  u-is : toZ w64 (ofZ w64 u) ≡ u
-  u-is = held (given .u-low)
-
-  sum-is : toZ w64 (ofZ w64 (s .args .sum)) ≡ s .args .sum
-  sum-is = held-below (4 * ceiling) tt (given .sum-low)
-
-  second-is : toZ w64 (ofZ w64 (s .args .second)) ≡ s .args .second
-  second-is = held-below (16 * ceiling) tt (given .second-low)
-
-  p-is : toZ w64 (ofZ w64 p) ≡ p
-  p-is = held (given .older-low)
-
-  f-is : toZ w64 (ofZ w64 f) ≡ f
-  f-is = held (given .f-low)
-
-  abbrev count : ℤ
-  count = pos (countOf (s .args .plan .instrument .grid))
-
-  abbrev numerator-there : ℤ
-  numerator-there = numeratorOf c u (s .args .sum -ℤ count *ℤ u) (bendingOf count (s .args .sum) (s .args .second) u) p f
-
   abbrev next : ℕ → Next
-  next = nextBy (s .args .plan .instrument) f (s .args .older .now) (s .args .newer .now)
+  next = nextBy (s .args .plan .instrument) (s .args .s .force) (s .args .older .now) (s .args .newer .now)
 
 -- the numerator is the scheme's
-module _ (c : tie.After-numerator) where
+module _ (c : tie.After-numerator-at) where
   abbrev start : tie.Start
-  start = c .before .before .before .before
+  start = c .before .before
 
   abbrev stored : ℤ
-  stored = toZ w64 (ofZ w64 (c .numerator .result))
-
-  numerator-is : stored ≡ numerator-there start
-  numerator-is =
-      let s = start in
-      back (c .numerator .result) (c .numerator .ok) ∙ c .numerator .ensures ∙
-      (λ j. numeratorOf (s .args .plan .instrument .settings) (u-is s j) (sum-is s j -ℤ count s *ℤ u-is s j)
-      (bendingOf (count s) (sum-is s j) (second-is s j) (u-is s j)) (p-is s j) (f-is s j))
+  stored = toZ w64 (ofZ w64 (c .numerator-at .result))
 
   abbrev d : ℕ
   d = divisor (start .args .plan .instrument .settings)
 
+  stored-is : stored ≡ c .numerator-at .result
+  stored-is = back (c .numerator-at .result) (c .numerator-at .ok)
+
   -- what is made of it is what is made of the point
   made : nextOver stored d ≡ next start (start .args .at)
-  made = ap (λ (n : ℤ). nextOver n d) numerator-is ∙ next-is (ready start) (beside start)
+  made =
+      let a = start .args in
+      ap (λ (n : ℤ). nextOver n d) stored-is ∙ c .numerator-at .ensures .0 ∙
+      ap (λ (z : ℤ). nextBy (a .plan .instrument) z (a .older .now) (a .newer .now) (a .at)) (force-held (ready start) (beside start))
 
   rounded : roundAway stored d ≡ next start (start .args .at) .value
   rounded = ap (λ (x : Next). x .value) made
@@ -111,7 +62,7 @@ module _ (c : tie.After-numerator) where
   counted = ap (λ (x : Next). cond {A = ℕ} (x .inexact) 1 0) made
 
   numerator-low : natAbs stored ≤ 2 ^ 62
-  numerator-low = subst (λ (z : ℤ). natAbs z ≤ 2 ^ 62) (sym numerator-is) (numerator-below (ready start .planned) (given start))
+  numerator-low = subst (λ (z : ℤ). natAbs z ≤ 2 ^ 62) (sym stored-is) (c .numerator-at .ensures .1)
 
 -- whether it lies beyond the ceiling
 module _ (c : tie.After-is-within) where
@@ -122,24 +73,8 @@ module _ (c : tie.After-is-within) where
   beyond-is =
       ap beyond (sym (rounded (c .before))) ∙ sym (Bool·not-not _) ∙ ap not (sym (c .is-within .ensures))
 
-mul-numerator : tie.Need-mul-numerator
-mul-numerator c = let h = in-newer c in search needs
-
-shared-slice-copy-out-numerator : tie.Need-shared-slice-copy-out-numerator
-shared-slice-copy-out-numerator c = in-newer c
-
-mul-numerator-2 : tie.Need-mul-numerator-2
-mul-numerator-2 c = let h = in-older (c .before) in search needs
-
-shared-slice-copy-out-numerator-2 : tie.Need-shared-slice-copy-out-numerator-2
-shared-slice-copy-out-numerator-2 c = in-older (c .before)
-
-numerator-requires : tie.Need-numerator-requires
-numerator-requires c κs =
-    let s = c .before .before .before in (
-      ready s .planned,
-      coe 1 0 (j. Updatable (s .args .plan) (u-is s j) (sum-is s j) (second-is s j) (p-is s j) (f-is s j)) (given s),
-    )
+numerator-at-requires : tie.Need-numerator-at-requires
+numerator-at-requires c κs = let s = c .before in (ready-held (ready s) (beside s), beside-held (ready s) (beside s))
 
 is-within-requires : tie.Need-is-within-requires
 is-within-requires c κs = (ready (start c) .planned, numerator-low c)
@@ -226,11 +161,7 @@ pub next-point-spec : {M : Type 1} → statement M
 next-point-spec =
     tie.close
     (tie.spec
-    mul-numerator
-    shared-slice-copy-out-numerator
-    mul-numerator-2
-    shared-slice-copy-out-numerator-2
-    numerator-requires
+    numerator-at-requires
     is-within-requires
     returns
     returns-2

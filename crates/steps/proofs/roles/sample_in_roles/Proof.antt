@@ -12,7 +12,7 @@ use Rattle.scheme.specs.Lists.{point}
 use Rattle.scheme.specs.Step.{sampleOf}
 use Rattle.steps.specs.Roles.{outOf}
 use Rattle.steps.proofs.Held.{held, low-held}
-use Rattle.steps.proofs.RoleLaws.{roles-0, roles-1, roles-2}
+use Rattle.steps.proofs.RoleLaws.{roles-at, roles-4}
 use borrow.Author.Needs.{needs}
 use Rattle.steps.proofs.roles.sample_in_roles.Statement.{statement}
 use Rattle.steps.proofs.roles.sample_in_roles.Tie as tie
@@ -34,15 +34,25 @@ module _ (s : tie.Start) {xs : List ℤ} (role : outOf (s .args .phase) (s .args
       → r ≡ sampleOf (point (outOf (s .args .phase) (s .args .older .now) (s .args .newer .now) (s .args .work .now)) (s .args .pick))
   sampled r e = e ∙ ap sampleOf (held point-low ∙ ap (λ (xs : List ℤ). point xs (s .args .pick)) (sym role))
 
-first : (c : tie.At-match-keys1) → let a = c .before .args in outOf (a .phase) (a .older .now) (a .newer .now) (a .work .now) ≡ a .work .now
-first c = roles-0 _ _ _ _ (c .match .keys1) .out-is
+first : (c : tie.At-match-keys1) → let a = c .before .args in
+    outOf (a .phase) (a .older .now) (a .newer .now) (a .work .now) ≡ a .work .now
+first c = roles-at _ _ _ _ 0 (c .match .keys1) .out-is
 
 second : (c : tie.At-match-keys2) → let a = c .before .args in
     outOf (a .phase) (a .older .now) (a .newer .now) (a .work .now) ≡ a .older .now
-second c = roles-1 _ _ _ _ (c .match .keys2) .out-is
+second c = roles-at _ _ _ _ 1 (c .match .keys2) .out-is
 
-third : (c : tie.At-match-rest) → let a = c .before .args in outOf (a .phase) (a .older .now) (a .newer .now) (a .work .now) ≡ a .newer .now
-third c = roles-2 _ _ _ _ (c .match .rest .0 .1) (c .match .rest .1) .out-is
+third : (c : tie.At-match-keys3) → let a = c .before .args in
+    outOf (a .phase) (a .older .now) (a .newer .now) (a .work .now) ≡ a .newer .now
+third c = roles-at _ _ _ _ 2 (c .match .keys3) .out-is
+
+fourth : (c : tie.At-match-keys4) → let a = c .before .args in
+    outOf (a .phase) (a .older .now) (a .newer .now) (a .work .now) ≡ a .older .now
+fourth c = roles-at _ _ _ _ 3 (c .match .keys4) .out-is
+
+fifth : (c : tie.At-match-rest) → let a = c .before .args in
+    outOf (a .phase) (a .older .now) (a .newer .now) (a .work .now) ≡ a .newer .now
+fifth c = let n = c .match .rest in roles-4 _ _ _ _ (n .0 .0 .0 .1) (n .0 .0 .1) (n .0 .1) (n .1) .out-is
 
 mul-sample : tie.Need-mul-sample
 mul-sample c = let h = inside (c .before) (first c) in search needs
@@ -71,6 +81,24 @@ shared-slice-copy-out-sample-3 c = inside (c .before) (third c)
 sample-requires-3 : tie.Need-sample-requires-3
 sample-requires-3 c κs = low (c .before .before) (third (c .before))
 
+mul-sample-4 : tie.Need-mul-sample-4
+mul-sample-4 c = let h = inside (c .before) (fourth c) in search needs
+
+shared-slice-copy-out-sample-4 : tie.Need-shared-slice-copy-out-sample-4
+shared-slice-copy-out-sample-4 c = inside (c .before) (fourth c)
+
+sample-requires-4 : tie.Need-sample-requires-4
+sample-requires-4 c κs = low (c .before .before) (fourth (c .before))
+
+mul-sample-5 : tie.Need-mul-sample-5
+mul-sample-5 c = let h = inside (c .before) (fifth c) in search needs
+
+shared-slice-copy-out-sample-5 : tie.Need-shared-slice-copy-out-sample-5
+shared-slice-copy-out-sample-5 c = inside (c .before) (fifth c)
+
+sample-requires-5 : tie.Need-sample-requires-5
+sample-requires-5 c κs = low (c .before .before) (fifth (c .before))
+
 returns : tie.Need-returns
 returns c = sampled (c .before .before .before) (first (c .before .before)) _
     (toZ-ofZ w16 (c .sample .result) (record { sfits = c .sample .ok }) ∙ c .sample .ensures)
@@ -82,6 +110,14 @@ returns-2 c = sampled (c .before .before .before) (second (c .before .before)) _
 returns-3 : tie.Need-returns-3
 returns-3 c = sampled (c .before .before .before) (third (c .before .before)) _
     (toZ-ofZ w16 (c .sample3 .result) (record { sfits = c .sample3 .ok }) ∙ c .sample3 .ensures)
+
+returns-4 : tie.Need-returns-4
+returns-4 c = sampled (c .before .before .before) (fourth (c .before .before)) _
+    (toZ-ofZ w16 (c .sample4 .result) (record { sfits = c .sample4 .ok }) ∙ c .sample4 .ensures)
+
+returns-5 : tie.Need-returns-5
+returns-5 c = sampled (c .before .before .before) (fifth (c .before .before)) _
+    (toZ-ofZ w16 (c .sample5 .result) (record { sfits = c .sample5 .ok }) ∙ c .sample5 .ensures)
 
 pub sample-in-roles-spec : {M : Type 1} → statement M
 sample-in-roles-spec =
@@ -96,6 +132,14 @@ sample-in-roles-spec =
     mul-sample-3
     shared-slice-copy-out-sample-3
     sample-requires-3
+    mul-sample-4
+    shared-slice-copy-out-sample-4
+    sample-requires-4
+    mul-sample-5
+    shared-slice-copy-out-sample-5
+    sample-requires-5
     returns
     returns-2
-    returns-3)
+    returns-3
+    returns-4
+    returns-5)

@@ -1,13 +1,13 @@
 -- `begin` meets its contract: work begins at 0, and the steps are the paper's.
 use mathlib.Core.Path.{_≡_}
+use mathlib.Core.Bool.{false}
 use borrow.Author.Needs.{needs}
-use lib.ListN.{length}
 use Rattle.types.specs.declared.Refusal.the-variants.{Nothing}
-use Rattle.scheme.specs.Refusals.{wrongLength, blockRefusal}
+use Rattle.scheme.specs.Refusals.{blockRefusal}
 use Rattle.scheme.proofs.Laws.Refusals.{instrument-passes, block-passes}
 use Rattle.steps.specs.declared.plan.Plan.{Plan}
 use Rattle.steps.proofs.PlanLaws.{few-rows}
-use Rattle.steps.proofs.TurnLaws.{pick-inside, first-steppable, own-steps}
+use Rattle.steps.proofs.TurnLaws.{pick-inside, first-steppable, own-steps, opened}
 use Rattle.steps.proofs.turns.begin.Statement.{statement}
 use Rattle.steps.proofs.turns.begin.Tie as tie
 
@@ -26,17 +26,15 @@ module _ (c : tie.After-play-arg4) where
   plan = planned .make-plan .result
 
   -- no refusal applies
-  passes : blockRefusal (start .args .i) (start .args .older .now) (start .args .newer .now)
-      (wrongLength (start .args .i .grid) (length (start .args .work .now)))
-      (start .args .pick) (start .args .hit) ≡ Nothing
-  passes = start .pre
+  passes : blockRefusal (start .args .i) (start .args .older .now) (start .args .newer .now) false (start .args .pick) (start .args .hit)
+      ≡ Nothing
+  passes = start .pre .0
 
 make-plan-requires : tie.Need-make-plan-requires
 make-plan-requires c κs =
     let a = c .args in
     instrument-passes (a .i)
-    (block-passes (a .i) (a .older .now) (a .newer .now) (wrongLength (a .i .grid) (length (a .work .now))) (a .pick) (a .hit)
-    (c .pre) .instrument)
+    (block-passes (a .i) (a .older .now) (a .newer .now) false (a .pick) (a .hit) (c .pre .0) .instrument)
 
 slice-aggregate-row-edges : tie.Need-slice-aggregate-row-edges
 slice-aggregate-row-edges c = search needs
@@ -58,10 +56,10 @@ play-requires c κs =
     let a = start c .args in
     let m = planned c .make-plan in (
       (
-        first-steppable (a .i) (a .older .now) (a .newer .now) (a .work .now) (a .pick) (a .hit) (passes c) (plan c) (m .ensures .0)
-            (m .ensures .1) _
-            (c .before .before .before .before .before .before .before .clear .ensures),
-        pick-inside (a .i) (a .older .now) (a .newer .now) (a .work .now) (a .pick) (a .hit) (passes c) (plan c) (m .ensures .0),
+        first-steppable (a .i) (a .older .now) (a .newer .now) (a .pick) (a .hit) (passes c) (plan c) (m .ensures .0)
+            (m .ensures .1) (a .work .now) _
+            (c .before .before .before .before .before .before .before .clear .ensures) (start c .pre .1),
+        pick-inside (a .i) (a .older .now) (a .newer .now) (a .pick) (a .hit) (passes c) (plan c) (m .ensures .0),
       ),
       edged c .row-edges .ensures,
     )
@@ -83,8 +81,11 @@ returns c =
     let q = c .before .before .before .before in
     let b = q .before in
     let a = start b .args in
-    own-steps (a .i) (a .older .now) (a .newer .now) (a .work .now) (a .pick) (a .hit) (passes b) (plan b)
-    (planned b .make-plan .ensures .0) (a .samples .now) (q .play .ensures)
+    let p = q .play .ensures in (
+      own-steps (a .i) (a .older .now) (a .newer .now) (a .pick) (a .hit) (passes b) (plan b) (planned b .make-plan .ensures .0)
+          (a .samples .now) (opened (start b .pre .1) _ _ _ _ _ _ _ (p .0)),
+      p .1,
+    )
 
 pub begin-spec : {M : Type 1} → statement M
 begin-spec =

@@ -1,16 +1,19 @@
 -- `steps_in_turn` meets its contract: what the checks answer is the paper's refusal, and what they let pass is carried out.
 use mathlib.Core.Path.{_≡_, sym, ap, _∙_}
 use mathlib.Core.Bool.{Bool, false, not}
+use native.Mathlib.Omega.{arith}
 use borrow.Author.Needs.{needs}
 use borrow.Author.Tests.{not-true, not-false}
 use lib.Dec.{eqb}
 use lib.ListN.{length}
 use Rattle.types.specs.declared.Refusal.{Refusal}
+use Rattle.types.specs.declared.Refusal.the-variants.{Nothing}
 use Rattle.scheme.specs.Refusals.{wrongLength, blockRefusal}
 use Rattle.scheme.specs.Calls.{accepted}
 use Rattle.scheme.proofs.Laws.Refusals.{accepted-is}
 use Rattle.block_checks.proofs.BlockLaws.{block-same, other-length}
-use Rattle.steps.proofs.TurnLaws.{turned-down, carried-out}
+use Rattle.steps.specs.Turns.{three}
+use Rattle.steps.proofs.TurnLaws.{rest-right, work-right, turned-down, carried-out}
 use Rattle.steps.proofs.turns.steps_in_turn.Statement.{statement}
 use Rattle.steps.proofs.turns.steps_in_turn.Tie as tie
 
@@ -54,11 +57,18 @@ returns c =
     ∙ not-true _ (c .if1 .taken) in
     turned-down (a .i) (a .older .now) (a .newer .now) (a .work .now) (a .samples .now) (a .pick) (a .hit) (refusal-is r) f
 
-begin-requires : tie.Need-begin-requires
-begin-requires c κs =
-    let e = c .before .before .before .before in
+-- nothing refuses it
+passes : (e : tie.Else1) → refuses (e .before .before) ≡ Nothing
+passes e =
     let r = e .before .before in
     sym (refusal-is r) ∙ accepted-is (r .block-refusal .result) (sym (e .before .is-nothing .ensures) ∙ not-false _ (e .if1 .left))
+
+begin-requires : tie.Need-begin-requires
+begin-requires c κs =
+    let r = c .before .before .before .before .before .before in
+    let a = start r .args in
+    let p = passes (c .before .before .before .before) in
+    (rest-right (a .i) (a .older .now) (a .newer .now) (wrong r) (a .pick) (a .hit) p, three (work-right (a .i) _ _ (a .work .now) _ _ p))
 
 ending-requires : tie.Need-ending-requires
 ending-requires c κs = search needs
@@ -79,11 +89,9 @@ returns-2 : tie.Need-returns-2
 returns-2 c =
     let q = c .before .before .before .before .before in
     let e = q .before .before .before .before .before in
-    let r = e .before .before in
-    let a = start r .args in
-    carried-out (a .i) (a .older .now) (a .newer .now) (a .work .now) (a .samples .now) (a .pick) (a .hit)
-    (sym (refusal-is r) ∙ accepted-is (r .block-refusal .result) (sym (e .before .is-nothing .ensures) ∙ not-false _ (e .if1 .left)))
-    (search needs) (search needs) (search needs) (q .begin .ensures) (c .ending .ensures)
+    let a = start (e .before .before) .args in
+    carried-out (a .i) (a .older .now) (a .newer .now) (a .work .now) (a .samples .now) (a .pick) (a .hit) (passes e)
+    (q .begin .ensures .1 .three (omega arith)) (search needs) (search needs) (search needs) (q .begin .ensures .0) (c .ending .ensures)
 
 pub steps-in-turn-spec : {M : Type 1} → statement M
 steps-in-turn-spec =
