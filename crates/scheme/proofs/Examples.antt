@@ -26,6 +26,24 @@ use Rattle.scheme.specs.FurtherExamples.{inPlaceTurnedDown, inPlaceEmpty
 use Rattle.scheme.specs.FurtherExamples.{pluckedBook, pluckThenStep, outcomes, inPlaceOutcomes, distances, halfOff, FurtherHold}
 use Rattle.scheme.specs.PlateExamples as Plates
 use Rattle.scheme.specs.PlateExamples.{PlatesHold}
+use Rattle.scheme.specs.MirrorExamples as Mirrors
+use Rattle.scheme.specs.MirrorExamples.{MirrorsHold}
+
+-- first, so that a definition by which up and down differ is refused as such
+pub mirrors-hold : MirrorsHold
+unfolding sumOver tabulate someBelow countBelow only kindOf sizeIn stableIn fixedIn moving freeIn beside neighbours laplacian
+    innerLaplacian numerator roundAway nextAt nextLevel inexactAt inexactIn someBeyond sampleOf table pluckAt pluckLevel
+    fixedNotZero blockRefusal pluckRefusal play capped block blockInPlace pluck unroundedAt unroundedStep unroundedSteps goesOn bookBlock
+    bookPluck sumBlock sumPluck leaves bookCall sumCall calls
+mirrors-hold Mirrors.halves = (refl, refl)
+mirrors-hold Mirrors.readOut = (refl, refl)
+mirrors-hold Mirrors.struck = (refl, refl)
+mirrors-hold Mirrors.ended = (refl, refl)
+mirrors-hold Mirrors.plucked = ((refl, refl), refl)
+mirrors-hold Mirrors.tooHigh = (refl, refl)
+mirrors-hold Mirrors.notZero = (refl, refl)
+mirrors-hold Mirrors.tooStrong = (refl, refl)
+mirrors-hold Mirrors.lowest = (refl, refl, refl)
 
 pub examples-hold : ExamplesHold
 unfolding tabulate only kindOf countBelow sumOver sizeIn stableIn roundEdge fixedIn moving freeIn beside neighbours laplacian

@@ -7,3 +7,4 @@ pub mod Neighbours
 pub mod Step
 pub mod Refusals
 pub mod Calls
+pub mod Mirror

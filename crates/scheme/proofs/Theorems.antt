@@ -1,4 +1,4 @@
--- The proofs of the four propositions of demand 3, in the order of docs/PROOF.md, and of request 3's.
+-- The proofs of the four propositions of demand 3, in the order of docs/PROOF.md, and of requests 3 and 5.
 pub mod Balance
 pub mod Forms
 pub mod Bounds
@@ -8,3 +8,4 @@ pub mod Effects
 pub mod Distance
 pub mod Program
 pub mod Exact
+pub mod Mirror

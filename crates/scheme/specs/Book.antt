@@ -183,18 +183,18 @@ stateAfter k l t = record {
 abbrev pub called : Call → State → Left
 called k t = leaves k (t .older) (t .newer)
 
--- each call's outcome, in order, and the state after the last
+-- what each call left, in order, and the state after the last
 pub record AfterCalls : Type 0 where
-  pub outcomes : List Outcome
+  pub left : List Left
   pub state : State
 
 -- one call after the other
 unfoldable pub calls : List Call → State → AfterCalls
-calls [] t = record { outcomes = []; state = t }
+calls [] t = record { left = []; state = t }
 calls (k ∷ ks) t =
     let l = called k t in
     let rest = calls ks (stateAfter k l t) in
-    record { outcomes = l .outcome ∷ rest .outcomes; state = rest .state }
+    record { left = l ∷ rest .left; state = rest .state }
 
 -- a claim about each call of a list: about the state before it, its arguments and its outcome
 unfoldable pub EachCall : (State → Call → Outcome → Type 0) → List Call → State → Type 0

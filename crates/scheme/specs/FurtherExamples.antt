@@ -23,7 +23,7 @@ use Rattle.scheme.specs.Refusals.{wrongLength, instrumentRefusal, blockR
 use Rattle.scheme.specs.Calls.{AfterBlock, capped, reported, block, AfterInPlace, inPlaceLeft, blockInPlace, pluck, reading}
 use Rattle.scheme.specs.Energy.{energy}
 use Rattle.scheme.specs.Book.{stepOf, Call, blockCall, inPlaceCall, pluckCall, blockOutcome, inPlaceOutcome, pluckOutcome}
-use Rattle.scheme.specs.Book.{AfterCalls, State, start, calls}
+use Rattle.scheme.specs.Book.{Outcome, Left, AfterCalls, State, start, calls}
 use Rattle.scheme.specs.Claims.{distance, bound, Near}
 use Rattle.scheme.specs.Examples.{grid, instrument, level, minus, next, middle3, middle9}
 
@@ -97,6 +97,10 @@ fromHere ks = calls ks (start (pos 0 ∷ pos 1 ∷ minus 2 ∷ pos 0 ∷ []) (le
 
 abbrev after : List Call → State
 after ks = fromHere ks .state
+
+-- what each call answered
+abbrev pub outcomesOf : AfterCalls → List Outcome
+outcomesOf a = map (λ (l : Left). l .outcome) (a .left)
 
 -- where the book goes on through three steps
 abbrev threeOn : State
@@ -499,13 +503,13 @@ shows pluckThenStep = after (twoSteps ∷ plucks ∷ oneStep ∷ []) ≡ record 
   };
   inexact = 2;
 }
-shows outcomes = fromHere (twoSteps ∷ refused ∷ noSteps ∷ plucks ∷ pluckTurnedDown ∷ []) .outcomes ≡
+shows outcomes = outcomesOf (fromHere (twoSteps ∷ refused ∷ noSteps ∷ plucks ∷ pluckTurnedDown ∷ [])) ≡
     blockOutcome (record { steps = 2; inexact = 4; refusal = Nothing }) rest (level (0 ∷ 0 ∷ [])) ∷
     blockOutcome (record { steps = 0; inexact = 0; refusal = PickUp }) nines (level (0 ∷ 0 ∷ [])) ∷
     blockOutcome (record { steps = 0; inexact = 0; refusal = Nothing }) rest [] ∷
     pluckOutcome Nothing ∷
     pluckOutcome NotMoving ∷ []
-shows inPlaceOutcomes = fromHere (map onTwo (twoSteps ∷ refused ∷ noSteps ∷ [])) .outcomes ≡
+shows inPlaceOutcomes = outcomesOf (fromHere (map onTwo (twoSteps ∷ refused ∷ noSteps ∷ []))) ≡
     inPlaceOutcome (record { steps = 2; inexact = 4; refusal = Nothing }) (level (0 ∷ 0 ∷ [])) ∷
     inPlaceOutcome (record { steps = 0; inexact = 0; refusal = PickUp }) (level (0 ∷ 0 ∷ [])) ∷
     inPlaceOutcome (record { steps = 0; inexact = 0; refusal = Nothing }) [] ∷ []

@@ -12,6 +12,8 @@ pub mod Claims
 pub mod Passing
 pub mod Program
 pub mod Exact
+pub mod Mirror
 pub mod Examples
 pub mod FurtherExamples
 pub mod PlateExamples
+pub mod MirrorExamples

@@ -1,8 +1,8 @@
 -- Demand 3 of a program, known by its calls of `block`, `block_in_place` and `pluck`: their arguments, their answers and what they left.
 use mathlib.Core.Path.{_≡_}
-use mathlib.Core.List.{List, [], _∷_}
+use mathlib.Core.List.{List, [], _∷_, map}
 use lib.IntN.{ℤ}
-use Rattle.scheme.specs.Book.{Call, Outcome, Left, leaves, State, start, stateAfter}
+use Rattle.scheme.specs.Book.{Call, Outcome, Left, leaves, State, start, stateAfter, AfterCalls}
 use Rattle.scheme.specs.Claims.{Near}
 
 -- a call that was made: its arguments but the two levels, and all that it left
@@ -23,6 +23,14 @@ AllKept (m ∷ ms) t = Kept (t .older) (t .newer) m × AllKept ms (stateAfter (m
 unfoldable pub afterAll : List Made → State → State
 afterAll [] t = t
 afterAll (m ∷ ms) t = afterAll ms (stateAfter (m .call) (m .left) t)
+
+-- what its calls asked
+abbrev pub callsOf : List Made → List Call
+callsOf ms = map (λ (m : Made). m .call) ms
+
+-- what each of them left, in order, and the state after the last
+abbrev pub afterMade : List Made → State → AfterCalls
+afterMade ms t = record { left = map (λ (m : Made). m .left) ms; state = afterAll ms t }
 
 -- a claim about each of its calls: about the state before it, its arguments and its outcome
 unfoldable pub EachMade : (State → Call → Outcome → Type 0) → List Made → State → Type 0

@@ -20,12 +20,13 @@ use Rattle.scheme.specs.Refusals.{wrongLength, blockRefusal}
 use Rattle.scheme.specs.Calls.{accepted, AfterBlock, play, block, blockInPlace}
 use Rattle.scheme.specs.Book.{LastStep, stepOf, Book, fresh, scale, goesOn, bookBlock, Call, blockCall, inPlaceCall, pluckCall, leaves}
 use Rattle.scheme.specs.Book.{State, start, called, calls}
+use Rattle.scheme.specs.Program.{callsOf}
 use Rattle.scheme.proofs.Laws.Rounding.{sample-rule}
 use Rattle.scheme.proofs.Laws.Refusals.{accepted-is, block-passes}
 use Rattle.scheme.proofs.Laws.Calls.{stands-behind, block-done, block-refused}
 use Rattle.scheme.proofs.Theorems.Distance.{steps-last, steps-count}
 use Rattle.scheme.proofs.Theorems.Effects.{stepped, afterCall, block-cut, each-call}
-use Rattle.scheme.proofs.Theorems.Program.{each-made, callsOf}
+use Rattle.scheme.proofs.Theorems.Program.{each-made}
 use Rattle.tighter.specs.Bounds.{demanded, numbers}
 use Rattle.tighter.specs.Claims.{OfSteps, After, OfEveryList, difference, OfPoints, VoiceWithin}
 use Rattle.tighter.specs.Samples.{OfSamples, EachSample, OfEverySample, OfProgramSamples, sampleError, beyondHalf, SampleWithin}

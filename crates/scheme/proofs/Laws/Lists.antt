@@ -1,7 +1,7 @@
 -- Laws of `tabulate`, `times`, `someBelow`, `countBelow` and `point`.
 use mathlib.Core.Path.{_≡_, refl, sym, ap, ap₂, _∙_}
 use mathlib.Core.Bool.{Bool, true, false, cond, true≢false}
-use mathlib.Core.List.{List, [], _∷_}
+use mathlib.Core.List.{List, [], _∷_, map}
 use Prim.Native.Nat.{ℕ, zero, suc, _+_, _≤_, _<_}
 use native.Mathlib.Nat.{le-of-suc-le-suc}
 use native.Mathlib.Decide.{ℕ-discrete}
@@ -40,6 +40,13 @@ point-tabulate P zero f i h z = z
 point-tabulate P (suc n) f zero h z = h (omega arith)
 point-tabulate P (suc n) f (suc i) h z = point-tabulate P n (λ k. f (suc k)) i (λ p. h (omega arith)) z
 
+-- a rule applied to each of f's values gives g's
+pub map-tabulate : (r : ℤ → ℤ) (n : ℕ) (f g : ℕ → ℤ) → ((k : ℕ) → k < n → r (f k) ≡ g k) → map r (tabulate n f) ≡ tabulate n g
+unfolding tabulate
+map-tabulate r zero f g h = refl
+map-tabulate r (suc n) f g h =
+    ap₂ _∷_ (h 0 (omega arith)) (map-tabulate r n (λ k. f (suc k)) (λ k. g (suc k)) (λ k p. h (suc k) (omega arith)))
+
 -- ---- times
 
 pub point-scaled : (k : ℤ) (xs : List ℤ) (i : ℕ) → point (times k xs) i ≡ k *ℤ point xs i
@@ -52,12 +59,6 @@ times-one (x ∷ xs) = ap₂ _∷_ (ring 1 (λ x. # 1 ⊗ x ≈ x) refl x) (time
 pub times-times : (a b : ℤ) (xs : List ℤ) → times (b *ℤ a) xs ≡ times a (times b xs)
 times-times a b [] = refl
 times-times a b (x ∷ xs) = ap₂ _∷_ (ring 3 (λ a b x. (b ⊗ a) ⊗ x ≈ a ⊗ (b ⊗ x)) refl a b x) (times-times a b xs)
-
-pub times-tabulate : (z : ℤ) (n : ℕ) (f g : ℕ → ℤ) → ((k : ℕ) → k < n → z *ℤ f k ≡ g k) → times z (tabulate n f) ≡ tabulate n g
-unfolding tabulate
-times-tabulate z zero f g h = refl
-times-tabulate z (suc n) f g h =
-    ap₂ _∷_ (h 0 (omega arith)) (times-tabulate z n (λ k. f (suc k)) (λ k. g (suc k)) (λ k p. h (suc k) (omega arith)))
 
 -- ---- someBelow
 

@@ -25,7 +25,7 @@ use Rattle.scheme.specs.Program.{Made, afterAll, EachMade}
 use Rattle.scheme.specs.Exact.{bookScale, Unrounded, NoneInexact, ExactSince, ExactFromStart, ProgramExactSince}
 use Rattle.scheme.specs.Exact.{ProgramExactFromStart, NeverInexact}
 use Rattle.scheme.proofs.Laws.Bools.{cases}
-use Rattle.scheme.proofs.Laws.Lists.{point-scaled, times-one, times-times, times-tabulate, count-none, count-zero}
+use Rattle.scheme.proofs.Laws.Lists.{point-scaled, times-one, times-times, map-tabulate, count-none, count-zero}
 use Rattle.scheme.proofs.Laws.Rounding.{remainder-rule}
 use Rattle.scheme.proofs.Laws.Step.{numerator-scale}
 use Rattle.scheme.proofs.Laws.Calls.{capped-zero}
@@ -70,7 +70,7 @@ module _ (i : Instrument) (h : Hit) (older newer : List ℤ) (b : Book) (v : Hel
 
     next-newer : times (scale c (suc (b .n))) (nextLevel i h older newer) ≡ unroundedStep i h b .newer
     unfolding nextLevel unroundedStep nextAt unroundedAt inexactIn
-    next-newer = times-tabulate (scale c (suc (b .n))) (points (i .grid)) _ _ (λ k l. go k l (moving (i .grid) k) refl)
+    next-newer = map-tabulate (λ x. scale c (suc (b .n)) *ℤ x) (points (i .grid)) _ _ (λ k l. go k l (moving (i .grid) k) refl)
       where
         scaled : (xs ys : List ℤ) → times p xs ≡ ys → p ⊡ point xs ≡ point ys
         scaled xs ys e = fun-ext (λ k. sym (point-scaled p xs k) ∙ ap (λ (l : List ℤ). point l k) e)

@@ -1,27 +1,20 @@
 -- A program whose calls keep their promises is a run of the definitions, so what holds of every list of calls holds of it.
 use mathlib.Core.Path.{_≡_, refl, sym, ap, _∙_, subst}
-use mathlib.Core.List.{List, [], _∷_, map}
+use mathlib.Core.List.{List, [], _∷_}
 use lib.IntN.{ℤ}
 use Rattle.scheme.specs.Book.{Call, Outcome, Left, State, start, stateAfter, AfterCalls, calls, EachCall}
 use Rattle.scheme.specs.Claims.{Near}
-use Rattle.scheme.specs.Program.{Made, AllKept, afterAll, EachMade, ProgramBound}
+use Rattle.scheme.specs.Program.{Made, AllKept, afterAll, callsOf, afterMade, EachMade, ProgramBound}
 use Rattle.scheme.proofs.Theorems.Distance.{distance-bound}
 
-abbrev outcomesOf : List Made → List Outcome
-outcomesOf ms = map (λ (m : Made). m .left .outcome) ms
-
-abbrev pub callsOf : List Made → List Call
-callsOf ms = map (λ (m : Made). m .call) ms
-
 -- the levels that the program holds, and what its calls answered and left, are the definitions'
-pub program-run : (ms : List Made) (t : State) → AllKept ms t → calls (callsOf ms) t
-    ≡ record { outcomes = outcomesOf ms; state = afterAll ms t }
+pub program-run : (ms : List Made) (t : State) → AllKept ms t → calls (callsOf ms) t ≡ afterMade ms t
 unfolding AllKept afterAll calls
 program-run [] t k = refl
 program-run (m ∷ ms) t k =
     ap (λ (l : Left). let rest : AfterCalls = calls (callsOf ms) (stateAfter (m .call) l t) in
-    record { outcomes = l .outcome ∷ rest .outcomes; state = rest .state }) (sym (k .0)) ∙
-    ap (λ (rest : AfterCalls). record { outcomes = m .left .outcome ∷ rest .outcomes; state = rest .state })
+    record { left = l ∷ rest .left; state = rest .state }) (sym (k .0)) ∙
+    ap (λ (rest : AfterCalls). record { left = m .left ∷ rest .left; state = rest .state })
     (program-run ms (stateAfter (m .call) (m .left) t) (k .1))
 
 -- a claim about each call of the list is one about each call of the program
