@@ -26,24 +26,23 @@ use Rattle.scheme.specs.FurtherExamples.{inPlaceTurnedDown, inPlaceEmpty
 use Rattle.scheme.specs.FurtherExamples.{pluckedBook, pluckThenStep, outcomes, inPlaceOutcomes, distances, halfOff, FurtherHold}
 use Rattle.scheme.specs.PlateExamples as Plates
 use Rattle.scheme.specs.PlateExamples.{PlatesHold}
-use Rattle.scheme.specs.MirrorExamples as Mirrors
-use Rattle.scheme.specs.MirrorExamples.{MirrorsHold}
+use Rattle.scheme.specs.MirrorExamples as Pairs
+use Rattle.scheme.specs.MirrorExamples.{MirrorsHold, PairsHold, LowestRefused}
 
 -- first, so that a definition by which up and down differ is refused as such
 pub mirrors-hold : MirrorsHold
-unfolding sumOver tabulate someBelow countBelow only kindOf sizeIn stableIn fixedIn moving freeIn beside neighbours laplacian
-    innerLaplacian numerator roundAway nextAt nextLevel inexactAt inexactIn someBeyond sampleOf table pluckAt pluckLevel
-    fixedNotZero blockRefusal pluckRefusal play capped block blockInPlace pluck unroundedAt unroundedStep unroundedSteps goesOn bookBlock
-    bookPluck sumBlock sumPluck leaves bookCall sumCall calls
-mirrors-hold Mirrors.halves = (refl, refl)
-mirrors-hold Mirrors.readOut = (refl, refl)
-mirrors-hold Mirrors.struck = (refl, refl)
-mirrors-hold Mirrors.ended = (refl, refl)
-mirrors-hold Mirrors.plucked = ((refl, refl), refl)
-mirrors-hold Mirrors.tooHigh = (refl, refl)
-mirrors-hold Mirrors.notZero = (refl, refl)
-mirrors-hold Mirrors.tooStrong = (refl, refl)
-mirrors-hold Mirrors.lowest = (refl, refl, refl)
+unfolding sumOver tabulate someBelow countBelow only kindOf sizeIn stableIn fixedIn moving freeIn beside neighbours laplacian innerLaplacian
+    numerator roundAway nextAt nextLevel inexactAt inexactIn someBeyond sampleOf table pluckAt pluckLevel fixedNotZero blockRefusal
+    pluckRefusal play capped block blockInPlace pluck unroundedAt unroundedStep unroundedSteps goesOn bookBlock bookPluck sumBlock sumPluck
+    leaves bookCall sumCall calls
+mirrors-hold Pairs.halves = refl
+mirrors-hold Pairs.readOut = refl
+mirrors-hold Pairs.struck = refl
+mirrors-hold Pairs.ended = refl
+mirrors-hold Pairs.plucked = refl
+mirrors-hold Pairs.tooHigh = refl
+mirrors-hold Pairs.notZero = refl
+mirrors-hold Pairs.tooStrong = refl
 
 pub examples-hold : ExamplesHold
 unfolding tabulate only kindOf countBelow sumOver sizeIn stableIn roundEdge fixedIn moving freeIn beside neighbours laplacian
@@ -157,3 +156,20 @@ plates-hold Plates.otherCalls = refl
 plates-hold Plates.blockEnded = (refl, refl)
 plates-hold Plates.energies = refl
 plates-hold Plates.book = refl
+
+pub pairs-hold : PairsHold
+unfolding sumOver tabulate someBelow countBelow only kindOf sizeIn stableIn fixedIn moving freeIn beside neighbours laplacian innerLaplacian
+    numerator roundAway nextAt nextLevel inexactAt inexactIn someBeyond sampleOf table pluckAt pluckLevel fixedNotZero blockRefusal
+    pluckRefusal play capped block blockInPlace pluck leaves calls
+pairs-hold Pairs.halves = refl
+pairs-hold Pairs.readOut = refl
+pairs-hold Pairs.struck = refl
+pairs-hold Pairs.ended = refl
+pairs-hold Pairs.plucked = refl
+pairs-hold Pairs.tooHigh = refl
+pairs-hold Pairs.notZero = refl
+pairs-hold Pairs.tooStrong = refl
+
+pub lowest-refused : LowestRefused
+unfolding someBelow kindOf sizeIn stableIn fixedIn moving someBeyond fixedNotZero blockRefusal pluckRefusal
+lowest-refused = (refl, refl, refl)

@@ -77,14 +77,15 @@ MirrorImage = (older newer : List ℤ) (ks : List Call) → MirroredFrom older n
 -- the book's energy, and the squared distances of newer from it, are the same
 pub record MeasuredAlike (t u : State) : Type 0 where
   pub energies : (i : Instrument) → bookEnergy i (u .book) ≡ bookEnergy i (t .book)
-  pub distances : (i : Instrument) → distance i (u .book .n) (u .newer) (u .book .newer) ≡ distance i (t .book .n) (t .newer) (t .book .newer)
+  pub distances : (i : Instrument)
+      → distance i (u .book .n) (u .newer) (u .book .newer) ≡ distance i (t .book .n) (t .newer) (t .book .newer)
 
 abbrev pub MirrorMeasures : Type 0
 MirrorMeasures = (older newer : List ℤ) (ks : List Call)
     → MeasuredAlike (calls ks (start older newer) .state) (calls (map mirrorCall ks) (start (negated older) (negated newer)) .state)
 
 -- Two programs whose calls are mirrored and keep their promises. A point that a program holds is of 64 bits: of these −2⁶³ alone has no
--- negative, so it is in neither start; 11 refuses it, and 8 as a force or a height (`lowest` of MirrorExamples).
+-- negative, so it is in neither start; 11 refuses it, and 8 as a force or a height (`LowestRefused` of MirrorExamples).
 abbrev pub ProgramMirrorImage : Type 0
 ProgramMirrorImage = (older newer : List ℤ) (ms ns : List Made)
     → AllKept ms (start older newer) → AllKept ns (start (negated older) (negated newer)) → callsOf ns ≡ map mirrorCall (callsOf ms)

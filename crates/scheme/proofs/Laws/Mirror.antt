@@ -1,5 +1,5 @@
 -- What the definitions make of negated levels, hits and heights: numerator, rounding, sample and cut are odd, every test is even.
-use mathlib.Core.Path.{_≡_, refl, sym, ap, ap₂, _∙_, fun-ext}
+use mathlib.Core.Path.{_≡_, refl, sym, ap, _∙_, fun-ext}
 use mathlib.Core.Bool.{Bool, true, false, not, _&&_, _||_, cond}
 use mathlib.Core.List.{List, [], _∷_, _++_}
 use Prim.Native.Nat.{ℕ, zero, suc, _-_, _*_, _/_, _%_}
@@ -21,16 +21,15 @@ use Rattle.types.specs.declared.Refusal.{Refusal}
 use Rattle.types.specs.declared.Refusal.the-variants.{NotMoving, TooStrong}
 use Rattle.types.specs.Numbers.{ceiling}
 use Rattle.pluck_table.specs.Table.{table}
-use Rattle.scheme.specs.Lists.{tabulate, point, someBelow, countBelow}
-use Rattle.scheme.specs.Instruments.{beyond, points, fixed, moving}
+use Rattle.scheme.specs.Lists.{point, someBelow, countBelow}
+use Rattle.scheme.specs.Instruments.{points, fixed, moving}
 use Rattle.scheme.specs.Step.{numerator, roundAway, forceOf, divisor, nextAt, nextLevel, inexactAt, inexactIn, someBeyond, sampleOf}
 use Rattle.scheme.specs.Pluck.{distanceFrom, pluckValue, pluckAt, pluckLevel}
-use Rattle.scheme.specs.Refusals.{wrongLength, notMoving, tooStrong, fixedNotZero, _⇒_, lowest, instrumentChecks, gridChecks}
-use Rattle.scheme.specs.Refusals.{lengthChecks, pickChecks, widthChecks, stateChecks, lastPlucked, blockRefusal, pluckRefusal}
+use Rattle.scheme.specs.Refusals.{lastPlucked, wrongLength, fixedNotZero, _⇒_, lowest, gridChecks, instrumentChecks, lengthChecks}
+use Rattle.scheme.specs.Refusals.{hitChecks, pickChecks, widthChecks, stateChecks, blockRefusal, pluckRefusal}
 use Rattle.scheme.specs.Calls.{accepted, AfterSteps, oneMore, play, AfterBlock, blockLeft, withWorkZero, blockRefused, block}
 use Rattle.scheme.specs.Calls.{AfterPluck, pluckLeft, overwritten, pluckRefused, pluck}
 use Rattle.scheme.specs.Mirror.{negated, mirrorHit, mirrorSamples}
-use Rattle.scheme.proofs.Laws.Bools.{cases}
 use Rattle.scheme.proofs.Laws.Lists.{map-tabulate}
 use Rattle.scheme.proofs.Laws.Rounding.{round-odd, sample-rule}
 use Rattle.scheme.proofs.Laws.Step.{numerator-scale}
@@ -100,13 +99,9 @@ fixed-even : (g : Grid) (xs : List ℤ) → fixedNotZero g (negated xs) ≡ fixe
 unfolding fixedNotZero
 fixed-even g xs = λ x. someBelow (length-map xs negℤ x) (λ k. fixed g k && ltb 0 (size-negated xs k x))
 
-moving-even : (g : Grid) (h : Hit) → notMoving g (mirrorHit h) ≡ notMoving g h
-moving-even g Absent = refl
-moving-even g (At p f) = refl
-
-strong-even : (h : Hit) → tooStrong (mirrorHit h) ≡ tooStrong h
-strong-even Absent = refl
-strong-even (At p f) = ap (λ (n : ℕ). ltb ceiling n) (size-neg f)
+hit-even : (g : Grid) (h : Hit) → hitChecks g (mirrorHit h) ≡ hitChecks g h
+hit-even g Absent = refl
+hit-even g (At p f) = ap (λ (n : ℕ). not (moving g p) ⇒ NotMoving ∷ ltb ceiling n ⇒ TooStrong ∷ []) (size-neg f)
 
 pub block-refusal-even : (i : Instrument) (older newer : List ℤ) (wrong : Bool) (pick : ℕ) (h : Hit)
     → blockRefusal i (negated older) (negated newer) wrong pick (mirrorHit h) ≡ blockRefusal i older newer wrong pick h
@@ -116,7 +111,7 @@ block-refusal-even i older newer wrong pick h =
     λ x. lowest (
     (instrumentChecks i ++ (
     lengthChecks (wrongLength g (length-map older negℤ x) || wrongLength g (length-map newer negℤ x) || wrong) ++ (
-    (moving-even g h x ⇒ NotMoving ∷ strong-even h x ⇒ TooStrong ∷ []) ++ pickChecks g pick))) ++
+    hit-even g h x ++ pickChecks g pick))) ++
     stateChecks (beyond-even older x || beyond-even newer x) (fixed-even g older x || fixed-even g newer x))
 
 pub pluck-refusal-even : (g : Grid) (older newer : List ℤ) (c w : ℕ) (a : ℤ)
@@ -125,7 +120,7 @@ unfolding pluckRefusal
 pluck-refusal-even g older newer c w a =
     λ x. lowest (
     gridChecks lastPlucked g ++ (lengthChecks (wrongLength g (length-map older negℤ x) || wrongLength g (length-map newer negℤ x)) ++ (
-    (notMoving g (At c a) ⇒ NotMoving ∷ strong-even (At c a) x ⇒ TooStrong ∷ []) ++ widthChecks g w)))
+    hit-even g (At c a) x ++ widthChecks g w)))
 
 -- ---- the steps of a block
 

@@ -1,7 +1,7 @@
 -- What a call does to the two levels, the book and the sum of counts: one of three effects.
 -- A theorem about lists of calls is proved once over effects; each call has one law that tells its effect.
 use mathlib.Core.Path.{_≡_, refl, sym, ap, _∙_, subst}
-use mathlib.Core.Bool.{Bool, true, false}
+use mathlib.Core.Bool.{Bool, false}
 use mathlib.Core.List.{List, [], _∷_}
 use Prim.Native.Nat.{ℕ, suc, _<_}
 use native.Mathlib.Omega.{arith}
@@ -16,8 +16,7 @@ use Rattle.pluck_table.specs.Table.{table}
 use Rattle.scheme.specs.Instruments.{points}
 use Rattle.scheme.specs.Pluck.{pluckLevel}
 use Rattle.scheme.specs.Refusals.{wrongLength, blockRefusal, pluckRefusal}
-use Rattle.scheme.specs.Calls.{accepted, AfterSteps, play, levelsAfter, inexactAfter, capped, AfterBlock, AfterPluck, block}
-use Rattle.scheme.specs.Calls.{blockInPlace, pluck}
+use Rattle.scheme.specs.Calls.{accepted, AfterSteps, play, levelsAfter, inexactAfter, capped, AfterBlock, AfterPluck, blockInPlace}
 use Rattle.scheme.specs.Book.{fresh, bookBlock, bookPluck, sumBlock, sumPluck, Call, blockCall, inPlaceCall, pluckCall, leaves}
 use Rattle.scheme.specs.Book.{bookCall, sumCall, State, stateAfter, called, calls, Outcome, EachCall}
 use Rattle.scheme.specs.Passing.{InstrumentPasses}
@@ -111,8 +110,8 @@ unfolding blockInPlace leaves bookCall sumCall
 in-place-after i samples pick h t = refl
 
 module _ (g : Grid) (c w : ℕ) (a : ℤ) (t : State) where
-  abbrev turned-down : Refusal
-  turned-down = pluckRefusal g (length (t .older)) (length (t .newer)) c w a
+  abbrev refused-pluck : Refusal
+  refused-pluck = pluckRefusal g (length (t .older)) (length (t .newer)) c w a
 
   left-plucked : AfterPluck → State
   left-plucked r = record {
@@ -123,12 +122,12 @@ module _ (g : Grid) (c w : ℕ) (a : ℤ) (t : State) where
   }
 
   -- an accepted pluck
-  pub pluck-overwrote : turned-down ≡ Nothing → afterCall (pluckCall g c w a) t ≡ overwrote (pluckLevel table g c w a) t
+  pub pluck-overwrote : refused-pluck ≡ Nothing → afterCall (pluckCall g c w a) t ≡ overwrote (pluckLevel table g c w a) t
   unfolding leaves bookCall bookPluck sumCall sumPluck left-plucked
   pluck-overwrote e = ap left-plucked (pluck-done g (t .older) (t .newer) c w a e)
 
   -- a refused one
-  pub pluck-nothing : accepted turned-down ≡ false → afterCall (pluckCall g c w a) t ≡ t
+  pub pluck-nothing : accepted refused-pluck ≡ false → afterCall (pluckCall g c w a) t ≡ t
   unfolding leaves bookCall bookPluck sumCall sumPluck left-plucked
   pluck-nothing e = ap left-plucked (pluck-refused g (t .older) (t .newer) c w a e) ∙
       ap (λ (x : Bool). record {
@@ -139,7 +138,7 @@ module _ (g : Grid) (c w : ℕ) (a : ℤ) (t : State) where
       }) e
 
   pluck-effect : Effect t (afterCall (pluckCall g c w a) t)
-  pluck-effect = cases (λ x. Effect t (afterCall (pluckCall g c w a) t)) (accepted turned-down)
+  pluck-effect = cases (λ x. Effect t (afterCall (pluckCall g c w a) t)) (accepted refused-pluck)
       (λ e. overwrites (pluckLevel table g c w a) (pluck-overwrote (accepted-is _ e))) (λ e. nothing (pluck-nothing e))
 
 -- the effect of each call

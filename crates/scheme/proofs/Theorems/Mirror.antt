@@ -3,7 +3,7 @@ use mathlib.Core.Path.{_≡_, refl, sym, ap, ap₂, _∙_, subst, fun-ext}
 use mathlib.Core.Bool.{Bool, true, false, cond}
 use mathlib.Core.List.{List, [], _∷_, map}
 use Prim.Native.Nat.{ℕ, zero, suc, _+_, _*_}
-use lib.IntN.{ℤ, pos, negsuc, negℤ, _+ℤ_, _-ℤ_, _*ℤ_}
+use lib.IntN.{ℤ, pos, negsuc, negℤ, _+ℤ_, _*ℤ_}
 use lib.ListN.{length, replicate}
 use Rattle.integers.proofs.Ring.{con, ⊝_, _⊖_, _⊗_, _≈_, ring}
 use Rattle.integers.proofs.Sum.{sum-ext}
@@ -23,7 +23,7 @@ use Rattle.scheme.specs.Pluck.{pluckLevel}
 use Rattle.scheme.specs.Refusals.{wrongLength, blockRefusal, pluckRefusal}
 use Rattle.scheme.specs.Calls.{accepted, AfterSteps, play, Levels, levelsAfter, inexactAfter, AfterBlock, withoutWork, blockInPlace}
 use Rattle.scheme.specs.Calls.{AfterPluck, capped}
-use Rattle.scheme.specs.Energy.{weight, squares, pairSum, laplacianSum, energy}
+use Rattle.scheme.specs.Energy.{weight, squares, energy}
 use Rattle.scheme.specs.Book.{Book, stepOf, fresh, scale, unroundedAt, unroundedStep, unroundedSteps, goesOn, bookBlock, sumBlock}
 use Rattle.scheme.specs.Book.{Call, blockCall, inPlaceCall, pluckCall, leftByBlock, leftByInPlace, leftByPluck, leaves, bookCall}
 use Rattle.scheme.specs.Book.{sumCall, State, start, AfterCalls, calls}
@@ -35,7 +35,7 @@ use Rattle.scheme.proofs.Laws.Lists.{map-tabulate}
 use Rattle.scheme.proofs.Laws.Refusals.{accepted-is}
 use Rattle.scheme.proofs.Laws.Mirror.{points-negated, force-negated, numerator-odd, next-mirrored, inexact-mirrored}
 use Rattle.scheme.proofs.Laws.Mirror.{block-refusal-even, pluck-refusal-even, play-mirrored, block-mirrored, shape-mirrored}
-use Rattle.scheme.proofs.Laws.Mirror.{mirrorBlock, mirrorPluck, pluck-mirrored}
+use Rattle.scheme.proofs.Laws.Mirror.{pluck-mirrored}
 use Rattle.scheme.proofs.Theorems.Forms.{pair-form, laplacian-form}
 use Rattle.scheme.proofs.Theorems.Effects.{stepped, overwrote, afterCall, block-stepped, block-nothing}
 use Rattle.scheme.proofs.Theorems.Effects.{pluck-overwrote, pluck-nothing}
@@ -87,11 +87,13 @@ unrounded-mirrored i h b = λ x. record {
 
     go : (k : ℕ) (t : Bool) → negℤ (cond t (numerator i (point (b .newer)) (point (b .older)) (p ⊡ forceOf h) k) (pos 0))
         ≡ cond t (numerator i (point (negated (b .newer))) (point (negated (b .older))) (p ⊡ forceOf (mirrorHit h)) k) (pos 0)
-    go k true = sym ((λ x. numerator i (points-negated (b .newer) x) (points-negated (b .older) x) (scaled-negated p (forceOf h) (force-negated h) x) k) ∙
+    go k true = sym (
+        (λ x. numerator i (points-negated (b .newer) x) (points-negated (b .older) x) (scaled-negated p (forceOf h) (force-negated h) x) k) ∙
         numerator-odd i (point (b .newer)) (point (b .older)) (p ⊡ forceOf h) k)
     go k false = refl
 
-    newer : tabulate (points (i .grid)) (unroundedAt i (mirrorHit h) (mirrorBook b)) ≡ negated (tabulate (points (i .grid)) (unroundedAt i h b))
+    newer : tabulate (points (i .grid)) (unroundedAt i (mirrorHit h) (mirrorBook b))
+        ≡ negated (tabulate (points (i .grid)) (unroundedAt i h b))
     newer = sym (map-tabulate negℤ (points (i .grid)) _ _ (λ k l. go k (moving (i .grid) k)))
 
 unrounded-steps-mirrored : (i : Instrument) (h : Hit) (k : ℕ) (b : Book)
@@ -115,7 +117,8 @@ book-mirrored i h older newer k b =
 
 -- ---- every effect
 
-stepped-mirrored : (i : Instrument) (h : Hit) (k : ℕ) (t : State) → stepped i (mirrorHit h) k (mirrorState t) ≡ mirrorState (stepped i h k t)
+stepped-mirrored : (i : Instrument) (h : Hit) (k : ℕ) (t : State)
+    → stepped i (mirrorHit h) k (mirrorState t) ≡ mirrorState (stepped i h k t)
 unfolding levelsAfter bookBlock sumBlock
 stepped-mirrored i h zero t = refl
 stepped-mirrored i h (suc k) t =
@@ -176,12 +179,14 @@ alike-of (inPlaceCall i samples pick h) t = block-alike i (replicate (points (i 
 alike-of (pluckCall g c w a) t = pluck-alike g c w a t
 
 -- what it answers and leaves
-left-mirrored : (k : Call) (older newer : List ℤ) → leaves (mirrorCall k) (negated older) (negated newer) ≡ mirrorLeft (leaves k older newer)
+left-mirrored : (k : Call) (older newer : List ℤ)
+    → leaves (mirrorCall k) (negated older) (negated newer) ≡ mirrorLeft (leaves k older newer)
 unfolding leaves blockInPlace
 left-mirrored (blockCall i work samples pick h) older newer =
     ap (λ (a : AfterBlock). leftByBlock a) (block-mirrored i older newer work samples pick h)
 left-mirrored (inPlaceCall i samples pick h) older newer =
-    ap (λ (a : AfterBlock). leftByInPlace (withoutWork a)) (block-mirrored i older newer (replicate (points (i .grid)) (pos 0)) samples pick h)
+    ap (λ (a : AfterBlock). leftByInPlace (withoutWork a))
+    (block-mirrored i older newer (replicate (points (i .grid)) (pos 0)) samples pick h)
 left-mirrored (pluckCall g c w a) older newer = ap (λ (p : AfterPluck). leftByPluck p) (pluck-mirrored g older newer c w a)
 
 -- ---- every list
