@@ -5,8 +5,8 @@
     python3 compare.py --wrong [NAME] [...] the same with a wrong edit of must_fail.py; without a name
                                             each edit in turn, and each must be found
 
-Ends after N calls or M minutes; every 10 seconds it says how far it is. Exit status 1 at the first
-difference, which is printed with all arguments; 2 where nothing could be compared. The same seed, jobs
+Ends after N calls or M minutes, those of mirrored lists counted; every 10 seconds it says how far it is. Exit status 1
+at the first difference, which is printed with all arguments; 2 where nothing could be compared. The same seed, jobs
 and version of Python give the same calls. --arguments looks at the arguments and does nothing else.
 """
 
@@ -123,6 +123,11 @@ def summary(counts, seconds, jobs):
     print(f"{counts['both']} inputs given to both blocks: 13 in the first step of {counts['both, 13 first']}, in a later step of "
           f"{counts['both, 13 later']}, by the last moving point alone in {counts['both, 13 last point']}; "
           f"work alone of a wrong length in {counts['both, work of a wrong length']}")
+    print(f"{counts['mirrored lists']} lists also as their mirror image, {counts['mirrored lists with hits']} of them "
+          f"with hits in steps done, {counts['mirror images ended']} more up to a number without a negative; "
+          f"{counts['mirrored calls']} calls in them: {counts['mirrored, refused']} refused by 1 to 12, "
+          f"13 in the first step of {counts['mirrored, 13 first']}, in a later step of {counts['mirrored, 13 later']}, "
+          f"{counts['mirrored plucks']} plucks accepted")
 
 
 def each_wrong_edit(seed, jobs, calls, seconds):

@@ -39,9 +39,38 @@ IN_PLACE_STEP = """        if passes_ceiling(grid, settings, older, newer, actin
         count = overwrite(grid, settings, older, newer, acting)
 """
 
-EDITS = (
+# What is alike in the books of a list and of its mirror image.
+ALIKE = ("book.n", "book.scale", "book.last", "book.inexact", "energy", "distance")
+
+# With these a call and its mirror image do not agree: that alone finds each of them, without another program beside it.
+ONE_SIDED = (
     ("negative halves upward", "step.py", "-magnitude if numerator < 0 else magnitude",
      "(2 * numerator + denominator) // (2 * denominator)"),
+    ("sample rounded down", "step.py", "return round_half_away(value, 2**28)[0]", "return value // 2**28"),
+    ("sample's negative halves upward", "step.py", "return round_half_away(value, 2**28)[0]",
+     "return (value + 2**27) >> 28"),
+    ("only remainders above 0 counted", "step.py", "sum(values[point] % divisor != 0 for",
+     "sum(round_half_away(values[point], divisor)[1] > 0 for"),
+    ("force without its sign", "step.py", "return hit[1] if", "return abs(hit[1]) if"),
+    ("pluck rounded down", "pluck.py", "cut_toward_zero(height * T[i], 65536)", "height * T[i] // 65536"),
+    ("height without its sign", "calls.py", "level = pluck_level(kind, columns, centre, half_width, height)",
+     "level = pluck_level(kind, columns, centre, half_width, abs(height))"),
+    ("the ceiling itself is beyond", "refusals.py", "max(level) > CEILING", "max(level) >= CEILING"),
+    ("down to -32768 x 2^28", "refusals.py", "min(level) < -CEILING", "min(level) < -32768 * 2**28"),
+    ("force at 2^63 passes", "refusals.py", "return abs(value) > CEILING", "return value > CEILING"),
+    ("8 above zero alone, for a hit", "refusals.py", "beyond(hit[1])", "beyond(max(hit[1], 0))"),
+    ("8 above zero alone, for a pluck", "calls.py", "r.beyond(height)", "r.beyond(max(height, 0))"),
+    ("11 above zero alone", "refusals.py", "11: lambda: some_beyond(levels[:2])",
+     "11: lambda: any(max(level) > CEILING for level in levels[:2])"),
+    ("12 above zero alone", "refusals.py", "level[point] != 0 for", "level[point] > 0 for"),
+    ("13 above zero alone", "calls.py", "if r.some_beyond((following,)):", "if max(following) > r.CEILING:"),
+    ("in place: only points above zero tested", "in_place.py",
+     "r.beyond(next_value(grid, settings, older, newer, hit, point)[0])",
+     "r.beyond(max(next_value(grid, settings, older, newer, hit, point)[0], 0))"),
+)
+
+EDITS = (
+    *ONE_SIDED,
     ("halves toward zero", "step.py", "(2 * abs(numerator) + denominator) //",
      "(2 * abs(numerator) + denominator - 1) //"),
     ("divided by D", "step.py", "round_half_away(value, divisor)", "round_half_away(value, D)"),
@@ -49,10 +78,7 @@ EDITS = (
     ("B added", "step.py", "- m * second", "+ m * second"),
     ("B without its second Laplacian", "step.py", "laplacians(grid, first) if settings[1] else first", "first"),
     ("force divided by D", "step.py", "+ D * force", "+ force"),
-    ("sample rounded down", "step.py", "return round_half_away(value, 2**28)[0]", "return value // 2**28"),
     ("sample toward zero", "step.py", "return round_half_away(value, 2**28)[0]", "return int(value / 2**28)"),
-    ("sample's negative halves upward", "step.py", "return round_half_away(value, 2**28)[0]",
-     "return (value + 2**27) >> 28"),
     ("sample's halves toward zero", "step.py", "return round_half_away(value, 2**28)[0]",
      "return (abs(value) + 2**27 - 1) // 2**28 * (-1 if value < 0 else 1)"),
     ("sample's halves to even", "step.py", "return round_half_away(value, 2**28)[0]", "return round(value / 2**28)"),
@@ -74,8 +100,6 @@ EDITS = (
     ("plate without stiffness", "refusals.py", "kind not in STIFF_KINDS", "kind != 4"),
     ("rectangular membrane with stiffness", "refusals.py", "kind not in STIFF_KINDS", "kind not in (*STIFF_KINDS, 5)"),
     ("kind 2 free at point 0", "instrument.py", "return point == 0", "return point == columns - 1"),
-    ("the ceiling itself is beyond", "refusals.py", "max(level) > CEILING", "max(level) >= CEILING"),
-    ("force at 2^63 passes", "refusals.py", "return abs(value) > CEILING", "return value > CEILING"),
     # A test may take for granted that lower numbers do not apply: 1 to 6 stay before the others.
     ("highest number answers, from 7 on", "refusals.py", "in sorted(tests):",
      "in sorted(tests, key=lambda number: -number if number > 6 else number - 99):"),
@@ -104,7 +128,6 @@ EDITS = (
     ("levels never touched", "calls.py", "older, newer = newer, following", "pass"),
     ("refusal of everything", "refusals.py", "return kind not in KINDS", "return True"),
     ("pluck leaves older", "calls.py", "return 0, level, list(level)", "return 0, older, level"),
-    ("pluck rounded down", "pluck.py", "cut_toward_zero(height * T[i], 65536)", "height * T[i] // 65536"),
     ("entries of T rounded down", "pluck.py", "half = 2 ** (bits - 1)", "half = 0"),
     ("entry i rounded up", "pluck.py", "i = 1024 * (half_width - distance) // half_width",
      "i = -(-1024 * (half_width - distance) // half_width)"),
@@ -136,8 +159,6 @@ EDITS = (
      "level, inexact_points(grid, D, values)"),
     ("only remainders beyond 1 counted", "step.py", "sum(values[point] % divisor != 0 for",
      "sum(abs(round_half_away(values[point], divisor)[1]) > 1 for"),
-    ("only remainders above 0 counted", "step.py", "sum(values[point] % divisor != 0 for",
-     "sum(round_half_away(values[point], divisor)[1] > 0 for"),
     ("only halves counted", "step.py", "sum(values[point] % divisor != 0 for",
      "sum(2 * abs(values[point]) % (2 * divisor) == divisor for"),
     ("exact points counted", "step.py", "% divisor != 0 for", "% divisor == 0 for"),
@@ -208,9 +229,6 @@ EDITS = (
      "count += remainder != 0 and point in [moved for moved, _ in moving(*grid)[:64]]"),
     ("in place: last moving point not tested", "in_place.py", "in moving(*grid))", "in moving(*grid)[:-1])"),
     ("in place: first moving point not tested", "in_place.py", "in moving(*grid))", "in moving(*grid)[1:])"),
-    ("in place: only points above zero tested", "in_place.py",
-     "r.beyond(next_value(grid, settings, older, newer, hit, point)[0])",
-     "r.beyond(max(next_value(grid, settings, older, newer, hit, point)[0], 0))"),
     ("in place: hit not tested", "in_place.py", "if passes_ceiling(grid, settings, older, newer, acting)",
      "if passes_ceiling(grid, settings, older, newer, None)"),
     ("in place: hit tested and not written", "in_place.py", "count = overwrite(grid, settings, older, newer, acting)",
@@ -276,7 +294,47 @@ EDITS = (
     ("levels at rest taken for a check", "book.py", " and any((*older, *newer))", ""),
     ("counts not looked at in lists", "run.py", "self.counted(book, older, newer)", "book.count_tells(older, newer)"),
     ("count read at the place of the steps", "library.py", "inexact.values()[0], *", "steps.values()[0], *"),
-    ("steps for counts in lists", "run.py", "*outcome[1:3], heard", "outcome[1], outcome[1], heard"),
+    ("steps for counts in lists", "run.py", "*outcome[1:3], *each_step", "outcome[1], outcome[1], *each_step"),
+    ("no list mirrored", "run.py", "if draw.rarely(MIRRORED) else None", "if False else None"),
+    ("mirror images not given to the library", "run.py", "found = self.agreed(name, image)",
+     "found = mirror.of_outcome(name, outcome)"),
+    ("mirror images given to the reference alone", "run.py", "found = self.agreed(name, image)",
+     "found = getattr(REFERENCE, name)(*image)"),
+    ("mirror images not compared", "run.py", "if not mirror.is_image(name, outcome, found):", "if False:"),
+    ("book of the mirror image not compared", "run.py", "if not mirror.is_image_book(book, newer, self.image):",
+     "if False:"),
+    ("book of the mirror image told of the list", "run.py",
+     "tell(self.image, name, mirror.of_arguments(name, arguments)", "tell(self.image, name, arguments"),
+    ("mirror image: hit not negated", "mirror.py", "if name == \"pluck\" or arguments[-3]:", "if name == \"pluck\":"),
+    ("mirror image: height not negated", "mirror.py", "if name == \"pluck\" or arguments[-3]:",
+     "if name != \"pluck\" and arguments[-3]:"),
+    ("mirror image: force negated without a hit", "mirror.py", "if name == \"pluck\" or arguments[-3]:", "if True:"),
+    ("mirror image: newer alone negated", "mirror.py", "negated(older), negated(newer), *", "older, negated(newer), *"),
+    ("mirror image: older alone negated", "mirror.py", "negated(older), negated(newer), *", "negated(older), newer, *"),
+    ("mirror image: -2^63 in older taken", "mirror.py", "(*image[place], *image[place + 1], strength)",
+     "(*image[place + 1], strength)"),
+    ("mirror image: -2^63 in newer taken", "mirror.py", "(*image[place], *image[place + 1], strength)",
+     "(*image[place], strength)"),
+    ("mirror image: -2^63 as force or height taken", "mirror.py", "(*image[place], *image[place + 1], strength)",
+     "(*image[place], *image[place + 1])"),
+    ("mirror image: later places negated", "mirror.py", "negated(samples[:steps]) + samples[steps:]",
+     "negated(samples)"),
+    ("mirror image: samples not negated", "mirror.py", "negated(samples[:steps]) + samples[steps:]", "samples"),
+    ("mirror image: first sample alone negated", "mirror.py", "negated(samples[:steps]) + samples[steps:]",
+     "negated(samples[:1]) + samples[1:]"),
+    ("mirror image: newer alone compared", "mirror.py", "return found == of_outcome(name, outcome)",
+     "return found[4:5] == of_outcome(name, outcome)[4:5]"),
+    *((f"mirror image: {part} not compared", "mirror.py", "return found == of_outcome(name, outcome)",
+       "image = list(of_outcome(name, outcome))\n"
+       f"    image[{place}:{place + 1}] = found[{place}:{place + 1}]\n"
+       "    return found == tuple(image)")
+      for place, part in enumerate(("refusal", "steps", "inexact points", "older", "newer", "work", "samples"))),
+    ("mirror image: the book's older not compared", "mirror.py",
+     "(found.older, found.newer) == (negated(book.older), negated(book.newer))", "found.newer == negated(book.newer)"),
+    ("mirror image: the book's newer not compared", "mirror.py",
+     "(found.older, found.newer) == (negated(book.older), negated(book.newer))", "found.older == negated(book.older)"),
+    *((f"mirror image: {part} not compared", "mirror.py", f"return {', '.join(ALIKE)}",
+       f"return {', '.join(other for other in ALIKE if other != part)}") for part in ALIKE),
     ("256 bytes taken", "ring.py", "len(line) > 255", "len(line) > 256"),
     ("two spaces taken", "ring.py", "[0-9]+ )", "[0-9]+ +)"),
     ("minus on every number", "ring.py", "(?:[0-9]+ )", "(?:-?[0-9]+ )"),
@@ -294,7 +352,7 @@ EDITS = (
 )
 
 # The files that a library has no part in.
-BESIDE = ("book.py", "bounds.py", "library.py", "ring.py", "run.py")
+BESIDE = ("book.py", "bounds.py", "library.py", "mirror.py", "ring.py", "run.py")
 
 
 def seen_by_calls():
@@ -315,21 +373,24 @@ def wrong_copy(edit, folder):
 
 
 def tests_of(file):
-    return {"ring.py": "test_ring.py", "bounds.py": "test_bounds.py"}.get(file, "test_reference.py")
+    """The file of the tests; for mirror.py the class of its own tests alone."""
+    return {"ring.py": ["test_ring.py"], "bounds.py": ["test_bounds.py"],
+            "mirror.py": ["test_reference.py", "UpAndDown"]}.get(file, ["test_reference.py"])
 
 
 def tests_pass(folder, tests):
     environment = {**os.environ, "PYTHONDONTWRITEBYTECODE": "1"}
-    run = subprocess.run([sys.executable, tests, "--failfast"], cwd=folder,
+    run = subprocess.run([sys.executable, *tests, "--failfast"], cwd=folder,
                          env=environment, capture_output=True)
-    if any(word in run.stderr for word in (b"SyntaxError", b"NameError", b"ImportError", b"TypeError")):
+    # "places for": the edit stands in the way of another, which the tests apply.
+    if any(word in run.stderr for word in (b"SyntaxError", b"NameError", b"ImportError", b"TypeError", b"places for")):
         raise SystemExit(run.stderr.decode() + "the edit does not run")
     return run.returncode == 0
 
 
 def main():
     for tests in ("test_reference.py", "test_ring.py", "test_bounds.py"):
-        if not tests_pass(HERE, tests):
+        if not tests_pass(HERE, [tests]):
             raise SystemExit(f"{tests} fails without any edit")
     survived = []
     for edit in EDITS:

@@ -1,9 +1,10 @@
-"""Random calls on both sides, single and in lists with their book."""
+"""Random calls on both sides, single and in lists with their book; half of the lists also as their mirror image."""
 
 import collections
 import time
 
 import bounds
+import mirror
 from book import Book
 from draws import Draws, is_known, same_size_grids, to_bits
 from instrument import D, KINDS, LINE_KINDS, moving
@@ -14,16 +15,23 @@ from step import one_step
 REFERENCE = Reference()
 # The share of sizes around 64 points and a few times as many.
 LONG = 0.2
+# The share of lists that are also played as their mirror image.
+MIRRORED = 0.5
 
 
 class Difference(Exception):
-    """The library and the reference, or the book and the bound, do not agree."""
+    """The library and the reference, a call and its mirror image, or the book and the bound, do not agree."""
+
+
+def written(name, arguments):
+    """A call with all arguments, floats with their bits."""
+    listed = [f"{x!r} ({to_bits(x):#x})" if isinstance(x, float) else repr(x) for x in arguments]
+    return f"{name}({', '.join(listed)})"
 
 
 def shown(name, arguments, expected, found, sides=("reference", "library  ")):
-    """All arguments, floats with their bits, and both outcomes."""
-    listed = [f"{x!r} ({to_bits(x):#x})" if isinstance(x, float) else repr(x) for x in arguments]
-    return f"{name}({', '.join(listed)})\n{sides[0]} {expected}\n{sides[1]} {found}"
+    """A call and both outcomes."""
+    return f"{written(name, arguments)}\n{sides[0]} {expected}\n{sides[1]} {found}"
 
 
 def without_work(arguments):
@@ -41,6 +49,15 @@ def work_alone_is_wrong(arguments):
     _, columns, rows, *_ = arguments
     older, newer, work = (len(level) == columns * rows for level in arguments[6:9])
     return older and newer and not work
+
+
+def tell(book, name, arguments, outcome, *each_step):
+    """A call of a list, told to a book; the outcome of a block is without work."""
+    if name == "pluck":
+        book.pluck(*arguments)
+    else:
+        *_, hit, point, force = arguments
+        book.block(*arguments[:8], (point, force) if hit else None, *outcome[1:3], *each_step)
 
 
 class WatchedBook(Book):
@@ -68,8 +85,10 @@ class Run:
         self.library, self.draw, self.progress, self.stop_at = library, Draws(seed), progress, stop_at
         self.draw.long = LONG
         self.counts = collections.Counter()
+        # The book of the mirror image of the list that is played, None where that list is not mirrored.
+        self.image = None
 
-    def call(self, name, *arguments):
+    def agreed(self, name, arguments):
         """One call on both sides; the reference's outcome."""
         expected = getattr(REFERENCE, name)(*arguments)
         self.progress.value += 1
@@ -88,6 +107,42 @@ class Run:
             self.counts["inexact points"] += expected[2]
             self.counts["inexact blocks"] += expected[2] > 0
         return expected
+
+    def call(self, name, *arguments):
+        """One call on both sides, and its mirror image in a list that is mirrored; the reference's outcome."""
+        outcome = self.agreed(name, arguments)
+        if self.image:
+            self.call_image(name, arguments, outcome)
+        return outcome
+
+    def call_image(self, name, arguments, outcome):
+        """The mirror image of a call, also on both sides; where there is none, the mirror image of the list ends.
+
+        It takes the levels that the image's last call left: this check held there, so they are the list's own negated.
+        """
+        image = mirror.of_arguments(name, arguments)
+        if image is None:
+            self.image = None
+            self.counts["mirror images ended"] += 1
+            return
+        found = self.agreed(name, image)
+        if not mirror.is_image(name, outcome, found):
+            raise Difference(f"not the mirror image\n{written(name, arguments)}\n" + shown(
+                name, image, outcome, found, ("the first ", "the second")))
+        self.count_image(name, arguments, outcome)
+
+    def count_image(self, name, arguments, outcome):
+        """What became of a call and its mirror image."""
+        refusal = outcome[0]
+        self.counts["mirrored calls"] += 1
+        self.counts["mirrored, refused"] += 1 <= refusal <= 12
+        if name == "pluck":
+            self.counts["mirrored plucks"] += refusal == 0
+            return
+        steps, hit = outcome[1], arguments[-3]
+        self.counts["mirrored hits"] += hit > 0 and steps > 0
+        if refusal == 13:
+            self.counts["mirrored, 13 later" if steps else "mirrored, 13 first"] += 1
 
     def block_arguments(self, grid, settings, older, newer):
         """Those of a block, with drawn work, samples, pick-up and hit."""
@@ -149,8 +204,7 @@ class Run:
     def block_beside(self, book, grid, settings, older, newer):
         """A block with its book, every sample beside the book after as many steps; the outcome."""
         arguments = self.block_arguments(grid, settings, older, newer)
-        pick_up, hit, *given = arguments[10:]
-        outcome = self.either_block(arguments)
+        pick_up, outcome = arguments[10], self.either_block(arguments)
 
         def heard(number):
             sample = outcome[5][number]
@@ -160,8 +214,14 @@ class Run:
                                  f"sample {sample}\nbook {book.newer[pick_up]}\nscale {book.scale}")
             self.counts["samples beside the book"] += 1
 
-        book.block(*grid, *settings, older, newer, given if hit else None, *outcome[1:3], heard)
+        self.tell_books(book, "block", arguments, outcome, heard)
         return outcome
+
+    def tell_books(self, book, name, arguments, outcome, *each_step):
+        """A call of a list, told to its book; its mirror image, whose counts are the same, to the image's book."""
+        tell(book, name, arguments, outcome, *each_step)
+        if self.image:
+            tell(self.image, name, mirror.of_arguments(name, arguments), outcome)
 
     def settings(self, kind):
         return self.draw.even_settings(kind) if self.draw.rarely(0.3) else self.draw.settings(kind)
@@ -181,12 +241,23 @@ class Run:
                              f"older {older}\nnewer {newer}\nbook {book.older}\n{book.newer}\nscale {book.scale}")
         return book.count_tells(older, newer)
 
+    def compare_books(self, book, newer):
+        """Checks the book of the mirror image of a list beside the list's own."""
+        if not mirror.is_image_book(book, newer, self.image):
+            raise Difference(f"not the book of the mirror image\nnewer {newer}\n"
+                             f"book  {vars(book)}\nimage {vars(self.image)}")
+
     def one_list(self):
-        """A list of calls with its book; bound and counts are checked at every call, the bound at every sample too."""
+        """A list of calls with its book; bound and counts are checked at every call, the bound at every sample too.
+
+        MIRRORED of the lists are played as their mirror image too, call by call.
+        """
         draw = self.draw
         grid, settings, older, newer = self.start()
         used, exact = [(grid, settings)], 0
         book = (WatchedBook if draw.rarely(0.25) else Book)(older, newer)
+        self.image = Book(mirror.negated(older), mirror.negated(newer)) if draw.rarely(MIRRORED) else None
+        hits_before = self.counts["mirrored hits"]
         length = draw.randint(1, 10) if draw.rarely(0.95) else draw.randint(10, 50)
         for _ in range(length):
             grid, settings = draw.choice(used)
@@ -197,7 +268,7 @@ class Run:
             if draw.rarely(0.12):
                 arguments = self.pluck_arguments(grid, older, newer)
                 outcome = self.call("pluck", *arguments)
-                book.pluck(*arguments)
+                self.tell_books(book, "pluck", arguments, outcome)
                 older, newer = outcome[1:3]
             else:
                 outcome = self.block_beside(book, grid, settings, older, newer)
@@ -210,6 +281,12 @@ class Run:
                                  f"newer {newer}\nbook {book.newer}\nscale {book.scale}")
             self.counts["far"] += book.n > 0 and book.distance(newer) > 0
             exact += self.counted(book, older, newer)
+            if self.image:
+                self.compare_books(book, newer)
+        if self.image:
+            self.counts["mirrored lists"] += 1
+            self.counts["mirrored lists with hits"] += self.counts["mirrored hits"] > hits_before
+            self.image = None
         self.counts["lists"] += 1
         self.counts["calls in lists"] += length
         self.counts["exact lists"] += exact > 0

@@ -1,4 +1,5 @@
-"""Tests of the reference: the paper's examples, its rules for T, energy, distance and counts, each refusal, both blocks."""
+"""Tests of the reference: the paper's examples, its rules for T, energy, distance and counts, each refusal, both
+blocks, mirror images; and of the lists and calls of run.py."""
 
 import math
 import multiprocessing
@@ -11,12 +12,14 @@ import calls
 import draws
 import in_place
 import instrument
+import mirror
+import must_fail
 import pluck
 import run
 import sheet
 import step
 from instrument import CEILING, D, KINDS, LINE_KINDS
-from library import Reference, stand_in
+from library import Reference, stand_in, wrong_stand_in
 from sheet import Sheet
 
 PLAIN = Sheet(1.0, 2.0, 0.0, ("tension", 0.25, 1.0), ("per second", 0.0))
@@ -1057,21 +1060,28 @@ class Parted(Reference):
         return self.other(*super().block_in_place(*arguments))
 
 
+def play(library, lists=200, singles=0, odds=0.0, stop_at=None):
+    """The counts of a comparison with so many lists and single calls."""
+    playing = run.Run(library, "comparison", multiprocessing.Value("Q", 0, lock=False), stop_at)
+    playing.draw.odds = odds
+    for _ in range(lists):
+        playing.one_list()
+    for _ in range(singles):
+        playing.one_call()
+    return playing.counts
+
+
+# Every list of the comparison with its mirror image.
+all_mirrored = mock.patch.object(run, "MIRRORED", 1.0)
+
+
 class Comparison(unittest.TestCase):
     """run.py: the lists and the single calls of the comparison."""
 
-    def play(self, library, lists=200, singles=0, odds=0.0):
-        playing = run.Run(library, "comparison", multiprocessing.Value("Q", 0, lock=False))
-        playing.draw.odds = odds
-        for _ in range(lists):
-            playing.one_list()
-        for _ in range(singles):
-            playing.one_call()
-        return playing.counts
-
     def test_draws(self):
-        """Lists whose counts stay 0 over steps, and blocks with inexact points, are drawn often enough."""
-        counts = self.play(Reference())
+        """Lists whose counts stay 0 over steps, mirrored lists, blocks with inexact points are drawn often enough."""
+        counts = play(Reference())
+        self.assertTrue(counts["lists"] / 3 < counts["mirrored lists"] < counts["lists"] / 1.5)
         self.assertGreater(counts["exact lists"], counts["lists"] // 5)
         self.assertGreater(counts["exact calls"], counts["exact lists"])
         self.assertGreater(counts["inexact blocks"], 300)
@@ -1097,11 +1107,11 @@ class Comparison(unittest.TestCase):
 
     def test_draws_of_both_blocks(self):
         """Lists use each block and both; single blocks are given to both, with 13 at every place, and with work of a wrong length."""
-        counts = self.play(Reference())
+        counts = play(Reference())
         blocks, in_place = (sum(counts[key] for key in counts if key[0] == name) for name in ("block", "block_in_place"))
         self.assertGreater(min(blocks, in_place), 400)
         self.assertTrue(100 < counts["both"] < min(blocks, in_place) / 2)
-        counts = self.play(Reference(), 0, 2000, 0.05)
+        counts = play(Reference(), 0, 2000, 0.05)
         blocks, in_place = (sum(counts[key] for key in counts if key[0] == name) for name in ("block", "block_in_place"))
         self.assertEqual((blocks, in_place), (counts["both"], counts["both"]))
         for what, least in (("both, 13 first", 20), ("both, 13 later", 10), ("both, 13 last point", 10),
@@ -1117,11 +1127,11 @@ class Comparison(unittest.TestCase):
                       lambda *rest: (*rest[:5], [0] * len(rest[5])),
                       lambda refusal, *rest: (0 if refusal == 13 else refusal, *rest)):
             with mock.patch.object(run, "REFERENCE", Parted(other)), self.assertRaisesRegex(run.Difference, "^both blocks"):
-                self.play(Parted(other), 0, 300)
+                play(Parted(other), 0, 300)
 
     def test_stand_in(self):
         """The reference behind C functions, and its count of 0 written where a block is refused."""
-        self.play(stand_in(), 40)
+        play(stand_in(), 40)
         arguments = 1, 3, 1, 16384, 0, 0, [0, 1, 0], [0, 1, 0], [7] * 3, [9] * 2
         self.assertEqual(stand_in().block(*arguments, 1, 0, 0, 0), (0, 2, 2, [0, 1, 0], [0, 1, 0], [0] * 3, [0] * 2))
         self.assertEqual(stand_in().block(*arguments, 3, 0, 0, 0), (9, 0, 0, *arguments[6:]))
@@ -1133,14 +1143,209 @@ class Comparison(unittest.TestCase):
         for count in (lambda inexact: 0, lambda inexact: inexact + 1, lambda inexact: min(inexact, 9),
                       lambda inexact: int(inexact > 0)):
             with self.assertRaisesRegex(run.Difference, "^block"):
-                self.play(Counting(count))
+                play(Counting(count))
 
     def test_levels_that_are_not_as_counted(self):
         """Where both sides agree on too small a count, the lists find it."""
         for count in (lambda inexact: 0, lambda inexact: max(inexact - 1, 0), lambda inexact: inexact // 3):
             with mock.patch.object(run, "REFERENCE", Counting(count)), \
                     self.assertRaisesRegex(run.Difference, "^no inexact point counted"):
-                self.play(Counting(count))
+                play(Counting(count))
+
+
+class UpAndDown(unittest.TestCase):
+    """Request 5: "negated levels, negated samples for the steps done, equal counts and equal refusals, all along"."""
+
+    # By call: an outcome and its mirror image. In the first a later place is 0, its own negative.
+    outcomes = (("block", (13, 2, 3, [0, 5, 0], [0, 6, -7], [4, 0, -4], [7, -8, 0, 9]),
+                 (13, 2, 3, [0, -5, 0], [0, -6, 7], [4, 0, -4], [-7, 8, 0, 9])),
+                ("block_in_place", (0, 1, 2, [0, 5, 0], [0, 6, -7], [7]), (0, 1, 2, [0, -5, 0], [0, -6, 7], [-7])),
+                ("block_in_place", (8, 0, 0, [0, 5], [6], [7, 9]), (8, 0, 0, [0, -5], [-6], [7, 9])),
+                ("pluck", (0, [0, 3, 1], [0, 3, 1]), (0, [0, -3, -1], [0, -3, -1])))
+
+    def pair(self, name, *arguments):
+        """The outcomes of a call and of its mirror image, after a look that one is the mirror image of the other."""
+        call, image = getattr(Reference(), name), mirror.of_arguments(name, arguments)
+        first, second = call(*arguments), call(*image)
+        self.assertTrue(mirror.is_image(name, first, second), arguments)
+        return first, second
+
+    def blocks(self, *arguments):
+        """Those of a block, without work; those of the block in place are the same."""
+        three = tuple(run.left_without_work(outcome) for outcome in self.pair("block", *arguments))
+        self.assertEqual(self.pair("block_in_place", *run.without_work(arguments)), three)
+        return three
+
+    def test_arguments(self):
+        """Levels, force and height negated; all else the same, and the force without a hit."""
+        before, lent = (4, 4, 1, 16384, 5, 8), ([1, -2, 3, -4], [11, -12], 3)
+        levels, image = ([0, 5, -6, 0], [0, 7, 8, 0]), ([0, -5, 6, 0], [0, -7, -8, 0])
+        for hit, force, negative in ((1, 100, -100), (2**64 - 1, -7, 7), (0, 100, 100)):
+            self.assertEqual(mirror.of_arguments("block", (*before, *levels, *lent, hit, 2, force)),
+                             (*before, *image, *lent, hit, 2, negative))
+            self.assertEqual(mirror.of_arguments("block_in_place", (*before, *levels, *lent[1:], hit, 2, force)),
+                             (*before, *image, *lent[1:], hit, 2, negative))
+        for centre in (0, 2):
+            self.assertEqual(mirror.of_arguments("pluck", (4, 4, 1, *levels, centre, 3, -77)),
+                             (4, 4, 1, *image, centre, 3, 77))
+
+    def test_arguments_without_negative(self):
+        """-2^63 at a point of older or newer, as a force or a height; not in work, nor as the force without a hit."""
+        low, rest = -2**63, [0, 0, 0]
+        for older, newer, work, hit, strength, is_there in (
+                (rest, rest, rest, 1, 5, True), ([low + 1, 0, 0], [0, low + 1, 0], rest, 1, low + 1, True),
+                ([0, low, 0], rest, rest, 1, 5, False), (rest, [0, 0, low], rest, 1, 5, False),
+                (rest, rest, rest, 1, low, False), (rest, rest, rest, 0, low, True),
+                (rest, rest, [low, 0, 0], 1, 5, True)):
+            block = 1, 3, 1, 0, 0, 0, older, newer, work, [9], 1, hit, 1, strength
+            self.assertEqual(mirror.of_arguments("block", block) is not None, is_there)
+            self.assertEqual(mirror.of_arguments("block_in_place", run.without_work(block)) is not None, is_there)
+            pluck = 1, 3, 1, older, newer, 1, 1, strength
+            self.assertEqual(mirror.of_arguments("pluck", pluck) is not None, is_there and strength != low)
+
+    def test_outcome(self):
+        for name, outcome, image in self.outcomes:
+            self.assertEqual(mirror.of_outcome(name, outcome), image)
+
+    def test_outcome_in_every_part(self):
+        for name, outcome, image in self.outcomes:
+            self.assertTrue(mirror.is_image(name, outcome, image))
+            for place, part in enumerate(image):
+                other = [*part[:-1], part[-1] + 1] if isinstance(part, list) else part + 1
+                found = *image[:place], other, *image[place + 1:]
+                self.assertFalse(mirror.is_image(name, outcome, found), (name, found))
+
+    def books(self):
+        """The book of a list (a pluck, three steps, a hit in the first), its newer, the book of its mirror image."""
+        kept = []
+        for sign in (1, -1):
+            start, level, hit = [7 * sign] * 5, [sign * value for value in (0, 1, 3, 1, 0)], (1, 5 * sign)
+            kept.append(book.Book(start, start))
+            kept[-1].pluck(1, 5, 1, start, start, 2, 2, 3 * sign)
+            answer, _, newer, _ = calls.block_in_place(1, 5, 1, 999, 0, 8, level, level, [9] * 3, 1, hit)
+            kept[-1].block(1, 5, 1, 999, 0, 8, level, level, hit, *answer[:2])
+        return kept[0], [-value for value in newer], kept[1]
+
+    def test_books(self):
+        """n, last step, sum, energy and distance are those of the list's book, the levels their negatives."""
+        first, newer, second = self.books()
+        self.assertTrue(mirror.is_image_book(first, newer, second))
+        self.assertEqual((second.n, second.last), (3, ((1, 5, 1), (999, 0, 8))))
+        self.assertEqual((second.older, second.newer), ([-x for x in first.older], [-x for x in first.newer]))
+        self.assertEqual(second.energy(), first.energy())
+        self.assertEqual(second.distance([-x for x in newer]), first.distance(newer))
+        self.assertGreater(min(second.inexact, second.energy(), first.distance(newer)), 0)
+        self.assertTrue(mirror.is_image_book(book.Book([3], [4]), [4], book.Book([-3], [-4])))
+
+    def test_books_in_every_part(self):
+        """Energy and distance, which levels and last step give, answer 7 here, so that each part is seen alone."""
+        for name, other in (("older", [0] * 5), ("newer", [0] * 5), ("n", 2), ("scale", 1), ("inexact", 0),
+                            ("last", ((4, 5, 1), (999, 0, 8))), ("energy", lambda: 8), ("distance", lambda newer: 8)):
+            first, newer, second = self.books()
+            with mock.patch.multiple(book.Book, energy=lambda kept: 7, distance=lambda kept, newer: 7):
+                self.assertTrue(mirror.is_image_book(first, newer, second))
+                setattr(second, name, other)
+                self.assertFalse(mirror.is_image_book(first, newer, second), name)
+
+    def test_c_and_d(self):
+        c, d = self.pair("block", 1, 3, 1, 16384, 0, 0, [0, 1, 0], [0, 1, 0], [7] * 3, [5], 1, 0, 0, 0)
+        self.assertEqual(c, (0, 1, 1, [0, 1, 0], [0, 1, 0], [0] * 3, [0]))
+        self.assertEqual(d, (0, 1, 1, [0, -1, 0], [0, -1, 0], [0] * 3, [0]))
+
+    def test_hit(self):
+        """The listing of ring, struck from above and from below."""
+        rest = [0] * 3
+        first, second = self.blocks(1, 3, 1, D, 0, 0, rest, rest, rest, [9] * 4, 1, 1, 1, 268435456)
+        self.assertEqual((first[:2], first[5]), ((0, 4), [1, 0, -1, 0]))
+        self.assertEqual((second[:2], second[5]), ((0, 4), [-1, 0, 1, 0]))
+
+    def test_pluck(self):
+        """Entry 512 of T is 32768: 3/2 and -3/2 are cut to 1 and -1."""
+        above, below = [0, 1, 3, 1, 0], [0, -1, -3, -1, 0]
+        self.assertEqual(self.pair("pluck", 1, 5, 1, [9] * 5, [8] * 5, 2, 2, 3), ((0, above, above), (0, below, below)))
+
+    def test_samples(self):
+        """"This rests on the read-out rounding to nearest"; q, m and s 0, older as newer."""
+        for value, sample in ((3, 0), (2**27 - 1, 0), (2**27, 1), (3 * 2**27, 2), (CEILING, 32767)):
+            level = [0, value, 0]
+            first, second = self.blocks(1, 3, 1, 0, 0, 0, level, level, [7] * 3, [9, 9], 1, 0, 0, 0)
+            self.assertEqual((first[5], second[5]), ([sample] * 2, [-sample] * 2))
+
+    def test_thirteen(self):
+        """With q 0 the middle grows by 9362 sample units a step; from the step not done on the lent places stay."""
+        grow = 9362 * 2**28
+        for steps, above, below in ((0, [7, 8, 9], [7, 8, 9]), (1, [32767, 8, 9], [-32767, 8, 9]),
+                                    (2, [23405, 32767, 9], [-23405, -32767, 9])):
+            newer = CEILING - steps * grow
+            levels = [0, newer - grow, 0], [0, newer, 0], [4] * 3
+            first, second = self.blocks(1, 3, 1, 0, 0, 0, *levels, [7, 8, 9], 1, 0, 0, 0)
+            self.assertEqual(first, (13, steps, 0, [0, CEILING - grow, 0], [0, CEILING, 0], above))
+            self.assertEqual(second, (13, steps, 0, [0, grow - CEILING, 0], [0, -CEILING, 0], below))
+
+    def test_refused(self):
+        """7, 8, 11 and 12, by a number above zero and by one below."""
+        for sign in (1, -1):
+            rest, beyond = [0] * 4, sign * (CEILING + 1)
+            for refusal, older, newer, point, force in (
+                    (7, rest, rest, 0, sign), (7, rest, rest, 3, sign * CEILING), (8, rest, rest, 1, beyond),
+                    (11, [0, beyond, 0, 0], rest, 1, 5), (11, rest, [0, 0, 0, beyond], 1, 5),
+                    (12, [sign, 0, 0, 0], rest, 1, 5), (12, rest, [0, 0, 0, sign], 1, 5)):
+                first, second = self.blocks(1, 4, 1, D, 0, 0, older, newer, [4] * 4, [7, 8], 1, 1, point, force)
+                self.assertEqual(first, (refusal, 0, 0, older, newer, [7, 8]))
+                self.assertEqual(second, (refusal, 0, 0, [-x for x in older], [-x for x in newer], [7, 8]))
+            for refusal, centre, height in ((7, 0, sign), (8, 1, beyond)):
+                lent = [sign, 2, 3, 4], [5, 6, 7, beyond]
+                first, second = self.pair("pluck", 1, 4, 1, *lent, centre, 1, height)
+                self.assertEqual(first, (refusal, *lent))
+                self.assertEqual(second, (refusal, *([-x for x in level] for level in lent)))
+
+    def recorded(self, lists):
+        """The counts of lists of the comparison, and the calls that were made, each a name and arguments."""
+        library = mock.Mock(wraps=Reference())
+        counts = play(library, lists)
+        return counts, [(name, arguments) for name, arguments, _ in library.method_calls]
+
+    @all_mirrored
+    def test_random_lists(self):
+        """Every kind, plucks, hits, refused calls and 13; after each call its mirror image, which is counted too."""
+        counts, made = self.recorded(150)
+        for (name, arguments), image in zip(made[::2], made[1::2]):
+            self.assertEqual(image, (name, mirror.of_arguments(name, arguments)))
+        self.assertEqual((counts["mirrored lists"], 2 * counts["mirrored calls"]), (150, len(made)))
+        self.assertEqual(sum(counts[key] for key in counts if isinstance(key, tuple)), len(made))
+        for what in ("mirrored lists with hits", "mirrored, refused", "mirrored, 13 first", "mirrored, 13 later",
+                     "mirrored plucks", *(f"kind {kind}" for kind in KINDS)):
+            self.assertGreater(counts[what], 3, what)
+
+    @all_mirrored
+    def test_random_lists_without_negative(self):
+        """The mirror image of a list ends before a call that has none."""
+        counts = play(Reference(), odds=0.3)
+        self.assertGreater(counts["mirror images ended"], 0)
+        self.assertEqual(counts["mirrored lists"] + counts["mirror images ended"], counts["lists"])
+
+    def test_same_calls_again(self):
+        """The call during which a process ended is found by its number, the mirror image of a call too."""
+        _, made = self.recorded(20)
+        for number in range(1, 60, 7):
+            with self.assertRaises(run.Difference) as ended:
+                play(Reference(), 20, stop_at=number)
+            self.assertTrue(str(ended.exception).startswith(run.written(*made[number - 1])))
+
+    @all_mirrored
+    def test_wrong_calls(self):
+        """A wrong copy of the calls, on both sides, beside its own mirror image; both calls are told."""
+        for edit in must_fail.ONE_SIDED:
+            wrong = wrong_stand_in(edit)
+            with self.subTest(edit[0]), mock.patch.object(run, "REFERENCE", wrong), \
+                    self.assertRaisesRegex(run.Difference, r"^not the mirror image\n(\w+)\(.*\)\n\1\(.*\)\n"):
+                play(wrong, 1000, odds=0.1)
+
+    @all_mirrored
+    def test_book_that_is_not_alike(self):
+        with mock.patch.object(mirror, "is_image_book", return_value=False), \
+                self.assertRaisesRegex(run.Difference, "^not the book of the mirror image"):
+            play(Reference(), 1)
 
 
 if __name__ == "__main__":
