@@ -26,23 +26,24 @@ use Rattle.scheme.specs.FurtherExamples.{inPlaceTurnedDown, inPlaceEmpty
 use Rattle.scheme.specs.FurtherExamples.{pluckedBook, pluckThenStep, outcomes, inPlaceOutcomes, distances, halfOff, FurtherHold}
 use Rattle.scheme.specs.PlateExamples as Plates
 use Rattle.scheme.specs.PlateExamples.{PlatesHold}
-use Rattle.scheme.specs.MirrorExamples as Pairs
-use Rattle.scheme.specs.MirrorExamples.{MirrorsHold, PairsHold, LowestRefused}
+use Rattle.scheme.specs.MirrorExamples as Runs
+use Rattle.scheme.specs.MirrorExamples.{MirrorsHold, RunsHold, LowestBeyond}
 
--- first, so that a definition by which up and down differ is refused as such
+-- first, so that a definition by which up and down differ is refused by `MirrorImage`
 pub mirrors-hold : MirrorsHold
 unfolding sumOver tabulate someBelow countBelow only kindOf sizeIn stableIn fixedIn moving freeIn beside neighbours laplacian innerLaplacian
     numerator roundAway nextAt nextLevel inexactAt inexactIn someBeyond sampleOf table pluckAt pluckLevel fixedNotZero blockRefusal
     pluckRefusal play capped block blockInPlace pluck unroundedAt unroundedStep unroundedSteps goesOn bookBlock bookPluck sumBlock sumPluck
     leaves bookCall sumCall calls
-mirrors-hold Pairs.halves = refl
-mirrors-hold Pairs.readOut = refl
-mirrors-hold Pairs.struck = refl
-mirrors-hold Pairs.ended = refl
-mirrors-hold Pairs.plucked = refl
-mirrors-hold Pairs.tooHigh = refl
-mirrors-hold Pairs.notZero = refl
-mirrors-hold Pairs.tooStrong = refl
+mirrors-hold Runs.halves = refl
+mirrors-hold Runs.readOut = refl
+mirrors-hold Runs.struck = refl
+mirrors-hold Runs.bent = refl
+mirrors-hold Runs.ended = refl
+mirrors-hold Runs.plucked = refl
+mirrors-hold Runs.tooHigh = refl
+mirrors-hold Runs.notZero = refl
+mirrors-hold Runs.tooStrong = refl
 
 pub examples-hold : ExamplesHold
 unfolding tabulate only kindOf countBelow sumOver sizeIn stableIn roundEdge fixedIn moving freeIn beside neighbours laplacian
@@ -157,19 +158,19 @@ plates-hold Plates.blockEnded = (refl, refl)
 plates-hold Plates.energies = refl
 plates-hold Plates.book = refl
 
-pub pairs-hold : PairsHold
+pub runs-hold : RunsHold
 unfolding sumOver tabulate someBelow countBelow only kindOf sizeIn stableIn fixedIn moving freeIn beside neighbours laplacian innerLaplacian
     numerator roundAway nextAt nextLevel inexactAt inexactIn someBeyond sampleOf table pluckAt pluckLevel fixedNotZero blockRefusal
     pluckRefusal play capped block blockInPlace pluck leaves calls
-pairs-hold Pairs.halves = refl
-pairs-hold Pairs.readOut = refl
-pairs-hold Pairs.struck = refl
-pairs-hold Pairs.ended = refl
-pairs-hold Pairs.plucked = refl
-pairs-hold Pairs.tooHigh = refl
-pairs-hold Pairs.notZero = refl
-pairs-hold Pairs.tooStrong = refl
+runs-hold Runs.halves = refl
+runs-hold Runs.readOut = refl
+runs-hold Runs.struck = refl
+runs-hold Runs.bent = refl
+runs-hold Runs.ended = refl
+runs-hold Runs.plucked = refl
+runs-hold Runs.tooHigh = refl
+runs-hold Runs.notZero = refl
+runs-hold Runs.tooStrong = refl
 
-pub lowest-refused : LowestRefused
-unfolding someBelow kindOf sizeIn stableIn fixedIn moving someBeyond fixedNotZero blockRefusal pluckRefusal
-lowest-refused = (refl, refl, refl)
+pub lowest-beyond : LowestBeyond
+lowest-beyond = refl

@@ -9,3 +9,4 @@ pub mod Distance
 pub mod Program
 pub mod Exact
 pub mod Mirror
+pub mod MirrorProgram

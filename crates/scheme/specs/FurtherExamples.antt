@@ -32,7 +32,7 @@ abbrev instrumentNumbers : List Instrument → List ℕ
 instrumentNumbers is = map (λ i. number (instrumentRefusal i)) is
 
 -- a string of four points at rest, and what a block of it is refused by
-abbrev rest : List ℤ
+abbrev pub rest : List ℤ
 rest = level (0 ∷ 0 ∷ 0 ∷ 0 ∷ [])
 
 abbrev string : Instrument
@@ -53,7 +53,7 @@ abbrev five : List ℤ
 five = level (0 ∷ 0 ∷ 0 ∷ 0 ∷ 0 ∷ [])
 
 -- one more than the ceiling
-abbrev above : ℕ
+abbrev pub above : ℕ
 above = ceiling + 1
 
 -- ---- a list of calls
@@ -61,7 +61,7 @@ above = ceiling + 1
 abbrev voice : ℕ → Instrument
 voice s = instrument 1 4 1 10000 0 s
 
-abbrev nines : List ℤ
+abbrev pub nines : List ℤ
 nines = level (9 ∷ 9 ∷ 9 ∷ 9 ∷ [])
 
 -- two steps with a hit; the same refused; one step; one step with another loss; no step, with a hit; a pluck; a pluck refused
@@ -99,7 +99,7 @@ abbrev after : List Call → State
 after ks = fromHere ks .state
 
 -- what each call answered
-abbrev pub outcomesOf : AfterCalls → List Outcome
+abbrev outcomesOf : AfterCalls → List Outcome
 outcomesOf a = map (λ (l : Left). l .outcome) (a .left)
 
 -- where the book goes on through three steps

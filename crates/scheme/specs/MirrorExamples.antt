@@ -1,122 +1,133 @@
--- Mirrored pairs: small lists of calls, each of which the definitions compute together with its mirror image, and what each answers.
+-- Mirrored runs: small lists of calls, each of which the definitions compute together with its mirror image, and what each leaves.
 -- `MirrorImage` says it of every list; a definition by which up and down differ is refused at the row that it breaks.
 -- The numbers come from the reference in another language under host/.
 use mathlib.Core.Path.{_≡_}
-use mathlib.Core.Bool.{false}
+use mathlib.Core.Bool.{true}
 use mathlib.Core.List.{List, [], _∷_}
-use Prim.Native.Nat.{ℕ, _+_, _^_}
+use Prim.Native.Nat.{ℕ, _^_}
 use lib.IntN.{ℤ, pos}
 use Rattle.types.specs.declared.Instrument.{Instrument}
 use Rattle.types.specs.declared.Hit.{Hit}
 use Rattle.types.specs.declared.Hit.the-variants.{Absent, At}
-use Rattle.types.specs.declared.BlockAnswer.{BlockAnswer}
 use Rattle.types.specs.declared.Refusal.{Refusal}
 use Rattle.types.specs.declared.Refusal.the-variants.{Nothing, NotMoving, TooStrong, PointBeyond, FixedNotZero, NextBeyond}
-use Rattle.types.specs.Numbers.{ceiling}
-use Rattle.scheme.specs.Refusals.{blockRefusal, pluckRefusal}
-use Rattle.scheme.specs.Book.{Call, blockCall, inPlaceCall, pluckCall, Outcome, blockOutcome, inPlaceOutcome, pluckOutcome}
-use Rattle.scheme.specs.Book.{start, calls}
+use Rattle.scheme.specs.Instruments.{beyond}
+use Rattle.scheme.specs.Book.{Call, blockCall, inPlaceCall, pluckCall, blockOutcome, inPlaceOutcome, pluckOutcome, Left, start, calls}
 use Rattle.scheme.specs.Mirror.{MirroredFrom}
 use Rattle.scheme.specs.Examples.{grid, instrument, level, minus, middle3}
-use Rattle.scheme.specs.FurtherExamples.{outcomesOf}
+use Rattle.scheme.specs.FurtherExamples.{rest, nines, above}
 
--- two levels, a list of calls from there, and its answers
-pub record Pair : Type 0 where
+-- two levels, a list of calls from there, and what each call leaves
+pub record Run : Type 0 where
   pub older : List ℤ
   pub newer : List ℤ
   pub list : List Call
-  pub answers : List Outcome
+  pub left : List Left
 
-abbrev answer : (steps inexact : ℕ) → Refusal → BlockAnswer
-answer k c r = record { steps = k; inexact = c; refusal = r }
+-- what a block leaves: steps, inexact points, refusal, work, samples, levels; the same on two levels; and a pluck
+abbrev blockLeaves : (steps inexact : ℕ) → Refusal → (work samples older newer : List ℤ) → Left
+blockLeaves k c r work samples older newer =
+    record { outcome = blockOutcome (record { steps = k; inexact = c; refusal = r }) work samples; older = older; newer = newer }
 
-abbrev zeros : List ℤ
-zeros = level (0 ∷ 0 ∷ 0 ∷ 0 ∷ [])
+abbrev inPlaceLeaves : (steps inexact : ℕ) → Refusal → (samples older newer : List ℤ) → Left
+inPlaceLeaves k c r samples older newer =
+    record { outcome = inPlaceOutcome (record { steps = k; inexact = c; refusal = r }) samples; older = older; newer = newer }
 
-abbrev nines : List ℤ
-nines = level (9 ∷ 9 ∷ 9 ∷ 9 ∷ [])
-
-abbrev fives : List ℤ
-fives = level (5 ∷ 5 ∷ 5 ∷ 5 ∷ 5 ∷ [])
+abbrev pluckLeaves : Refusal → List ℤ → Left
+pluckLeaves r xs = record { outcome = pluckOutcome r; older = xs; newer = xs }
 
 -- four points that go on as they went: q, m and s are 0
 abbrev onward : Instrument
 onward = instrument 1 4 1 0 0 0
 
--- three points, and a block of one place that is refused: by what is lent, or by its hit
-abbrev three : Instrument
-three = instrument 1 3 1 0 0 0
+-- 3 units and half a sample unit
+abbrev low : List ℤ
+low = level (0 ∷ 3 ∷ 134217728 ∷ 0 ∷ [])
 
-abbrev refused : Hit → List Call
-refused h = blockCall three (middle3 (pos 9)) (level (7 ∷ [])) 1 h ∷ []
+-- a point that rises by 10¹² in a step
+abbrev rising : List ℤ
+rising = level (0 ∷ 1 ∷ 7000000000000 ∷ 0 ∷ [])
 
-abbrev asLent : Refusal → List Outcome
-asLent r = blockOutcome (answer 0 0 r) (middle3 (pos 9)) (level (7 ∷ [])) ∷ []
+abbrev risen : List ℤ
+risen = level (0 ∷ 3 ∷ 8000000000000 ∷ 0 ∷ [])
 
--- a pluck of five points with half width 2
+-- five points, and a pluck of them with half width 2
+abbrev shape : List ℤ
+shape = level (0 ∷ 1 ∷ 3 ∷ 1 ∷ 0 ∷ [])
+
 abbrev plucks : ℕ → ℤ → Call
 plucks c a = pluckCall (grid 1 5 1) c 2 a
 
-abbrev above : ℤ
-above = pos (ceiling + 1)
+-- a block of three points that is refused, by the levels or by the hit
+abbrev refusedBy : Refusal → (older newer : List ℤ) → Hit → Run
+refusedBy r older newer h = record {
+  older = older;
+  newer = newer;
+  list = blockCall (instrument 1 3 1 0 0 0) (middle3 (pos 9)) (level (7 ∷ [])) 1 h ∷ [];
+  left = blockLeaves 0 0 r (middle3 (pos 9)) (level (7 ∷ [])) older newer ∷ [];
+}
 
 pub data MirrorExample : Type 0 where
-  halves readOut struck ended plucked tooHigh notZero tooStrong : MirrorExample
+  halves readOut struck bent ended plucked tooHigh notZero tooStrong : MirrorExample
 
-abbrev pub pair : MirrorExample → Pair
+abbrev pub run : MirrorExample → Run
 -- C of the paper's table, whose mirror image is D
-pair halves = record {
+run halves = record {
   older = middle3 (pos 1);
   newer = middle3 (pos 1);
   list = blockCall (instrument 1 3 1 16384 0 0) (middle3 (pos 9)) (level (7 ∷ [])) 0 Absent ∷ [];
-  answers = blockOutcome (answer 1 1 Nothing) (middle3 (pos 0)) (level (0 ∷ [])) ∷ [];
+  left = blockLeaves 1 1 Nothing (middle3 (pos 0)) (level (0 ∷ [])) (middle3 (pos 1)) (middle3 (pos 1)) ∷ [];
 }
 -- 3 units read 0, and so do −3; half a sample unit reads 1, and its negative −1
-pair readOut = record {
-  older = level (0 ∷ 3 ∷ 134217728 ∷ 0 ∷ []);
-  newer = level (0 ∷ 3 ∷ 134217728 ∷ 0 ∷ []);
+run readOut = record {
+  older = low;
+  newer = low;
   list = blockCall onward nines (level (7 ∷ [])) 1 Absent ∷ inPlaceCall onward (level (7 ∷ [])) 2 Absent ∷ [];
-  answers = blockOutcome (answer 1 0 Nothing) zeros (level (0 ∷ [])) ∷ inPlaceOutcome (answer 1 0 Nothing) (level (1 ∷ [])) ∷ [];
+  left = blockLeaves 1 0 Nothing rest (level (0 ∷ [])) low low ∷ inPlaceLeaves 1 0 Nothing (level (1 ∷ [])) low low ∷ [];
 }
--- a hit, with loss
-pair struck = record {
+-- two steps with loss, a hit in the first
+run struck = record {
   older = pos 0 ∷ pos 500000000 ∷ minus 900000000 ∷ pos 0 ∷ [];
   newer = pos 0 ∷ pos 800000000 ∷ minus 700000000 ∷ pos 0 ∷ [];
-  list = inPlaceCall (instrument 1 4 1 10000 0 5) (level (7 ∷ [])) 1 (At 1 (pos 805306368)) ∷ [];
-  answers = inPlaceOutcome (answer 1 2 Nothing) (level (6 ∷ [])) ∷ [];
+  list = inPlaceCall (instrument 1 4 1 10000 0 5) (level (7 ∷ 7 ∷ [])) 1 (At 1 (pos 805306368)) ∷ [];
+  left = inPlaceLeaves 2 4 Nothing (level (6 ∷ 7 ∷ [])) (pos 0 ∷ pos 1554273785 ∷ minus 164362765 ∷ pos 0 ∷ [])
+      (level (0 ∷ 1809064100 ∷ 658493719 ∷ 0 ∷ [])) ∷ [];
+}
+-- a stiff string
+run bent = record {
+  older = pos 0 ∷ pos 1 ∷ minus 2 ∷ pos 3 ∷ pos 0 ∷ [];
+  newer = pos 0 ∷ pos 5 ∷ minus 7 ∷ pos 4 ∷ pos 0 ∷ [];
+  list = inPlaceCall (instrument 4 5 1 10000 12000 5) (level (7 ∷ [])) 2 (At 2 (pos 9)) ∷ [];
+  left = inPlaceLeaves 1 3 Nothing (level (0 ∷ [])) (pos 0 ∷ pos 5 ∷ minus 7 ∷ pos 4 ∷ pos 0 ∷ [])
+      (pos 0 ∷ minus 4 ∷ pos 15 ∷ minus 7 ∷ pos 0 ∷ []) ∷ [];
 }
 -- 13 after a step, the later places as lent and not negated; then 13 at once
-pair ended = record {
+run ended = record {
   older = pos 0 ∷ minus 1 ∷ pos 6000000000000 ∷ pos 0 ∷ [];
-  newer = level (0 ∷ 1 ∷ 7000000000000 ∷ 0 ∷ []);
+  newer = rising;
   list = blockCall onward nines (level (7 ∷ 8 ∷ 9 ∷ [])) 2 Absent ∷ inPlaceCall onward (level (7 ∷ [])) 2 Absent ∷ [];
-  answers = blockOutcome (answer 1 0 NextBeyond) zeros (level (29802 ∷ 8 ∷ 9 ∷ [])) ∷
-      inPlaceOutcome (answer 0 0 NextBeyond) (level (7 ∷ [])) ∷ [];
+  left = blockLeaves 1 0 NextBeyond rest (level (29802 ∷ 8 ∷ 9 ∷ [])) rising risen ∷
+      inPlaceLeaves 0 0 NextBeyond (level (7 ∷ [])) rising risen ∷ [];
 }
 -- cut toward zero: 3 × 32768 / 65536 is 1, and −3 × 32768 / 65536 is −1; then plucks that 7 and 8 refuse
-pair plucked = record {
-  older = fives;
-  newer = fives;
-  list = plucks 2 (pos 3) ∷ plucks 0 (pos 3) ∷ plucks 2 above ∷ [];
-  answers = pluckOutcome Nothing ∷ pluckOutcome NotMoving ∷ pluckOutcome TooStrong ∷ [];
+run plucked = record {
+  older = level (5 ∷ 5 ∷ 5 ∷ 5 ∷ 5 ∷ []);
+  newer = level (6 ∷ 6 ∷ 6 ∷ 6 ∷ 6 ∷ []);
+  list = plucks 2 (pos 3) ∷ plucks 0 (pos 3) ∷ plucks 2 (pos above) ∷ [];
+  left = pluckLeaves Nothing shape ∷ pluckLeaves NotMoving shape ∷ pluckLeaves TooStrong shape ∷ [];
 }
--- 11, 12 and 8, by what lies above zero; in the mirror image below
-pair tooHigh = record { older = middle3 above; newer = middle3 (pos 0); list = refused Absent; answers = asLent PointBeyond }
-pair notZero = record { older = middle3 (pos 0); newer = level (1 ∷ 0 ∷ 0 ∷ []); list = refused Absent; answers = asLent FixedNotZero }
-pair tooStrong = record { older = middle3 (pos 0); newer = middle3 (pos 0); list = refused (At 1 above); answers = asLent TooStrong }
+-- 11, 12 and 8 by what lies above zero, in the mirror image below
+run tooHigh = refusedBy PointBeyond (middle3 (pos above)) (middle3 (pos 0)) Absent
+run notZero = refusedBy FixedNotZero (middle3 (pos 0)) (level (1 ∷ 0 ∷ 0 ∷ [])) Absent
+run tooStrong = refusedBy TooStrong (middle3 (pos 0)) (middle3 (pos 0)) (At 1 (pos above))
 
--- the mirror image of each, and what each answers
+-- the mirror image of each, and what each leaves
 abbrev pub MirrorsHold : Type 0
-MirrorsHold = (x : MirrorExample) → MirroredFrom (pair x .older) (pair x .newer) (pair x .list)
+MirrorsHold = (x : MirrorExample) → MirroredFrom (run x .older) (run x .newer) (run x .list)
 
-abbrev pub PairsHold : Type 0
-PairsHold = (x : MirrorExample) → outcomesOf (calls (pair x .list) (start (pair x .older) (pair x .newer))) ≡ pair x .answers
+abbrev pub RunsHold : Type 0
+RunsHold = (x : MirrorExample) → calls (run x .list) (start (run x .older) (run x .newer)) .left ≡ run x .left
 
--- −2⁶³, which has no negative of 64 bits: at a point, as a force and as a height
-abbrev lowest : ℤ
-lowest = minus (2 ^ 63)
-
-abbrev pub LowestRefused : Type 0
-LowestRefused = (blockRefusal three (middle3 lowest) (middle3 (pos 0)) false 1 Absent ≡ PointBeyond) ×
-    (blockRefusal three (middle3 (pos 0)) (middle3 (pos 0)) false 1 (At 1 lowest) ≡ TooStrong) ×
-    (pluckRefusal (grid 1 5 1) 5 5 2 2 lowest ≡ TooStrong)
+-- −2⁶³, which has no negative of 64 bits, lies beyond the ceiling: 11 refuses it as a point, 8 as a force or a height
+abbrev pub LowestBeyond : Type 0
+LowestBeyond = beyond (minus (2 ^ 63)) ≡ true

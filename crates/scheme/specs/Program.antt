@@ -24,7 +24,7 @@ unfoldable pub afterAll : List Made → State → State
 afterAll [] t = t
 afterAll (m ∷ ms) t = afterAll ms (stateAfter (m .call) (m .left) t)
 
--- what its calls asked
+-- the arguments of its calls
 abbrev pub callsOf : List Made → List Call
 callsOf ms = map (λ (m : Made). m .call) ms
 

@@ -58,6 +58,11 @@ force-negated (At p f) = fun-ext (λ k. go (eqb k p))
     go true = sym (minus-one f)
     go false = refl
 
+-- negated where a point moves, and 0 elsewhere
+pub cond-odd : (t : Bool) (x : ℤ) {y : ℤ} → y ≡ negℤ x → cond t y (pos 0) ≡ negℤ (cond t x (pos 0))
+cond-odd true x e = e
+cond-odd false x e = refl
+
 -- ---- a step: the numerator is odd, rounding is odd
 
 pub numerator-odd : (i : Instrument) (u p f : Level) (k : ℕ) → numerator i (negsuc 0 ⊡ u) (negsuc 0 ⊡ p) (negsuc 0 ⊡ f) k
@@ -74,15 +79,10 @@ module _ (i : Instrument) (h : Hit) (older newer : List ℤ) where
 
   pub next-mirrored : nextLevel i (mirrorHit h) (negated older) (negated newer) ≡ negated (nextLevel i h older newer)
   unfolding nextLevel nextAt
-  next-mirrored = sym (map-tabulate negℤ (points (i .grid)) _ _ (λ k l. go k (moving (i .grid) k)))
-    where
-      d : ℕ
-      d = divisor (i .settings)
-
-      go : (k : ℕ) (t : Bool) → negℤ (cond t (roundAway (num k) d) (pos 0))
-          ≡ cond t (roundAway (numerator i (point (negated newer)) (point (negated older)) (forceOf (mirrorHit h)) k) d) (pos 0)
-      go k true = sym (ap (λ n. roundAway n d) (num-odd k) ∙ round-odd (num k) d (omega arith))
-      go k false = refl
+  next-mirrored =
+      let d : ℕ = divisor (i .settings) in
+      sym (map-tabulate negℤ (points (i .grid)) _ _ (λ k l. sym (cond-odd (moving (i .grid) k) (roundAway (num k) d)
+      (ap (λ n. roundAway n d) (num-odd k) ∙ round-odd (num k) d (omega arith)))))
 
   pub inexact-mirrored : inexactIn i (mirrorHit h) (negated older) (negated newer) ≡ inexactIn i h older newer
   unfolding inexactIn inexactAt
@@ -205,12 +205,8 @@ cut-odd ts w a d =
 
 pub shape-mirrored : (ts : List ℕ) (g : Grid) (c w : ℕ) (a : ℤ) → pluckLevel ts g c w (negℤ a) ≡ negated (pluckLevel ts g c w a)
 unfolding pluckLevel pluckAt
-shape-mirrored ts g c w a = sym (map-tabulate negℤ (points g) _ _ (λ k l. go k (moving g k && leb (distanceFrom c k) w)))
-  where
-    go : (k : ℕ) (t : Bool) → negℤ (cond t (pluckValue ts w a (distanceFrom c k)) (pos 0))
-        ≡ cond t (pluckValue ts w (negℤ a) (distanceFrom c k)) (pos 0)
-    go k true = sym (cut-odd ts w a (distanceFrom c k))
-    go k false = refl
+shape-mirrored ts g c w a = sym (map-tabulate negℤ (points g) _ _ (λ k l. sym (cond-odd (moving g k && leb (distanceFrom c k) w)
+    (pluckValue ts w a (distanceFrom c k)) (cut-odd ts w a (distanceFrom c k)))))
 
 abbrev pub mirrorPluck : AfterPluck → AfterPluck
 mirrorPluck a = pluckLeft (a .refusal) (negated (a .older)) (negated (a .newer))

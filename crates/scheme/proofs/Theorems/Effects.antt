@@ -1,7 +1,7 @@
 -- What a call does to the two levels, the book and the sum of counts: one of three effects.
 -- A theorem about lists of calls is proved once over effects; each call has one law that tells its effect.
 use mathlib.Core.Path.{_≡_, refl, sym, ap, _∙_, subst}
-use mathlib.Core.Bool.{Bool, false}
+use mathlib.Core.Bool.{Bool, true, false}
 use mathlib.Core.List.{List, [], _∷_}
 use Prim.Native.Nat.{ℕ, suc, _<_}
 use native.Mathlib.Omega.{arith}
@@ -16,11 +16,11 @@ use Rattle.pluck_table.specs.Table.{table}
 use Rattle.scheme.specs.Instruments.{points}
 use Rattle.scheme.specs.Pluck.{pluckLevel}
 use Rattle.scheme.specs.Refusals.{wrongLength, blockRefusal, pluckRefusal}
-use Rattle.scheme.specs.Calls.{accepted, AfterSteps, play, levelsAfter, inexactAfter, capped, AfterBlock, AfterPluck, blockInPlace}
+use Rattle.scheme.specs.Calls.{accepted, AfterSteps, play, levelsAfter, inexactAfter, capped, AfterBlock, AfterPluck, block}
+use Rattle.scheme.specs.Calls.{blockInPlace, pluck}
 use Rattle.scheme.specs.Book.{fresh, bookBlock, bookPluck, sumBlock, sumPluck, Call, blockCall, inPlaceCall, pluckCall, leaves}
 use Rattle.scheme.specs.Book.{bookCall, sumCall, State, stateAfter, called, calls, Outcome, EachCall}
 use Rattle.scheme.specs.Passing.{InstrumentPasses}
-use Rattle.scheme.proofs.Laws.Bools.{cases}
 use Rattle.scheme.proofs.Laws.Refusals.{accepted-is, instrument-passes, block-passes}
 use Rattle.scheme.proofs.Laws.Calls.{stands-behind, all-done, block-done, block-refused, pluck-done, pluck-refused}
 
@@ -75,18 +75,17 @@ module _ (i : Instrument) (work samples : List ℤ) (pick : ℕ) (h : Hit) (t : 
         inexact = sumBlock i (after .answer .steps) (capped (s .counted x)) (t .book) (t .inexact);
       })
 
-  -- a refused block
-  pub block-nothing : accepted refused ≡ false → afterCall (blockCall i work samples pick h) t ≡ t
-  unfolding leaves bookCall bookBlock sumCall sumBlock left
-  block-nothing e = ap left (block-refused i (t .older) (t .newer) work samples pick h e)
-
   block-effect : Effect t (afterCall (blockCall i work samples pick h) t)
-  block-effect = cases (λ x. Effect t (afterCall (blockCall i work samples pick h) t)) (accepted refused)
-      (λ e. let z = accepted-is _ e in
-      steps i h (after .answer .steps)
-      (instrument-passes i (block-passes i (t .older) (t .newer) (wrongLength (i .grid) (length work)) pick h z .instrument))
-      (block-stepped z))
-      (λ e. nothing (block-nothing e))
+  unfolding leaves bookCall bookBlock sumCall sumBlock left
+  block-effect = go (accepted refused) refl
+    where
+      go : (x : Bool) → accepted refused ≡ x → Effect t (left (block i (t .older) (t .newer) work samples pick h))
+      go true e =
+          let z = accepted-is _ e in
+          steps i h (after .answer .steps)
+          (instrument-passes i (block-passes i (t .older) (t .newer) (wrongLength (i .grid) (length work)) pick h z .instrument))
+          (block-stepped z)
+      go false e = nothing (ap left (block-refused i (t .older) (t .newer) work samples pick h e))
 
 -- a block cut after j + 1 of its steps is a block
 pub block-cut : (i : Instrument) (work samples : List ℤ) (pick : ℕ) (h : Hit) (t : State) → refused i work samples pick h t ≡ Nothing
@@ -109,37 +108,28 @@ in-place-after : (i : Instrument) (samples : List ℤ) (pick : ℕ) (h : Hit) (t
 unfolding blockInPlace leaves bookCall sumCall
 in-place-after i samples pick h t = refl
 
-module _ (g : Grid) (c w : ℕ) (a : ℤ) (t : State) where
-  abbrev refused-pluck : Refusal
-  refused-pluck = pluckRefusal g (length (t .older)) (length (t .newer)) c w a
+pluck-effect : (g : Grid) (c w : ℕ) (a : ℤ) (t : State) → Effect t (afterCall (pluckCall g c w a) t)
+unfolding leaves bookCall bookPluck sumCall sumPluck
+pluck-effect g c w a t = go (accepted (pluckRefusal g (length (t .older)) (length (t .newer)) c w a)) refl
+  where
+    left : AfterPluck → State
+    left r = record {
+      older = r .older;
+      newer = r .newer;
+      book = bookPluck (accepted (r .refusal)) (pluckLevel table g c w a) (t .book);
+      inexact = sumPluck (accepted (r .refusal)) (t .inexact);
+    }
 
-  left-plucked : AfterPluck → State
-  left-plucked r = record {
-    older = r .older;
-    newer = r .newer;
-    book = bookPluck (accepted (r .refusal)) (pluckLevel table g c w a) (t .book);
-    inexact = sumPluck (accepted (r .refusal)) (t .inexact);
-  }
-
-  -- an accepted pluck
-  pub pluck-overwrote : refused-pluck ≡ Nothing → afterCall (pluckCall g c w a) t ≡ overwrote (pluckLevel table g c w a) t
-  unfolding leaves bookCall bookPluck sumCall sumPluck left-plucked
-  pluck-overwrote e = ap left-plucked (pluck-done g (t .older) (t .newer) c w a e)
-
-  -- a refused one
-  pub pluck-nothing : accepted refused-pluck ≡ false → afterCall (pluckCall g c w a) t ≡ t
-  unfolding leaves bookCall bookPluck sumCall sumPluck left-plucked
-  pluck-nothing e = ap left-plucked (pluck-refused g (t .older) (t .newer) c w a e) ∙
-      ap (λ (x : Bool). record {
-        older = t .older;
-        newer = t .newer;
-        book = bookPluck x (pluckLevel table g c w a) (t .book);
-        inexact = sumPluck x (t .inexact);
-      }) e
-
-  pluck-effect : Effect t (afterCall (pluckCall g c w a) t)
-  pluck-effect = cases (λ x. Effect t (afterCall (pluckCall g c w a) t)) (accepted refused-pluck)
-      (λ e. overwrites (pluckLevel table g c w a) (pluck-overwrote (accepted-is _ e))) (λ e. nothing (pluck-nothing e))
+    go : (x : Bool) → accepted (pluckRefusal g (length (t .older)) (length (t .newer)) c w a) ≡ x
+        → Effect t (left (pluck g (t .older) (t .newer) c w a))
+    go true e = overwrites (pluckLevel table g c w a) (ap left (pluck-done g (t .older) (t .newer) c w a (accepted-is _ e)))
+    go false e = nothing (ap left (pluck-refused g (t .older) (t .newer) c w a e) ∙
+        ap (λ (x : Bool). record {
+          older = t .older;
+          newer = t .newer;
+          book = bookPluck x (pluckLevel table g c w a) (t .book);
+          inexact = sumPluck x (t .inexact);
+        }) e)
 
 -- the effect of each call
 pub effect-of : (k : Call) (t : State) → Effect t (afterCall k t)

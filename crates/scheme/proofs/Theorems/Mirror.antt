@@ -1,10 +1,11 @@
--- Up and down alike: the mirror image of every list of calls, proved once over the effects of calls.
-use mathlib.Core.Path.{_≡_, refl, sym, ap, ap₂, _∙_, subst, fun-ext}
+-- Up and down alike: the mirror image of every list of calls. What a call leaves is mirrored (Laws/Mirror); here its effects on the book,
+-- steps and levels overwritten, the list, and energy and distance.
+use mathlib.Core.Path.{_≡_, refl, sym, ap, ap₂, _∙_, fun-ext}
 use mathlib.Core.Bool.{Bool, true, false, cond}
 use mathlib.Core.List.{List, [], _∷_, map}
-use Prim.Native.Nat.{ℕ, zero, suc, _+_, _*_}
+use Prim.Native.Nat.{ℕ, zero, suc, _*_}
 use lib.IntN.{ℤ, pos, negsuc, negℤ, _+ℤ_, _*ℤ_}
-use lib.ListN.{length, replicate}
+use lib.ListN.{replicate}
 use Rattle.integers.proofs.Ring.{con, ⊝_, _⊖_, _⊗_, _≈_, ring}
 use Rattle.integers.proofs.Sum.{sum-ext}
 use Rattle.forms.proofs.Level.{Level, _⊡_}
@@ -13,57 +14,27 @@ use Rattle.types.specs.declared.Grid.{Grid}
 use Rattle.types.specs.declared.Instrument.{Instrument}
 use Rattle.types.specs.declared.Hit.{Hit}
 use Rattle.types.specs.declared.Hit.the-variants.{Absent}
-use Rattle.types.specs.declared.Refusal.{Refusal}
+use Rattle.types.specs.declared.BlockAnswer.{BlockAnswer}
 use Rattle.types.specs.Numbers.{D}
 use Rattle.pluck_table.specs.Table.{table}
 use Rattle.scheme.specs.Lists.{tabulate, point, times}
 use Rattle.scheme.specs.Instruments.{points, moving}
-use Rattle.scheme.specs.Step.{numerator, forceOf, divisor, nextLevel}
+use Rattle.scheme.specs.Step.{numerator, forceOf, divisor}
 use Rattle.scheme.specs.Pluck.{pluckLevel}
-use Rattle.scheme.specs.Refusals.{wrongLength, blockRefusal, pluckRefusal}
-use Rattle.scheme.specs.Calls.{accepted, AfterSteps, play, Levels, levelsAfter, inexactAfter, AfterBlock, withoutWork, blockInPlace}
-use Rattle.scheme.specs.Calls.{AfterPluck, capped}
+use Rattle.scheme.specs.Calls.{accepted, AfterBlock, withoutWork, blockInPlace, AfterPluck}
 use Rattle.scheme.specs.Energy.{weight, squares, energy}
-use Rattle.scheme.specs.Book.{Book, stepOf, fresh, scale, unroundedAt, unroundedStep, unroundedSteps, goesOn, bookBlock, sumBlock}
-use Rattle.scheme.specs.Book.{Call, blockCall, inPlaceCall, pluckCall, leftByBlock, leftByInPlace, leftByPluck, leaves, bookCall}
-use Rattle.scheme.specs.Book.{sumCall, State, start, AfterCalls, calls}
-use Rattle.scheme.specs.Program.{callsOf}
-use Rattle.scheme.specs.Mirror.{negated, mirrorHit, mirrorCall, mirrorLeft, mirrorBook, mirrorState, mirrorAfter, MirrorImage}
-use Rattle.scheme.specs.Mirror.{MeasuredAlike, MirrorMeasures, ProgramMirrorImage}
-use Rattle.scheme.proofs.Laws.Bools.{cases}
+use Rattle.scheme.specs.Book.{Book, stepOf, fresh, scale, unroundedAt, unroundedStep, unroundedSteps, goesOn, bookBlock, bookPluck}
+use Rattle.scheme.specs.Book.{sumBlock, sumPluck, Call, blockCall, inPlaceCall, pluckCall, Outcome, blockOutcome, inPlaceOutcome}
+use Rattle.scheme.specs.Book.{pluckOutcome, stepsOf, inexactOf, refusalOf, Left, leftByBlock, leftByInPlace, leftByPluck, leaves}
+use Rattle.scheme.specs.Book.{bookCall, sumCall, State, start, stateAfter, called, calls}
+use Rattle.scheme.specs.Mirror.{negated, mirrorHit, mirrorCall, mirrorOutcome, mirrorLeft, mirrorBook, mirrorState, mirrorAfter}
+use Rattle.scheme.specs.Mirror.{MirrorImage, MirrorMeasures}
 use Rattle.scheme.proofs.Laws.Lists.{map-tabulate}
-use Rattle.scheme.proofs.Laws.Refusals.{accepted-is}
-use Rattle.scheme.proofs.Laws.Mirror.{points-negated, force-negated, numerator-odd, next-mirrored, inexact-mirrored}
-use Rattle.scheme.proofs.Laws.Mirror.{block-refusal-even, pluck-refusal-even, play-mirrored, block-mirrored, shape-mirrored}
+use Rattle.scheme.proofs.Laws.Mirror.{points-negated, force-negated, cond-odd, numerator-odd, block-mirrored, shape-mirrored}
 use Rattle.scheme.proofs.Laws.Mirror.{pluck-mirrored}
 use Rattle.scheme.proofs.Theorems.Forms.{pair-form, laplacian-form}
-use Rattle.scheme.proofs.Theorems.Effects.{stepped, overwrote, afterCall, block-stepped, block-nothing}
-use Rattle.scheme.proofs.Theorems.Effects.{pluck-overwrote, pluck-nothing}
-use Rattle.scheme.proofs.Theorems.Program.{program-run}
 
--- ---- steps, of the levels
-
-abbrev mirrorLevels : Levels → Levels
-mirrorLevels l = record { older = negated (l .older); newer = negated (l .newer) }
-
-levels-mirrored : (i : Instrument) (h : Hit) (k : ℕ) (older newer : List ℤ)
-    → levelsAfter i (mirrorHit h) k (negated older) (negated newer) ≡ mirrorLevels (levelsAfter i h k older newer)
-unfolding levelsAfter
-levels-mirrored i h zero older newer = refl
-levels-mirrored i h (suc k) older newer =
-    ap (λ (l : List ℤ). levelsAfter i Absent k (negated newer) l) (next-mirrored i h older newer) ∙
-    levels-mirrored i Absent k newer (nextLevel i h older newer)
-
-counts-mirrored : (i : Instrument) (h : Hit) (k : ℕ) (older newer : List ℤ)
-    → inexactAfter i (mirrorHit h) k (negated older) (negated newer) ≡ inexactAfter i h k older newer
-unfolding inexactAfter
-counts-mirrored i h zero older newer = refl
-counts-mirrored i h (suc k) older newer =
-    ap₂ _+_ (inexact-mirrored i h older newer)
-    (ap (λ (l : List ℤ). inexactAfter i Absent k (negated newer) l) (next-mirrored i h older newer) ∙
-    counts-mirrored i Absent k newer (nextLevel i h older newer))
-
--- ---- steps, in the book
+-- ---- steps in the book
 
 scaled-negated : (p : ℤ) (u : Level) {v : Level} → v ≡ negsuc 0 ⊡ u → p ⊡ v ≡ negsuc 0 ⊡ (p ⊡ u)
 scaled-negated p u e = ap (λ (v : Level). p ⊡ v) e ∙
@@ -85,16 +56,17 @@ unrounded-mirrored i h b = λ x. record {
     p : ℤ
     p = scale (i .settings) (b .n)
 
-    go : (k : ℕ) (t : Bool) → negℤ (cond t (numerator i (point (b .newer)) (point (b .older)) (p ⊡ forceOf h) k) (pos 0))
-        ≡ cond t (numerator i (point (negated (b .newer))) (point (negated (b .older))) (p ⊡ forceOf (mirrorHit h)) k) (pos 0)
-    go k true = sym (
-        (λ x. numerator i (points-negated (b .newer) x) (points-negated (b .older) x) (scaled-negated p (forceOf h) (force-negated h) x) k) ∙
-        numerator-odd i (point (b .newer)) (point (b .older)) (p ⊡ forceOf h) k)
-    go k false = refl
+    odd : (k : ℕ) → numerator i (point (negated (b .newer))) (point (negated (b .older))) (p ⊡ forceOf (mirrorHit h)) k
+        ≡ negℤ (numerator i (point (b .newer)) (point (b .older)) (p ⊡ forceOf h) k)
+    odd k =
+        let f = scaled-negated p (forceOf h) (force-negated h) in
+        (λ x. numerator i (points-negated (b .newer) x) (points-negated (b .older) x) (f x) k) ∙
+        numerator-odd i (point (b .newer)) (point (b .older)) (p ⊡ forceOf h) k
 
     newer : tabulate (points (i .grid)) (unroundedAt i (mirrorHit h) (mirrorBook b))
         ≡ negated (tabulate (points (i .grid)) (unroundedAt i h b))
-    newer = sym (map-tabulate negℤ (points (i .grid)) _ _ (λ k l. go k (moving (i .grid) k)))
+    newer = sym (map-tabulate negℤ (points (i .grid)) _ _ (λ k l. sym (cond-odd (moving (i .grid) k)
+        (numerator i (point (b .newer)) (point (b .older)) (p ⊡ forceOf h) k) (odd k))))
 
 unrounded-steps-mirrored : (i : Instrument) (h : Hit) (k : ℕ) (b : Book)
     → unroundedSteps i (mirrorHit h) k (mirrorBook b) ≡ mirrorBook (unroundedSteps i h k b)
@@ -103,10 +75,11 @@ unrounded-steps-mirrored i h zero b = refl
 unrounded-steps-mirrored i h (suc k) b =
     ap (unroundedSteps i Absent k) (unrounded-mirrored i h b) ∙ unrounded-steps-mirrored i Absent k (unroundedStep i h b)
 
-book-mirrored : (i : Instrument) (h : Hit) (older newer : List ℤ) (k : ℕ) (b : Book)
-    → bookBlock i (mirrorHit h) (negated older) (negated newer) (suc k) (mirrorBook b) ≡ mirrorBook (bookBlock i h older newer (suc k) b)
+steps-mirrored : (i : Instrument) (h : Hit) (older newer : List ℤ) (k : ℕ) (b : Book)
+    → bookBlock i (mirrorHit h) (negated older) (negated newer) k (mirrorBook b) ≡ mirrorBook (bookBlock i h older newer k b)
 unfolding bookBlock
-book-mirrored i h older newer k b =
+steps-mirrored i h older newer zero b = refl
+steps-mirrored i h older newer (suc k) b =
     ap (unroundedSteps i (mirrorHit h) (suc k)) (from (goesOn i (b .last))) ∙
     unrounded-steps-mirrored i h (suc k) (cond (goesOn i (b .last)) b (fresh (b .last) older newer))
   where
@@ -115,68 +88,72 @@ book-mirrored i h older newer k b =
     from true = refl
     from false = refl
 
--- ---- every effect
+sum-mirrored : (i : Instrument) (k c : ℕ) (b : Book) (sum : ℕ) → sumBlock i k c (mirrorBook b) sum ≡ sumBlock i k c b sum
+unfolding sumBlock
+sum-mirrored i zero c b sum = refl
+sum-mirrored i (suc k) c b sum = refl
 
-stepped-mirrored : (i : Instrument) (h : Hit) (k : ℕ) (t : State)
-    → stepped i (mirrorHit h) k (mirrorState t) ≡ mirrorState (stepped i h k t)
-unfolding levelsAfter bookBlock sumBlock
-stepped-mirrored i h zero t = refl
-stepped-mirrored i h (suc k) t =
-    let l = levels-mirrored i h (suc k) (t .older) (t .newer) in
+-- ---- levels overwritten in the book
+
+overwritten-mirrored : (done : Bool) (xs : List ℤ) (b : Book)
+    → bookPluck done (negated xs) (mirrorBook b) ≡ mirrorBook (bookPluck done xs b)
+unfolding bookPluck
+overwritten-mirrored true xs b = refl
+overwritten-mirrored false xs b = refl
+
+-- ---- the state after a call
+
+-- what the book and the sum are fed of an outcome
+abbrev pub told : Outcome → BlockAnswer
+told o = record { steps = stepsOf o; inexact = inexactOf o; refusal = refusalOf o }
+
+pub fed-book : (k : Call) (o o′ : Outcome) (older newer : List ℤ) (b : Book) → told o ≡ told o′
+    → bookCall k o older newer b ≡ bookCall k o′ older newer b
+unfolding bookCall
+fed-book (blockCall i work samples pick h) o o′ older newer b e = ap (λ (a : BlockAnswer). bookBlock i h older newer (a .steps) b) e
+fed-book (inPlaceCall i samples pick h) o o′ older newer b e = ap (λ (a : BlockAnswer). bookBlock i h older newer (a .steps) b) e
+fed-book (pluckCall g c w a) o o′ older newer b e =
+    ap (λ (r : BlockAnswer). bookPluck (accepted (r .refusal)) (pluckLevel table g c w a) b) e
+
+pub fed-sum : (k : Call) (o o′ : Outcome) (b : Book) (sum : ℕ) → told o ≡ told o′ → sumCall k o b sum ≡ sumCall k o′ b sum
+unfolding sumCall
+fed-sum (blockCall i work samples pick h) o o′ b sum e = ap (λ (a : BlockAnswer). sumBlock i (a .steps) (a .inexact) b sum) e
+fed-sum (inPlaceCall i samples pick h) o o′ b sum e = ap (λ (a : BlockAnswer). sumBlock i (a .steps) (a .inexact) b sum) e
+fed-sum (pluckCall g c w a) o o′ b sum e = ap (λ (r : BlockAnswer). sumPluck (accepted (r .refusal)) sum) e
+
+told-mirrored : (o : Outcome) → told (mirrorOutcome o) ≡ told o
+told-mirrored (blockOutcome a work samples) = refl
+told-mirrored (inPlaceOutcome a samples) = refl
+told-mirrored (pluckOutcome r) = refl
+
+book-mirrored : (k : Call) (o : Outcome) (older newer : List ℤ) (b : Book)
+    → bookCall (mirrorCall k) o (negated older) (negated newer) (mirrorBook b) ≡ mirrorBook (bookCall k o older newer b)
+unfolding bookCall
+book-mirrored (blockCall i work samples pick h) o older newer b = steps-mirrored i h older newer (stepsOf o) b
+book-mirrored (inPlaceCall i samples pick h) o older newer b = steps-mirrored i h older newer (stepsOf o) b
+book-mirrored (pluckCall g c w a) o older newer b =
+    ap (λ (xs : List ℤ). bookPluck (accepted (refusalOf o)) xs (mirrorBook b)) (shape-mirrored table g c w a) ∙
+    overwritten-mirrored (accepted (refusalOf o)) (pluckLevel table g c w a) b
+
+counts-mirrored : (k : Call) (o : Outcome) (b : Book) (sum : ℕ) → sumCall (mirrorCall k) o (mirrorBook b) sum ≡ sumCall k o b sum
+unfolding sumCall
+counts-mirrored (blockCall i work samples pick h) o b sum = sum-mirrored i (stepsOf o) (inexactOf o) b sum
+counts-mirrored (inPlaceCall i samples pick h) o b sum = sum-mirrored i (stepsOf o) (inexactOf o) b sum
+counts-mirrored (pluckCall g c w a) o b sum = refl
+
+state-mirrored : (k : Call) (l : Left) (t : State)
+    → stateAfter (mirrorCall k) (mirrorLeft l) (mirrorState t) ≡ mirrorState (stateAfter k l t)
+state-mirrored k l t =
+    let o = l .outcome in
+    let b = mirrorBook (t .book) in
     λ x. record {
-      older = l x .older;
-      newer = l x .newer;
-      book = book-mirrored i h (t .older) (t .newer) k (t .book) x;
-      inexact = sumBlock i (suc k) (capped (counts-mirrored i h (suc k) (t .older) (t .newer) x)) (t .book) (t .inexact);
+      older = negated (l .older);
+      newer = negated (l .newer);
+      book = (fed-book (mirrorCall k) (mirrorOutcome o) o (negated (t .older)) (negated (t .newer)) b (told-mirrored o) ∙
+          book-mirrored k o (t .older) (t .newer) (t .book)) x;
+      inexact = (fed-sum (mirrorCall k) (mirrorOutcome o) o b (t .inexact) (told-mirrored o) ∙
+          counts-mirrored k o (t .book) (t .inexact)) x;
     }
-
--- what a call does to t, and what another does to u: the same effect, its hit or its levels negated
-data Alike (t t′ u u′ : State) : Type 0 where
-  nothing : t′ ≡ t → u′ ≡ u → Alike t t′ u u′
-  steps : (i : Instrument) (h : Hit) (k : ℕ) → t′ ≡ stepped i h k t → u′ ≡ stepped i (mirrorHit h) k u → Alike t t′ u u′
-  overwrites : (xs : List ℤ) → t′ ≡ overwrote xs t → u′ ≡ overwrote (negated xs) u → Alike t t′ u u′
-
--- it keeps the mirror image
-alike-keeps : (t t′ u′ : State) → Alike t t′ (mirrorState t) u′ → u′ ≡ mirrorState t′
-alike-keeps t t′ u′ (nothing e f) = f ∙ sym (ap (λ (s : State). mirrorState s) e)
-alike-keeps t t′ u′ (steps i h k e f) = f ∙ stepped-mirrored i h k t ∙ sym (ap (λ (s : State). mirrorState s) e)
-alike-keeps t t′ u′ (overwrites xs e f) = f ∙ sym (ap (λ (s : State). mirrorState s) e)
-
--- ---- every call
-
--- a call and its mirror image
-abbrev CallAlike : Call → State → Type 0
-CallAlike k t = Alike t (afterCall k t) (mirrorState t) (afterCall (mirrorCall k) (mirrorState t))
-
-block-alike : (i : Instrument) (work samples : List ℤ) (pick : ℕ) (h : Hit) (t : State) → CallAlike (blockCall i work samples pick h) t
-block-alike i work samples pick h t =
-    let wrong = wrongLength (i .grid) (length work) in
-    let even = block-refusal-even i (t .older) (t .newer) wrong pick h in
-    cases (λ b. CallAlike (blockCall i work samples pick h) t) (accepted (blockRefusal i (t .older) (t .newer) wrong pick h))
-    (λ e. let z = accepted-is _ e in
-    steps i h (play i pick h (t .older) (t .newer) samples .answer .steps) (block-stepped i work samples pick h t z)
-    (block-stepped i work samples pick (mirrorHit h) (mirrorState t) (even ∙ z) ∙
-    ap (λ (p : AfterSteps). stepped i (mirrorHit h) (p .answer .steps) (mirrorState t))
-    (play-mirrored i pick h (t .older) (t .newer) samples)))
-    (λ e. nothing (block-nothing i work samples pick h t e)
-    (block-nothing i work samples pick (mirrorHit h) (mirrorState t) (ap (λ (r : Refusal). accepted r) even ∙ e)))
-
-pluck-alike : (g : Grid) (c w : ℕ) (a : ℤ) (t : State) → CallAlike (pluckCall g c w a) t
-pluck-alike g c w a t =
-    let even = pluck-refusal-even g (t .older) (t .newer) c w a in
-    cases (λ b. CallAlike (pluckCall g c w a) t) (accepted (pluckRefusal g (length (t .older)) (length (t .newer)) c w a))
-    (λ e. let z = accepted-is _ e in
-    overwrites (pluckLevel table g c w a) (pluck-overwrote g c w a t z)
-    (pluck-overwrote g c w (negℤ a) (mirrorState t) (even ∙ z) ∙
-    ap (λ (xs : List ℤ). overwrote xs (mirrorState t)) (shape-mirrored table g c w a)))
-    (λ e. nothing (pluck-nothing g c w a t e)
-    (pluck-nothing g c w (negℤ a) (mirrorState t) (ap (λ (r : Refusal). accepted r) even ∙ e)))
-
-alike-of : (k : Call) (t : State) → CallAlike k t
-unfolding blockInPlace leaves bookCall sumCall
-alike-of (blockCall i work samples pick h) t = block-alike i work samples pick h t
-alike-of (inPlaceCall i samples pick h) t = block-alike i (replicate (points (i .grid)) (pos 0)) samples pick h t
-alike-of (pluckCall g c w a) t = pluck-alike g c w a t
 
 -- what it answers and leaves
 left-mirrored : (k : Call) (older newer : List ℤ)
@@ -196,18 +173,12 @@ unfolding calls
 list-mirrored [] t = refl
 list-mirrored (k ∷ ks) t =
     let left = left-mirrored k (t .older) (t .newer) in
-    let rest = ap (calls (map mirrorCall ks)) (alike-keeps t (afterCall k t) (afterCall (mirrorCall k) (mirrorState t)) (alike-of k t)) ∙
-    list-mirrored ks (afterCall k t) in
+    let after = ap (λ (l : Left). stateAfter (mirrorCall k) l (mirrorState t)) left ∙ state-mirrored k (called k t) t in
+    let rest = ap (calls (map mirrorCall ks)) after ∙ list-mirrored ks (stateAfter k (called k t) t) in
     λ x. record { left = left x ∷ rest x .left; state = rest x .state }
 
 pub mirror-image : MirrorImage
 mirror-image older newer ks = list-mirrored ks (start older newer)
-
-pub program-mirror-image : ProgramMirrorImage
-program-mirror-image older newer ms ns kept kept′ same =
-    sym (program-run ns (start (negated older) (negated newer)) kept′) ∙
-    ap (λ (ks : List Call). calls ks (start (negated older) (negated newer))) same ∙
-    mirror-image older newer (callsOf ms) ∙ ap (λ (a : AfterCalls). mirrorAfter a) (program-run ms (start older newer) kept)
 
 -- ---- energy and distance
 
@@ -227,16 +198,11 @@ unfolding energy
 energy-even i a b = λ x. pos D *ℤ squares-even (i .grid) a b x +ℤ pos (2 * i .settings .q) *ℤ form-even (pair-form (i .grid)) a b x
     +ℤ pos (2 * i .settings .m) *ℤ form-even (laplacian-form (i .grid)) a b x
 
-measured-alike : (t : State) → MeasuredAlike t (mirrorState t)
-measured-alike t = record {
+pub mirror-measures : MirrorMeasures
+mirror-measures t = record {
   energies = λ i. (λ x. energy i (points-negated (t .book .newer) x) (points-negated (t .book .older) x)) ∙
       energy-even i (point (t .book .newer)) (point (t .book .older));
   distances = λ i. let p : ℤ = scale (i .settings) (t .book .n) in
       (λ x. squares (i .grid) (scaled-negated p (point (t .newer)) (points-negated (t .newer)) x) (points-negated (t .book .newer) x)) ∙
       squares-even (i .grid) (p ⊡ point (t .newer)) (point (t .book .newer));
 }
-
-pub mirror-measures : MirrorMeasures
-mirror-measures older newer ks =
-    let t = calls ks (start older newer) .state in
-    subst (λ (a : AfterCalls). MeasuredAlike t (a .state)) (sym (mirror-image older newer ks)) (measured-alike t)
