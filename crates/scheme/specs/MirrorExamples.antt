@@ -128,6 +128,6 @@ MirrorsHold = (x : MirrorExample) → MirroredFrom (run x .older) (run x .newer)
 abbrev pub RunsHold : Type 0
 RunsHold = (x : MirrorExample) → calls (run x .list) (start (run x .older) (run x .newer)) .left ≡ run x .left
 
--- −2⁶³, which has no negative of 64 bits, lies beyond the ceiling: 11 refuses it as a point, 8 as a force or a height
+-- −2⁶³, which has no negative of 64 bits, lies beyond the ceiling: 11 applies to it as a point of a block, 8 as a force or a height
 abbrev pub LowestBeyond : Type 0
 LowestBeyond = beyond (minus (2 ^ 63)) ≡ true

@@ -48,6 +48,7 @@ play-content i pick h older newer (x ∷ xs) (y ∷ ys) e = go (someBeyond next)
     go false q on = ap (λ (p : AfterSteps). done p) (play-goes i pick h older newer x xs q) ∙ ap more on ∙
         sym (ap (λ (p : AfterSteps). done p) (play-goes i pick h older newer y ys q))
 
+-- an outcome and two levels
 abbrev left : Outcome → (older newer : List ℤ) → Left
 left o older newer = record { outcome = o; older = older; newer = newer }
 
@@ -85,11 +86,9 @@ pub content-left : (k : Call) (older newer : List ℤ) → heardLeft (leaves (bl
 unfolding leaves blockInPlace
 content-left (blockCall i work samples pick h) older newer =
     ap (λ (a : AfterInPlace). left (blockOutcome (a .answer) [] (a .samples)) (a .older) (a .newer))
-    (block-content i older newer work samples pick h (replicate (length work) (pos 0)) (replicate (length samples) (pos 0))
-    (length-replicate (length work) (pos 0)) (length-replicate (length samples) (pos 0)))
+    (block-content i older newer work samples pick h _ _ (length-replicate (length work) _) (length-replicate (length samples) _))
 content-left (inPlaceCall i samples pick h) older newer =
     let work = replicate (points (i .grid)) (pos 0) in
     ap (λ (a : AfterInPlace). left (inPlaceOutcome (a .answer) (a .samples)) (a .older) (a .newer))
-    (block-content i older newer work samples pick h work (replicate (length samples) (pos 0)) refl
-    (length-replicate (length samples) (pos 0)))
+    (block-content i older newer work samples pick h work _ refl (length-replicate (length samples) _))
 content-left (pluckCall g c w a) older newer = refl
