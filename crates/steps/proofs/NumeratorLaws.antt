@@ -27,33 +27,36 @@ module _ {p : Plan} (h : Planned p) {u sum second old f : ℤ} (given : Updatabl
   abbrev second# : E
   second# = at second (16 * ceiling) (given .second-low)
 
-  -- two products, with the bounds that stability gives
-  pub beside : Num (red near# *ℤ red sum#) (p .near *ℤ sum) (2 * D * ceiling)
-  beside = product near# sum# (2 * D * ceiling) tt tt (given .near-part)
+  -- ---- the terms, in the order of the code: of the neighbours' and the stiffness's the bound is stability's
 
-  pub bent : Num (red m# *ℤ red second#) (p .m *ℤ second) (D * ceiling)
-  bent = product m# second# (D * ceiling) tt tt (given .stiff-part)
+  abbrev pub own-last# : E
+  own-last# = at (p .own) (2 * D) (own-low h) ⊠ at u ceiling (given .u-low)
 
-  abbrev pub own# : E
-  own# = at (p .own) (2 * D) (own-low h) ⊠ at u ceiling (given .u-low)
+  pub neighbours : Num (red near# *ℤ red sum#) (p .near *ℤ sum) (2 * D * ceiling)
+  neighbours = product near# sum# (2 * D * ceiling) tt tt (given .near-part)
 
-  abbrev pub two# : E
-  two# = own# ⊞ stored beside tt
-
-  abbrev pub three# : E
-  three# = two# ⊟ stored bent tt
-
-  abbrev pub old# : E
-  old# = at (p .kept) D (kept-low h) ⊠ at old ceiling (given .older-low)
-
-  abbrev pub four# : E
-  four# = three# ⊟ old#
+  abbrev pub before-last# : E
+  before-last# = at (p .kept) D (kept-low h) ⊠ at old ceiling (given .older-low)
 
   abbrev pub force# : E
   force# = num 65536 ⊠ at f ceiling (given .f-low)
 
+  pub stiffness : Num (red m# *ℤ red second#) (p .m *ℤ second) (D * ceiling)
+  stiffness = product m# second# (D * ceiling) tt tt (given .stiff-part)
+
+  -- ---- their sums
+
+  abbrev pub two# : E
+  two# = own-last# ⊞ stored neighbours tt
+
+  abbrev pub three# : E
+  three# = two# ⊟ before-last#
+
+  abbrev pub four# : E
+  four# = three# ⊞ force#
+
   abbrev pub n# : E
-  n# = four# ⊞ force#
+  n# = four# ⊟ stored stiffness tt
 
   -- ---- it is the scheme's
 
@@ -63,13 +66,36 @@ module _ {p : Plan} (h : Planned p) {u sum second old f : ℤ} (given : Updatabl
   abbrev c : ℤ
   c = pos (countOf (i .grid))
 
-  pub numerator-is : val n# ≡ numeratorOf (i .settings) u (sum -ℤ c *ℤ u) (bendingOf c sum second u) old f
-  numerator-is =
-      (λ j. h .own-is j *ℤ u +ℤ h .near-is j *ℤ sum -ℤ h .m-is j *ℤ second -ℤ h .kept-is j *ℤ old +ℤ pos 65536 *ℤ f) ∙
+  abbrev q : ℤ
+  q = pos (i .settings .q)
+
+  abbrev m : ℤ
+  m = pos (i .settings .m)
+
+  abbrev kept : ℤ
+  kept = pos D -ℤ pos (i .settings .s)
+
+  -- the request's terms in its order: "own last value, neighbours, before-last value, force. The stiffness term follows the force"
+  abbrev inOrder : ℤ
+  inOrder = (pos (2 * D) -ℤ c *ℤ q) *ℤ u +ℤ q *ℤ sum -ℤ kept *ℤ old +ℤ pos D *ℤ f -ℤ m *ℤ bendingOf c sum second u
+
+  -- the code gathers what is multiplied by u, and what by the sum
+  gathered : val n# ≡ inOrder
+  gathered =
+      (λ j. h .own-is j *ℤ u +ℤ h .near-is j *ℤ sum -ℤ h .kept-is j *ℤ old +ℤ pos 65536 *ℤ f -ℤ h .m-is j *ℤ second) ∙
       ring 9 (λ d c q m u x y p f.
-      (d ⊖ c ⊗ q ⊖ c ⊗ c ⊗ m) ⊗ u ⊕ (q ⊕ # 2 ⊗ c ⊗ m) ⊗ x ⊖ m ⊗ y ⊖ p ⊕ f
-      ≈ d ⊗ u ⊕ q ⊗ (x ⊖ c ⊗ u) ⊖ m ⊗ (y ⊖ # 2 ⊗ c ⊗ x ⊕ c ⊗ c ⊗ u) ⊖ p ⊕ f) refl
-      (pos (2 * D)) c (pos (i .settings .q)) (pos (i .settings .m)) u sum second ((pos D -ℤ pos (i .settings .s)) *ℤ old) (pos D *ℤ f)
+      (d ⊖ c ⊗ q ⊖ c ⊗ c ⊗ m) ⊗ u ⊕ (q ⊕ # 2 ⊗ c ⊗ m) ⊗ x ⊖ p ⊕ f ⊖ m ⊗ y
+      ≈ (d ⊖ c ⊗ q) ⊗ u ⊕ q ⊗ x ⊖ p ⊕ f ⊖ m ⊗ (y ⊖ # 2 ⊗ c ⊗ x ⊕ c ⊗ c ⊗ u)) refl
+      (pos (2 * D)) c q m u sum second (kept *ℤ old) (pos D *ℤ f)
+
+  -- L is the sum less c times u
+  in-order : inOrder ≡ numeratorOf (i .settings) u (sum -ℤ c *ℤ u) (bendingOf c sum second u) old f
+  in-order =
+      ring 8 (λ d c q u x b p f. (d ⊖ c ⊗ q) ⊗ u ⊕ q ⊗ x ⊖ p ⊕ f ⊖ b ≈ d ⊗ u ⊕ q ⊗ (x ⊖ c ⊗ u) ⊖ b ⊖ p ⊕ f) refl
+      (pos (2 * D)) c q u sum (m *ℤ bendingOf c sum second u) (kept *ℤ old) (pos D *ℤ f)
+
+  pub numerator-is : val n# ≡ numeratorOf (i .settings) u (sum -ℤ c *ℤ u) (bendingOf c sum second u) old f
+  numerator-is = gathered ∙ in-order
 
   pub numerator-below : natAbs (numeratorOf (i .settings) u (sum -ℤ c *ℤ u) (bendingOf c sum second u) old f) ≤ 2 ^ 62
   numerator-below = subst (λ (z : ℤ). natAbs z ≤ 2 ^ 62) numerator-is (le-trans (size n# tt) (leb→le (cap n#) (2 ^ 62) tt))

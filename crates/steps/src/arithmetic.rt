@@ -82,11 +82,19 @@ pub(crate) fn sample(v: i64) -> i16
     rounded.whole as i16
 }
 
-// The numerator at a point, from its newer value u, the sum of its neighbours, the sum of their sums, its older value p and the force f.
+// The numerator at a point, from its last value u, the sum of its neighbours, its before-last value p, the force f and, for the stiffness,
+// the sum of the neighbours' sums. The terms stand in the order of document 003 (van Walstijn's slides), where a string is
+// y' = a10·y + a11·(y₊ + y₋) + a20·y_before + aF·F: own, near, −kept and D are these factors times D. The stiffness comes last; its shares
+// of u and of the sum are in own and near (`Plan`).
 pub(crate) fn numerator(plan: Plan, u: i64, sum: i64, second: i64, p: i64, f: i64) -> i64
     requires { ⌜ Planned plan × Updatable plan u sum second p f ⌝ }
     ensures { λ r. ⌜ r ≡ numeratorOf (plan .instrument .settings) u (sum -ℤ pos (countOf (plan .instrument .grid)) *ℤ u)
         (bendingOf (pos (countOf (plan .instrument .grid))) sum second u) p f ⌝ }
 {
-    plan.own * u + plan.near * sum - plan.m * second - plan.kept * p + D * f
+    let own_last = plan.own * u;
+    let neighbours = plan.near * sum;
+    let before_last = plan.kept * p;
+    let force = D * f;
+    let stiffness = plan.m * second;
+    own_last + neighbours - before_last + force - stiffness
 }
