@@ -27,7 +27,7 @@ module _ {p : Plan} (h : Planned p) {u sum second old f : ℤ} (given : Updatabl
   abbrev second# : E
   second# = at second (16 * ceiling) (given .second-low)
 
-  -- ---- the terms, in the order of the code: of the neighbours' and the stiffness's the bound is stability's
+  -- ---- the terms, in the order of the code; the bounds of neighbours and stiffness are stability's
 
   abbrev pub own-last# : E
   own-last# = at (p .own) (2 * D) (own-low h) ⊠ at u ceiling (given .u-low)
@@ -75,11 +75,11 @@ module _ {p : Plan} (h : Planned p) {u sum second old f : ℤ} (given : Updatabl
   abbrev kept : ℤ
   kept = pos D -ℤ pos (i .settings .s)
 
-  -- the request's terms in its order: "own last value, neighbours, before-last value, force. The stiffness term follows the force"
+  -- "in the order of that text: own last value, neighbours, before-last value, force"; "The stiffness term follows the force"
   abbrev inOrder : ℤ
   inOrder = (pos (2 * D) -ℤ c *ℤ q) *ℤ u +ℤ q *ℤ sum -ℤ kept *ℤ old +ℤ pos D *ℤ f -ℤ m *ℤ bendingOf c sum second u
 
-  -- the code gathers what is multiplied by u, and what by the sum
+  -- the code gathers what is multiplied by u and what by the sum, from the stiffness too
   gathered : val n# ≡ inOrder
   gathered =
       (λ j. h .own-is j *ℤ u +ℤ h .near-is j *ℤ sum -ℤ h .kept-is j *ℤ old +ℤ pos 65536 *ℤ f -ℤ h .m-is j *ℤ second) ∙
@@ -89,13 +89,13 @@ module _ {p : Plan} (h : Planned p) {u sum second old f : ℤ} (given : Updatabl
       (pos (2 * D)) c q m u sum second (kept *ℤ old) (pos D *ℤ f)
 
   -- L is the sum less c times u
-  in-order : inOrder ≡ numeratorOf (i .settings) u (sum -ℤ c *ℤ u) (bendingOf c sum second u) old f
-  in-order =
+  reordered : inOrder ≡ numeratorOf (i .settings) u (sum -ℤ c *ℤ u) (bendingOf c sum second u) old f
+  reordered =
       ring 8 (λ d c q u x b p f. (d ⊖ c ⊗ q) ⊗ u ⊕ q ⊗ x ⊖ p ⊕ f ⊖ b ≈ d ⊗ u ⊕ q ⊗ (x ⊖ c ⊗ u) ⊖ b ⊖ p ⊕ f) refl
       (pos (2 * D)) c q u sum (m *ℤ bendingOf c sum second u) (kept *ℤ old) (pos D *ℤ f)
 
   pub numerator-is : val n# ≡ numeratorOf (i .settings) u (sum -ℤ c *ℤ u) (bendingOf c sum second u) old f
-  numerator-is = gathered ∙ in-order
+  numerator-is = gathered ∙ reordered
 
   pub numerator-below : natAbs (numeratorOf (i .settings) u (sum -ℤ c *ℤ u) (bendingOf c sum second u) old f) ≤ 2 ^ 62
   numerator-below = subst (λ (z : ℤ). natAbs z ≤ 2 ^ 62) numerator-is (le-trans (size n# tt) (leb→le (cap n#) (2 ^ 62) tt))

@@ -82,19 +82,19 @@ pub(crate) fn sample(v: i64) -> i16
     rounded.whole as i16
 }
 
-// The numerator at a point, from its last value u, the sum of its neighbours, its before-last value p, the force f and, for the stiffness,
-// the sum of the neighbours' sums. The terms stand in the order of document 003 (van Walstijn's slides), where a string is
-// y' = a10·y + a11·(y₊ + y₋) + a20·y_before + aF·F: own, near, −kept and D are these factors times D. The stiffness comes last; its shares
-// of u and of the sum are in own and near (`Plan`).
+// The numerator at a point: from its last value u, the sum of its neighbours, the sum of their sums, its before-last value p, the force f.
+// The terms stand in the order of the string in document 003 (van Walstijn's slides), y' = a10·y + a11·(y₊ + y₋) + a20·y_before + aF·F.
+// Without stiffness own, near and −kept are a10, a11 and a20, and D·f is aF·F, each times the divisor D + s. Of the stiffness −m·B that
+// which goes by the sum of the sums comes last; the rest is in own and near (`Plan`).
 pub(crate) fn numerator(plan: Plan, u: i64, sum: i64, second: i64, p: i64, f: i64) -> i64
     requires { ⌜ Planned plan × Updatable plan u sum second p f ⌝ }
     ensures { λ r. ⌜ r ≡ numeratorOf (plan .instrument .settings) u (sum -ℤ pos (countOf (plan .instrument .grid)) *ℤ u)
         (bendingOf (pos (countOf (plan .instrument .grid))) sum second u) p f ⌝ }
 {
-    let own_last = plan.own * u;
-    let neighbours = plan.near * sum;
-    let before_last = plan.kept * p;
-    let force = D * f;
-    let stiffness = plan.m * second;
+    let own_last = plan.own * u; // a10·y
+    let neighbours = plan.near * sum; // a11·(y₊ + y₋)
+    let before_last = plan.kept * p; // −a20·y_before
+    let force = D * f; // aF·F
+    let stiffness = plan.m * second; // what own and near do not have of m·B
     own_last + neighbours - before_last + force - stiffness
 }
