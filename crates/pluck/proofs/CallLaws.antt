@@ -1,6 +1,6 @@
 -- Laws of the call: what refuses it, and the level of one that nothing refuses.
 use mathlib.Core.Path.{_≡_, sym, ap, ap₂, _∙_}
-use mathlib.Core.Bool.{Bool, _&&_, _||_, cond}
+use mathlib.Core.Bool.{Bool, false, _&&_, _||_, cond}
 use mathlib.Core.List.{List}
 use Prim.Native.Nat.{ℕ, _+_, _-_, _*_, _≤_, _<_}
 use native.Mathlib.Nat.{mul-one, zero-mul, zero-add}
@@ -9,12 +9,15 @@ use borrow.Author.Tests.{ltb-true, ltb-false, leb-true, not-false}
 use lib.Dec.{leb}
 use lib.IntN.{ℤ, pos, natAbs}
 use Rattle.types.specs.declared.Grid.{Grid}
-use Rattle.types.specs.declared.Refusal.the-variants.{Nothing}
+use Rattle.types.specs.declared.Refusal.the-variants.{Nothing, BrokenTable}
 use Rattle.types.specs.Numbers.{ceiling}
+use Rattle.pluck_table.specs.declared.LoadedTable.the-variants.{Sound, Broken}
+use Rattle.pluck_table.specs.Loading.{loadedTable}
 use Rattle.scheme.specs.Lists.{tabulate}
 use Rattle.scheme.specs.Instruments.{points, moving}
 use Rattle.scheme.specs.Pluck.{distanceFrom, pluckValue, pluckAt, pluckLevel}
-use Rattle.scheme.specs.Refusals.{lastPlucked, wrongLength, lowest, pluckChecks, pluckRefusal}
+use Rattle.scheme.specs.Refusals.{lastPlucked, wrongLength, lowest, tableChecks, pluckChecks, pluckRefusal, pluckWithRefusal}
+use Rattle.scheme.specs.Calls.{accepted}
 use Rattle.scheme.specs.Passing.{PluckPasses}
 use Rattle.scheme.proofs.Laws.Bools.{and-both}
 use Rattle.scheme.proofs.Laws.Kinds.{within-is, sized}
@@ -24,7 +27,7 @@ use Rattle.kinds.specs.Runs.{inRun, straightRun, runOf}
 use Rattle.sizes.proofs.KindLaws.{line-size}
 use Rattle.kinds.proofs.RunLaws.{run-is, straight-is, moving-run, run-bounds}
 use Rattle.instruments.specs.Refused.{notLong}
-use Rattle.instruments.proofs.RefusalLaws.{long-is}
+use Rattle.instruments.proofs.RefusalLaws.{lowest-append, long-is}
 use Rattle.checks.proofs.RefusalLaws.{pluck-same}
 use Rattle.pluck.specs.declared.shape.Shape.{Shape}
 use Rattle.pluck.specs.Shapes.{Shaped, shapeAt}
@@ -37,6 +40,26 @@ unfolding pluckRefusal
 refusal-is g older newer c w a =
     pluck-same g (notLong g older || notLong g newer) (wrongLength g older || wrongLength g newer) c w a
     (λ size. ap₂ _||_ (long-is g older size) (long-is g newer size))
+
+-- ---- what refuses a pluck by a lent table: first what refuses any, then loading
+
+module _ (g : Grid) (older newer c w : ℕ) (a : ℤ) (lent : List ℕ) where
+  by-parts : pluckWithRefusal g older newer c w a lent
+      ≡ cond (accepted (pluckRefusal g older newer c w a)) (lowest (tableChecks lent)) (pluckRefusal g older newer c w a)
+  unfolding pluckRefusal pluckWithRefusal
+  by-parts = lowest-append (pluckChecks g (wrongLength g older || wrongLength g newer) c w a) (tableChecks lent) tt
+
+  pub refused-before : accepted (pluckRefusal g older newer c w a) ≡ false
+      → pluckWithRefusal g older newer c w a lent ≡ pluckRefusal g older newer c w a
+  refused-before e = by-parts ∙ simp e
+
+  pub refused-by-table : pluckRefusal g older newer c w a ≡ Nothing → loadedTable lent ≡ Broken
+      → pluckWithRefusal g older newer c w a lent ≡ BrokenTable
+  refused-by-table e f = by-parts ∙ simp (e, f)
+
+  pub refused-by-none : (last : ℕ) → pluckRefusal g older newer c w a ≡ Nothing → loadedTable lent ≡ Sound last
+      → pluckWithRefusal g older newer c w a lent ≡ Nothing
+  refused-by-none last e f = by-parts ∙ simp (e, f)
 
 -- ---- a pluck that nothing refuses
 

@@ -1,4 +1,4 @@
-// The call: its checks, and both levels.
+// The two calls, by the table T and by a lent one: their checks, and both levels.
 ghost use mathlib.Core.Path.{_≡_};
 ghost use mathlib.Core.Bool.{_||_};
 ghost use lib.ListN.{length};
@@ -15,6 +15,8 @@ use crate::table::TABLE;
 use checks::pluck_refusal;
 use instruments::is_nothing;
 use kinds::straight_run;
+use pluck_table::LoadedTable;
+use pluck_table::load_table;
 use sizes::points_of;
 use slices::copy;
 use types::Grid;
@@ -43,17 +45,18 @@ fn refusal_of(
     pluck_refusal(g, wrong, centre, half_width, height)
 }
 
-// A pluck that nothing refuses, by any table that keeps the rule of a shape.
+// A pluck that nothing refuses, by any table that keeps the rule of a shape, and the place of its last entry.
 fn carry_out(
     g: Grid,
     table: &[u32],
+    last: usize,
     older: &mut [i64],
     newer: &mut [i64],
     centre: usize,
     half_width: usize,
     height: i64,
 )
-    requires { ⌜ ShapeRule (now table) × (pluckRefusal g (length (now older)) (length (now newer)) centre «half_width» height ≡ Nothing) ⌝ }
+    requires { ⌜ ShapeRule (now table) × (last ≡ 1024) × (pluckRefusal g (length (now older)) (length (now newer)) centre «half_width» height ≡ Nothing) ⌝ }
     ensures { λ _. ⌜ (now (older .exit) ≡ pluckLevel (now (table .entry)) g centre «half_width» height)
         × (now (newer .exit) ≡ pluckLevel (now (table .entry)) g centre «half_width» height) ⌝ }
 {
@@ -64,7 +67,7 @@ fn carry_out(
         width: half_width,
         height,
     };
-    fill(shape, table, older);
+    fill(shape, table, last, older);
     copy(older, newer);
 }
 
@@ -86,6 +89,32 @@ pub fn pluck(
         return refusal;
     }
     let table = TABLE;
-    carry_out(g, &table, older, newer, centre, half_width, height);
+    carry_out(g, &table, 1024, older, newer, centre, half_width, height);
+    Refusal::Nothing
+}
+
+// The same by a lent table, which is looked at in each call. Ruled out: the table T in place of the lent one; a table that breaks a rule
+// used; 14 before 10.
+pub fn pluck_with(
+    g: Grid,
+    older: &mut [i64],
+    newer: &mut [i64],
+    centre: usize,
+    half_width: usize,
+    height: i64,
+    table: &[u32],
+) -> Refusal
+    ensures { λ r. ⌜ pluckLeft r (now (older .exit)) (now (newer .exit))
+        ≡ Calls.pluckWith g (now (older .entry)) (now (newer .entry)) centre «half_width» height (now (table .entry)) ⌝ }
+{
+    let refusal = refusal_of(g, older.len(), newer.len(), centre, half_width, height);
+    if !is_nothing(refusal) {
+        return refusal;
+    }
+    let loaded = load_table(table);
+    let LoadedTable::Sound { last } = loaded else {
+        return Refusal::BrokenTable;
+    };
+    carry_out(g, table, last, older, newer, centre, half_width, height);
     Refusal::Nothing
 }

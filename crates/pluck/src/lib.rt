@@ -1,6 +1,7 @@
-// A pluck: both levels of a line get the shape that its rule gives.
+// Plucks: both levels of a line get the shape that their rule gives, by the table T or by a lent one.
 mod call;
 mod shape;
 mod table;
 
 pub use call::pluck;
+pub use call::pluck_with;

@@ -20,12 +20,12 @@ pub(crate) struct Shape {
     pub height: i64,
 }
 
-// From the place of one distance to that of the next: 1024/width entries, rounded up.
-fn step_of(width: usize) -> usize
-    requires { ⌜ 1 ≤ width ⌝ }
+// From the place of one distance to that of the next: last/width entries, rounded up.
+fn step_of(width: usize, last: usize) -> usize
+    requires { ⌜ (1 ≤ width) × (last ≡ 1024) ⌝ }
     ensures { λ r. ⌜ r ≡ stepOf width ⌝ }
 {
-    1024 * (PARTS / width + 1)
+    last * (PARTS / width + 1)
 }
 
 // A moving point at distance d: its place is width − d steps from the first entry.
@@ -52,12 +52,12 @@ fn put(shape: Shape, d: usize, v: i64, level: &mut [i64])
 }
 
 // A level of the line, overwritten: each distance is worked out once.
-pub(crate) fn fill(shape: Shape, table: &[u32], level: &mut [i64])
-    requires { ⌜ Shaped shape × ShapeRule (now table) × (shape .run .to ≤ length (now level)) ⌝ }
+pub(crate) fn fill(shape: Shape, table: &[u32], last: usize, level: &mut [i64])
+    requires { ⌜ Shaped shape × ShapeRule (now table) × (last ≡ 1024) × (shape .run .to ≤ length (now level)) ⌝ }
     ensures { λ _. ⌜ now (level .exit) ≡ tabulate (length (now (level .entry))) (shapeAt (now (table .entry)) shape) ⌝ }
 {
     clear(level);
-    let step = step_of(shape.width);
+    let step = step_of(shape.width, last);
     let mut d = 0;
     while d <= shape.width {
         let v = value(shape, table, step, d);

@@ -9,6 +9,7 @@ use mir.Facts.{and-yes}
 use lib.Dec.{T, leb, eqb, leb→le, eqb→eq}
 use lib.ListN.{length, getD}
 use Rattle.pluck_table.specs.Table.{ShapeRule, TableRule, table}
+use Rattle.pluck_table.specs.Loading.{neverFalls}
 
 -- the test f passes at each place of the list, counted from i, and its entry
 abbrev every : (ℕ → ℕ → Bool) → ℕ → List ℕ → Bool
@@ -22,17 +23,12 @@ from f (x ∷ xs) i t (suc k) h =
     subst (λ (m : ℕ). T (f m (getD xs k 0))) (suc-add i k ∙ sym (add-suc i k))
     (from f xs (suc i) (and-yes (f i x) (every f (suc i) xs) t .1) k (le-of-suc-le-suc h))
 
--- no entry is below the one before it
-abbrev rising : List ℕ → Bool
-rising [] = true
-rising (x ∷ []) = true
-rising (x ∷ y ∷ ys) = leb x y && rising (y ∷ ys)
-
-rises : (xs : List ℕ) → T (rising xs) → (k : ℕ) → suc k < length xs → getD xs k 0 ≤ getD xs (suc k) 0
+-- what never falls, entry by entry
+pub rises : (xs : List ℕ) → T (neverFalls xs) → (k : ℕ) → suc k < length xs → getD xs k 0 ≤ getD xs (suc k) 0
 rises [] t k h = absurd (not-suc-le-zero h)
 rises (x ∷ []) t k h = absurd (not-suc-le-zero (le-of-suc-le-suc h))
-rises (x ∷ y ∷ ys) t zero h = leb→le x y (and-yes (leb x y) (rising (y ∷ ys)) t .0)
-rises (x ∷ y ∷ ys) t (suc k) h = rises (y ∷ ys) (and-yes (leb x y) (rising (y ∷ ys)) t .1) k (le-of-suc-le-suc h)
+rises (x ∷ y ∷ ys) t zero h = leb→le x y (and-yes (leb x y) (neverFalls (y ∷ ys)) t .0)
+rises (x ∷ y ∷ ys) t (suc k) h = rises (y ∷ ys) (and-yes (leb x y) (neverFalls (y ∷ ys)) t .1) k (le-of-suc-le-suc h)
 
 mirrored : ℕ → ℕ → Bool
 mirrored j x = eqb (x + getD table (1024 - j) 0) 65536

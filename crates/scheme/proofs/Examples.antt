@@ -3,13 +3,14 @@ use mathlib.Core.Path.{refl}
 use lib.Ieee.{ofBits, div, ofInt}
 use Rattle.integers.specs.Sum.{sum, sumOver}
 use Rattle.pluck_table.specs.Table.{table}
+use Rattle.pluck_table.specs.Loading.{keepsRule, loadedTable}
 use Rattle.scheme.specs.Lists.{tabulate, someBelow, countBelow, only}
 use Rattle.scheme.specs.Instruments.{kindOf, sizeIn, stableIn, roundEdge, fixedIn, moving, freeIn}
 use Rattle.scheme.specs.Step.{beside, neighbours, laplacian, innerLaplacian, numerator, roundAway, nextAt, nextLevel, inexactAt}
 use Rattle.scheme.specs.Step.{inexactIn, someBeyond, sampleOf, floatOf}
 use Rattle.scheme.specs.Pluck.{pluckAt, pluckLevel}
-use Rattle.scheme.specs.Refusals.{fixedNotZero, blockRefusal, pluckRefusal, readingRefusal, instrumentRefusal}
-use Rattle.scheme.specs.Calls.{play, capped, block, blockInPlace, pluck, reading}
+use Rattle.scheme.specs.Refusals.{fixedNotZero, blockRefusal, pluckRefusal, pluckWithRefusal, readingRefusal, instrumentRefusal}
+use Rattle.scheme.specs.Calls.{play, capped, block, blockInPlace, pluckBy, pluck, pluckWith, reading}
 use Rattle.scheme.specs.Energy.{weight, squares, later, pairSum, laplacianSum, energy}
 use Rattle.scheme.specs.Book.{unroundedAt, unroundedStep, unroundedSteps, goesOn, bookBlock, bookPluck, sumBlock, sumPluck}
 use Rattle.scheme.specs.Book.{leaves, bookCall, sumCall, calls}
@@ -26,6 +27,8 @@ use Rattle.scheme.specs.FurtherExamples.{inPlaceTurnedDown, inPlaceEmpty
 use Rattle.scheme.specs.FurtherExamples.{pluckedBook, pluckThenStep, outcomes, inPlaceOutcomes, distances, halfOff, FurtherHold}
 use Rattle.scheme.specs.PlateExamples as Plates
 use Rattle.scheme.specs.PlateExamples.{PlatesHold}
+use Rattle.scheme.specs.LentExamples as Lent
+use Rattle.scheme.specs.LentExamples.{LentHold}
 use Rattle.scheme.specs.MirrorExamples as Runs
 use Rattle.scheme.specs.MirrorExamples.{MirrorsHold, RunsHold, LowestBeyond}
 
@@ -33,14 +36,15 @@ use Rattle.scheme.specs.MirrorExamples.{MirrorsHold, RunsHold, LowestBey
 pub mirrors-hold : MirrorsHold
 unfolding sumOver tabulate someBelow countBelow only kindOf sizeIn stableIn fixedIn moving freeIn beside neighbours laplacian innerLaplacian
     numerator roundAway nextAt nextLevel inexactAt inexactIn someBeyond sampleOf table pluckAt pluckLevel fixedNotZero blockRefusal
-    pluckRefusal play capped block blockInPlace pluck unroundedAt unroundedStep unroundedSteps goesOn bookBlock bookPluck sumBlock sumPluck
-    leaves bookCall sumCall calls
+    pluckRefusal pluckWithRefusal keepsRule loadedTable play capped block blockInPlace pluckBy pluck pluckWith unroundedAt unroundedStep
+    unroundedSteps goesOn bookBlock bookPluck sumBlock sumPluck leaves bookCall sumCall calls
 mirrors-hold Runs.halves = refl
 mirrors-hold Runs.readOut = refl
 mirrors-hold Runs.struck = refl
 mirrors-hold Runs.bent = refl
 mirrors-hold Runs.ended = refl
 mirrors-hold Runs.plucked = refl
+mirrors-hold Runs.pluckedWith = refl
 mirrors-hold Runs.tooHigh = refl
 mirrors-hold Runs.notZero = refl
 mirrors-hold Runs.tooStrong = refl
@@ -62,7 +66,7 @@ examples-hold J = (refl, refl)
 pub further-hold : FurtherHold
 unfolding sum sumOver tabulate someBelow countBelow only kindOf sizeIn stableIn roundEdge fixedIn moving freeIn beside neighbours laplacian
     innerLaplacian numerator roundAway nextAt nextLevel inexactAt inexactIn someBeyond sampleOf floatOf table pluckAt pluckLevel
-    fixedNotZero blockRefusal pluckRefusal readingRefusal instrumentRefusal play capped block blockInPlace pluck reading weight squares
+    fixedNotZero blockRefusal pluckRefusal readingRefusal instrumentRefusal play capped block blockInPlace pluckBy pluck reading weight squares
     later pairSum laplacianSum energy unroundedAt unroundedStep unroundedSteps goesOn bookBlock bookPluck sumBlock sumPluck leaves bookCall
     sumCall calls ofBits div ofInt
 further-hold freeEndTwice = refl
@@ -158,16 +162,37 @@ plates-hold Plates.blockEnded = (refl, refl)
 plates-hold Plates.energies = refl
 plates-hold Plates.book = refl
 
+pub lent-hold : LentHold
+unfolding sumOver tabulate someBelow countBelow only kindOf sizeIn stableIn fixedIn moving freeIn beside neighbours laplacian innerLaplacian
+    numerator roundAway nextAt nextLevel inexactAt inexactIn someBeyond sampleOf table keepsRule loadedTable pluckAt pluckLevel fixedNotZero
+    blockRefusal pluckRefusal pluckWithRefusal play capped block pluckBy pluckWith unroundedAt unroundedStep unroundedSteps goesOn bookBlock
+    bookPluck sumBlock sumPluck leaves bookCall sumCall calls
+lent-hold Lent.loaded = (refl, refl, refl, refl)
+lent-hold Lent.lengths = refl
+lent-hold Lent.ends = refl
+lent-hold Lent.falls = refl
+lent-hold Lent.sound = refl
+lent-hold Lent.ordered = refl
+lent-hold Lent.copyOfT = refl
+lent-hold Lent.straightLine = refl
+lent-hold Lent.lateRise = refl
+lent-hold Lent.earlyRise = refl
+lent-hold Lent.turnedDown = refl
+lent-hold Lent.book = refl
+lent-hold Lent.bookOfRefused = refl
+lent-hold Lent.outcomes = refl
+
 pub runs-hold : RunsHold
 unfolding sumOver tabulate someBelow countBelow only kindOf sizeIn stableIn fixedIn moving freeIn beside neighbours laplacian innerLaplacian
     numerator roundAway nextAt nextLevel inexactAt inexactIn someBeyond sampleOf table pluckAt pluckLevel fixedNotZero blockRefusal
-    pluckRefusal play capped block blockInPlace pluck leaves calls
+    pluckRefusal pluckWithRefusal keepsRule loadedTable play capped block blockInPlace pluckBy pluck pluckWith leaves calls
 runs-hold Runs.halves = refl
 runs-hold Runs.readOut = refl
 runs-hold Runs.struck = refl
 runs-hold Runs.bent = refl
 runs-hold Runs.ended = refl
 runs-hold Runs.plucked = refl
+runs-hold Runs.pluckedWith = refl
 runs-hold Runs.tooHigh = refl
 runs-hold Runs.notZero = refl
 runs-hold Runs.tooStrong = refl

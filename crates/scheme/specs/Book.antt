@@ -16,7 +16,7 @@ use Rattle.scheme.specs.Lists.{tabulate, point, times}
 use Rattle.scheme.specs.Instruments.{points, moving}
 use Rattle.scheme.specs.Step.{numerator, forceOf, divisor}
 use Rattle.scheme.specs.Pluck.{pluckLevel}
-use Rattle.scheme.specs.Calls.{accepted, AfterBlock, block, AfterInPlace, blockInPlace, AfterPluck, pluck}
+use Rattle.scheme.specs.Calls.{accepted, AfterBlock, block, AfterInPlace, blockInPlace, AfterPluck, pluck, pluckWith}
 
 -- "the kind, grid and settings of its last step", if there was one
 pub data LastStep : Type 0 where
@@ -94,11 +94,12 @@ sumPluck done sum = cond done 0 sum
 -- ---- a call
 
 -- "Each block or pluck in it gets both levels as the last one left them": its other arguments.
--- `inPlaceCall` is "a block that takes only older and newer".
+-- `inPlaceCall` is "a block that takes only older and newer", `pluckWithCall` a pluck that takes "a lent table".
 pub data Call : Type 0 where
   blockCall : Instrument → (work samples : List ℤ) → ℕ → Hit → Call
   inPlaceCall : Instrument → (samples : List ℤ) → ℕ → Hit → Call
   pluckCall : Grid → ℕ → ℕ → ℤ → Call
+  pluckWithCall : Grid → ℕ → ℕ → ℤ → (lent : List ℕ) → Call
 
 -- what a call answers, and what it leaves in the slices lent to it beside the two levels
 pub data Outcome : Type 0 where
@@ -146,17 +147,20 @@ unfoldable pub leaves : Call → (older newer : List ℤ) → Left
 leaves (blockCall i work samples pick h) older newer = leftByBlock (block i older newer work samples pick h)
 leaves (inPlaceCall i samples pick h) older newer = leftByInPlace (blockInPlace i older newer samples pick h)
 leaves (pluckCall g c w a) older newer = leftByPluck (pluck g older newer c w a)
+leaves (pluckWithCall g c w a lent) older newer = leftByPluck (pluckWith g older newer c w a lent)
 
 -- "It is fed the calls' arguments, lent levels included, and each block's answered count of steps, which the rules above fix."
 unfoldable pub bookCall : Call → Outcome → (older newer : List ℤ) → Book → Book
 bookCall (blockCall i work samples pick h) o older newer b = bookBlock i h older newer (stepsOf o) b
 bookCall (inPlaceCall i samples pick h) o older newer b = bookBlock i h older newer (stepsOf o) b
 bookCall (pluckCall g c w a) o older newer b = bookPluck (accepted (refusalOf o)) (pluckLevel table g c w a) b
+bookCall (pluckWithCall g c w a lent) o older newer b = bookPluck (accepted (refusalOf o)) (pluckLevel lent g c w a) b
 
 unfoldable pub sumCall : Call → Outcome → Book → ℕ → ℕ
 sumCall (blockCall i work samples pick h) o b sum = sumBlock i (stepsOf o) (inexactOf o) b sum
 sumCall (inPlaceCall i samples pick h) o b sum = sumBlock i (stepsOf o) (inexactOf o) b sum
 sumCall (pluckCall g c w a) o b sum = sumPluck (accepted (refusalOf o)) sum
+sumCall (pluckWithCall g c w a lent) o b sum = sumPluck (accepted (refusalOf o)) sum
 
 -- ---- a list of calls
 

@@ -1,4 +1,4 @@
--- Blocks, pluck and float reading: all that each answers and leaves, for every argument.
+-- Blocks, plucks and float reading: all that each answers and leaves, for every argument.
 use mathlib.Core.Path.{_≡_}
 use mathlib.Core.Bool.{Bool, true, false, cond}
 use mathlib.Core.List.{List, [], _∷_}
@@ -22,7 +22,7 @@ use Rattle.scheme.specs.Lists.{point}
 use Rattle.scheme.specs.Instruments.{points}
 use Rattle.scheme.specs.Step.{nextLevel, inexactIn, someBeyond, sampleOf, floatOf}
 use Rattle.scheme.specs.Pluck.{pluckLevel}
-use Rattle.scheme.specs.Refusals.{wrongLength, blockRefusal, pluckRefusal, readingRefusal}
+use Rattle.scheme.specs.Refusals.{wrongLength, blockRefusal, pluckRefusal, pluckWithRefusal, readingRefusal}
 
 -- "a call for which none applies is carried out"
 abbrev pub accepted : Refusal → Bool
@@ -185,16 +185,28 @@ pluckLeft refusal older newer = record { refusal = refusal; older = older; newer
 abbrev pub overwritten : List ℤ → AfterPluck
 overwritten xs = pluckLeft Nothing xs xs
 
--- "every lent level .. unchanged"
+-- "every lent level .. unchanged"; of 14: "it returns and leaves what 1 to 12 do"
 abbrev pub pluckRefused : Refusal → (older newer : List ℤ) → AfterPluck
 pluckRefused r older newer = pluckLeft r older newer
 
--- "centre c, half width w, height a"
-unfoldable pub pluck : Grid → (older newer : List ℤ) → ℕ → ℕ → ℤ → AfterPluck
-pluck g older newer c w a =
-    let r = pluckRefusal g (length older) (length newer) c w a in
+-- by any table, where r refuses it or nothing does: "centre c, half width w, height a"
+unfoldable pub pluckBy : (table : List ℕ) → Refusal → Grid → (older newer : List ℤ) → ℕ → ℕ → ℤ → AfterPluck
+pluckBy table r g older newer c w a =
     let done = overwritten (pluckLevel table g c w a) in
     cond (accepted r) done (pluckRefused r older newer)
+
+-- by the table T
+unfoldable pub pluck : Grid → (older newer : List ℤ) → ℕ → ℕ → ℤ → AfterPluck
+pluck g older newer c w a = pluckBy table (pluckRefusal g (length older) (length newer) c w a) g older newer c w a
+
+-- "A pluck may take a lent table of 1025 numbers in place of T." "Points are filled by the same rule as before."
+unfoldable pub pluckWith : Grid → (older newer : List ℤ) → ℕ → ℕ → ℤ → (lent : List ℕ) → AfterPluck
+pluckWith g older newer c w a lent =
+    pluckBy lent (pluckWithRefusal g (length older) (length newer) c w a lent) g older newer c w a
+
+-- "A loaded copy of T must pluck exactly as the built-in one does." Proved as `copy-plucks-alike`.
+abbrev pub CopyPlucksAlike : Type 0
+CopyPlucksAlike = (g : Grid) (older newer : List ℤ) (c w : ℕ) (a : ℤ) → pluckWith g older newer c w a table ≡ pluck g older newer c w a
 
 -- ---- the float reading
 

@@ -13,7 +13,7 @@ use Rattle.types.specs.declared.Hit.{Hit}
 use Rattle.types.specs.declared.Hit.the-variants.{Absent, At}
 use Rattle.types.specs.declared.Refusal.the-variants.{Nothing, UnknownKind, WrongSize, SheetNumber, Coefficient, Unstable}
 use Rattle.types.specs.declared.Refusal.the-variants.{WrongLength, NotMoving, TooStrong, PickUp, HalfWidth, PointBeyond}
-use Rattle.types.specs.declared.Refusal.the-variants.{FixedNotZero, NextBeyond}
+use Rattle.types.specs.declared.Refusal.the-variants.{FixedNotZero, NextBeyond, BrokenTable}
 use Rattle.types.specs.Numbers.{ceiling, number}
 use Rattle.pluck_table.specs.Table.{table}
 use Rattle.scheme.specs.Lists.{point}
@@ -22,7 +22,7 @@ use Rattle.scheme.specs.Pluck.{pluckLevel}
 use Rattle.scheme.specs.Refusals.{wrongLength, instrumentRefusal, blockRefusal, pluckRefusal, readingRefusal}
 use Rattle.scheme.specs.Calls.{AfterBlock, capped, reported, block, AfterInPlace, inPlaceLeft, blockInPlace, pluck, reading}
 use Rattle.scheme.specs.Energy.{energy}
-use Rattle.scheme.specs.Book.{stepOf, Call, blockCall, inPlaceCall, pluckCall, blockOutcome, inPlaceOutcome, pluckOutcome}
+use Rattle.scheme.specs.Book.{stepOf, Call, blockCall, inPlaceCall, pluckCall, pluckWithCall, blockOutcome, inPlaceOutcome, pluckOutcome}
 use Rattle.scheme.specs.Book.{Outcome, Left, AfterCalls, State, start, calls}
 use Rattle.scheme.specs.Claims.{distance, bound, Near}
 use Rattle.scheme.specs.Examples.{grid, instrument, level, minus, next, middle3, middle9}
@@ -49,7 +49,7 @@ hitRefusedBy p f = refusedBy rest rest rest 0 (At p f)
 abbrev pluckRefusedBy : ℕ → (older newer : List ℤ) → ℕ → ℕ → ℤ → ℕ
 pluckRefusedBy k older newer c w a = number (pluckRefusal (grid k 5 1) (length older) (length newer) c w a)
 
-abbrev five : List ℤ
+abbrev pub five : List ℤ
 five = level (0 ∷ 0 ∷ 0 ∷ 0 ∷ 0 ∷ [])
 
 -- one more than the ceiling
@@ -58,20 +58,20 @@ above = ceiling + 1
 
 -- ---- a list of calls
 
-abbrev voice : ℕ → Instrument
+abbrev pub voice : ℕ → Instrument
 voice s = instrument 1 4 1 10000 0 s
 
 abbrev pub nines : List ℤ
 nines = level (9 ∷ 9 ∷ 9 ∷ 9 ∷ [])
 
 -- two steps with a hit; the same refused; one step; one step with another loss; no step, with a hit; a pluck; a pluck refused
-abbrev twoSteps : Call
+abbrev pub twoSteps : Call
 twoSteps = blockCall (voice 5) nines (level (0 ∷ 0 ∷ [])) 1 (At 1 (pos 7))
 
 abbrev refused : Call
 refused = blockCall (voice 5) nines (level (0 ∷ 0 ∷ [])) 9 (At 1 (pos 7))
 
-abbrev oneStep : Call
+abbrev pub oneStep : Call
 oneStep = blockCall (voice 5) nines (level (0 ∷ [])) 1 Absent
 
 abbrev otherStep : Call
@@ -91,19 +91,20 @@ abbrev onTwo : Call → Call
 onTwo (blockCall i work samples pick h) = inPlaceCall i samples pick h
 onTwo (inPlaceCall i samples pick h) = inPlaceCall i samples pick h
 onTwo (pluckCall g c w a) = pluckCall g c w a
+onTwo (pluckWithCall g c w a lent) = pluckWithCall g c w a lent
 
-abbrev fromHere : List Call → AfterCalls
+abbrev pub fromHere : List Call → AfterCalls
 fromHere ks = calls ks (start (pos 0 ∷ pos 1 ∷ minus 2 ∷ pos 0 ∷ []) (level (0 ∷ 3 ∷ 4 ∷ 0 ∷ [])))
 
-abbrev after : List Call → State
+abbrev pub after : List Call → State
 after ks = fromHere ks .state
 
 -- what each call answered
-abbrev outcomesOf : AfterCalls → List Outcome
+abbrev pub outcomesOf : AfterCalls → List Outcome
 outcomesOf a = map (λ (l : Left). l .outcome) (a .left)
 
 -- where the book goes on through three steps
-abbrev threeOn : State
+abbrev pub threeOn : State
 threeOn = record {
   older = level (0 ∷ 19 ∷ 13 ∷ 0 ∷ []);
   newer = level (0 ∷ 22 ∷ 16 ∷ 0 ∷ []);
@@ -266,8 +267,8 @@ shows countHeld =
     })
 shows numbers =
     map number (Nothing ∷ UnknownKind ∷ WrongSize ∷ SheetNumber ∷ Coefficient ∷ Unstable ∷ WrongLength ∷ NotMoving ∷ TooStrong ∷ PickUp
-    ∷ HalfWidth ∷ PointBeyond ∷ FixedNotZero ∷ NextBeyond ∷ [])
-    ≡ 0 ∷ 1 ∷ 2 ∷ 3 ∷ 4 ∷ 5 ∷ 6 ∷ 7 ∷ 8 ∷ 9 ∷ 10 ∷ 11 ∷ 12 ∷ 13 ∷ []
+    ∷ HalfWidth ∷ PointBeyond ∷ FixedNotZero ∷ NextBeyond ∷ BrokenTable ∷ [])
+    ≡ 0 ∷ 1 ∷ 2 ∷ 3 ∷ 4 ∷ 5 ∷ 6 ∷ 7 ∷ 8 ∷ 9 ∷ 10 ∷ 11 ∷ 12 ∷ 13 ∷ 14 ∷ []
 shows kinds =
     instrumentNumbers (instrument 0 3 1 0 0 0 ∷ instrument 1 3 1 0 0 0 ∷ instrument 2 3 1 0 0 0 ∷ instrument 3 3 1 0 0 0
     ∷ instrument 4 3 1 0 0 0 ∷ instrument 5 3 3 0 0 0 ∷ instrument 6 3 3 0 0 0 ∷ instrument 7 3 3 0 0 0

@@ -16,4 +16,5 @@ pub mod Mirror
 pub mod Examples
 pub mod FurtherExamples
 pub mod PlateExamples
+pub mod LentExamples
 pub mod MirrorExamples

@@ -8,8 +8,8 @@ use lib.ListN.{length, take, drop, replicate}
 use Rattle.types.specs.declared.Instrument.{Instrument}
 use Rattle.types.specs.declared.Hit.{Hit}
 use Rattle.types.specs.declared.Hit.the-variants.{Absent, At}
-use Rattle.scheme.specs.Book.{Book, Call, blockCall, inPlaceCall, pluckCall, Outcome, blockOutcome, inPlaceOutcome, pluckOutcome}
-use Rattle.scheme.specs.Book.{Left, State, start, AfterCalls, calls}
+use Rattle.scheme.specs.Book.{Book, Call, blockCall, inPlaceCall, pluckCall, pluckWithCall, Outcome, blockOutcome, inPlaceOutcome}
+use Rattle.scheme.specs.Book.{pluckOutcome, Left, State, start, AfterCalls, calls}
 use Rattle.scheme.specs.Claims.{bookEnergy, distance}
 use Rattle.scheme.specs.Program.{Made, AllKept, callsOf, afterMade}
 
@@ -29,6 +29,7 @@ abbrev pub mirrorCall : Call → Call
 mirrorCall (blockCall i work samples pick h) = blockCall i work samples pick (mirrorHit h)
 mirrorCall (inPlaceCall i samples pick h) = inPlaceCall i samples pick (mirrorHit h)
 mirrorCall (pluckCall g c w a) = pluckCall g c w (negℤ a)
+mirrorCall (pluckWithCall g c w a lent) = pluckWithCall g c w (negℤ a) lent
 
 -- ---- what they give
 
@@ -93,6 +94,7 @@ abbrev pub blank : Call → Call
 blank (blockCall i work samples pick h) = blockCall i (replicate (length work) (pos 0)) (replicate (length samples) (pos 0)) pick h
 blank (inPlaceCall i samples pick h) = inPlaceCall i (replicate (length samples) (pos 0)) pick h
 blank (pluckCall g c w a) = pluckCall g c w a
+blank (pluckWithCall g c w a lent) = pluckWithCall g c w a lent
 
 -- what a call answered, and the samples of its steps done
 abbrev pub heard : Outcome → Outcome

@@ -10,12 +10,14 @@ use Rattle.types.specs.declared.Instrument.{Instrument}
 use Rattle.types.specs.declared.Hit.{Hit}
 use Rattle.types.specs.declared.Hit.the-variants.{Absent, At}
 use Rattle.types.specs.declared.Refusal.{Refusal}
-use Rattle.types.specs.declared.Refusal.the-variants.{Nothing, NotMoving, TooStrong, PointBeyond, FixedNotZero, NextBeyond}
+use Rattle.types.specs.declared.Refusal.the-variants.{Nothing, NotMoving, TooStrong, PointBeyond, FixedNotZero, NextBeyond, BrokenTable}
 use Rattle.scheme.specs.Instruments.{beyond}
-use Rattle.scheme.specs.Book.{Call, blockCall, inPlaceCall, pluckCall, blockOutcome, inPlaceOutcome, pluckOutcome, Left, start, calls}
+use Rattle.scheme.specs.Book.{Call, blockCall, inPlaceCall, pluckCall, pluckWithCall, blockOutcome, inPlaceOutcome, pluckOutcome}
+use Rattle.scheme.specs.Book.{Left, start, calls}
 use Rattle.scheme.specs.Mirror.{MirroredFrom}
 use Rattle.scheme.specs.Examples.{grid, instrument, level, minus, middle3}
 use Rattle.scheme.specs.FurtherExamples.{rest, nines, above}
+use Rattle.scheme.specs.LentExamples.{straight}
 
 -- two levels, a list of calls from there, and what each call leaves
 pub record Run : Type 0 where
@@ -58,6 +60,13 @@ shape = level (0 ∷ 1 ∷ 3 ∷ 1 ∷ 0 ∷ [])
 abbrev plucks : ℕ → ℤ → Call
 plucks c a = pluckCall (grid 1 5 1) c 2 a
 
+-- by a lent table with half width 3
+abbrev lentShape : List ℤ
+lentShape = level (0 ∷ 666 ∷ 1000 ∷ 666 ∷ 0 ∷ [])
+
+abbrev plucksWith : List ℕ → Call
+plucksWith lent = pluckWithCall (grid 1 5 1) 2 3 (pos 1000) lent
+
 -- a block of three points that is refused, by the levels or by the hit
 abbrev refusedBy : Refusal → (older newer : List ℤ) → Hit → Run
 refusedBy r older newer h = record {
@@ -68,7 +77,7 @@ refusedBy r older newer h = record {
 }
 
 pub data MirrorExample : Type 0 where
-  halves readOut struck bent ended plucked tooHigh notZero tooStrong : MirrorExample
+  halves readOut struck bent ended plucked pluckedWith tooHigh notZero tooStrong : MirrorExample
 
 abbrev pub run : MirrorExample → Run
 -- C of the paper's table, whose mirror image is D
@@ -115,6 +124,13 @@ run plucked = record {
   newer = level (6 ∷ 6 ∷ 6 ∷ 6 ∷ 6 ∷ []);
   list = plucks 2 (pos 3) ∷ plucks 0 (pos 3) ∷ plucks 2 (pos above) ∷ [];
   left = pluckLeaves Nothing shape ∷ pluckLeaves NotMoving shape ∷ pluckLeaves TooStrong shape ∷ [];
+}
+-- by a lent table: entry 682 of the straight one is 43648, and 1000 × 43648 / 65536 is cut; then one that 14 refuses
+run pluckedWith = record {
+  older = level (5 ∷ 5 ∷ 5 ∷ 5 ∷ 5 ∷ []);
+  newer = level (6 ∷ 6 ∷ 6 ∷ 6 ∷ 6 ∷ []);
+  list = plucksWith straight ∷ plucksWith [] ∷ [];
+  left = pluckLeaves Nothing lentShape ∷ pluckLeaves BrokenTable lentShape ∷ [];
 }
 -- 11, 12 and 8 by what lies above zero, in the mirror image below
 run tooHigh = refusedBy PointBeyond (middle3 (pos above)) (middle3 (pos 0)) Absent

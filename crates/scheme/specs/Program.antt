@@ -1,4 +1,4 @@
--- Demand 3 of a program, known by its calls of `block`, `block_in_place` and `pluck`: their arguments, their answers and what they left.
+-- Demand 3 of a program, known by its calls of `block`, `block_in_place`, `pluck` and `pluck_with`: their arguments, their answers and what they left.
 use mathlib.Core.Path.{_≡_}
 use mathlib.Core.List.{List, [], _∷_, map}
 use lib.IntN.{ℤ}
@@ -10,7 +10,7 @@ pub record Made : Type 0 where
   pub call : Call
   pub left : Left
 
--- its promise, with the two levels that were lent: the `ensures` of `block`, of `block_in_place` and of `pluck`
+-- its promise, with the two levels that were lent: the `ensures` of `block`, `block_in_place`, `pluck` and `pluck_with`
 abbrev pub Kept : (older newer : List ℤ) → Made → Type 0
 Kept older newer m = m .left ≡ leaves (m .call) older newer
 

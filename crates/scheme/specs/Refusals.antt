@@ -12,8 +12,9 @@ use Rattle.types.specs.declared.Hit.{Hit}
 use Rattle.types.specs.declared.Hit.the-variants.{Absent, At}
 use Rattle.types.specs.declared.Refusal.{Refusal}
 use Rattle.types.specs.declared.Refusal.the-variants.{Nothing, UnknownKind, WrongSize, Coefficient, Unstable, WrongLength, NotMoving}
-use Rattle.types.specs.declared.Refusal.the-variants.{TooStrong, PickUp, HalfWidth, PointBeyond, FixedNotZero}
+use Rattle.types.specs.declared.Refusal.the-variants.{TooStrong, PickUp, HalfWidth, PointBeyond, FixedNotZero, BrokenTable}
 use Rattle.types.specs.Numbers.{D, number}
+use Rattle.pluck_table.specs.Loading.{loadedTable, loadedNumber}
 use Rattle.scheme.specs.Lists.{point, someBelow}
 use Rattle.scheme.specs.Instruments.{kind, beyond, points, within, inTable, stableIn, fixed, moving}
 use Rattle.scheme.specs.Step.{someBeyond}
@@ -71,6 +72,10 @@ wrongWidth g w = not (leb 1 w && leb w (g .columns - 1))
 unfoldable pub fixedNotZero : Grid → List ℤ → Bool
 fixedNotZero g xs = someBelow (length xs) (λ i. fixed g i && ltb 0 (natAbs (point xs i)))
 
+-- 14 "the table breaks a rule or has another length": what loading it answers
+abbrev pub brokenTable : List ℕ → Bool
+brokenTable t = ltb 0 (loadedNumber (loadedTable t))
+
 -- ---- the lowest that applies
 
 -- a test, and what it answers
@@ -84,9 +89,9 @@ lowest [] = Nothing
 lowest ((true ⇒ r) ∷ cs) = r
 lowest ((false ⇒ r) ∷ cs) = lowest cs
 
--- "The lowest number that applies answers": the order of all numbers
+-- "The lowest number that applies answers": the order of all numbers; 14 is "checked after 10"
 abbrev pub order : List ℕ
-order = 1 ∷ 2 ∷ 3 ∷ 4 ∷ 5 ∷ 6 ∷ 7 ∷ 8 ∷ 9 ∷ 10 ∷ 11 ∷ 12 ∷ 13 ∷ []
+order = 1 ∷ 2 ∷ 3 ∷ 4 ∷ 5 ∷ 6 ∷ 7 ∷ 8 ∷ 9 ∷ 10 ∷ 14 ∷ 11 ∷ 12 ∷ 13 ∷ []
 
 -- the checks stand in this order, one after the other
 abbrev pub standsIn : List ℕ → List Check → Bool
@@ -124,6 +129,10 @@ pickChecks g pick = notGridPoint g pick ⇒ PickUp ∷ []
 abbrev pub widthChecks : Grid → ℕ → List Check
 widthChecks g w = wrongWidth g w ⇒ HalfWidth ∷ []
 
+-- 14
+abbrev pub tableChecks : List ℕ → List Check
+tableChecks lent = brokenTable lent ⇒ BrokenTable ∷ []
+
 -- 11 and 12, of tests of all levels that are lent
 abbrev pub stateChecks : (high unfixed : Bool) → List Check
 stateChecks high unfixed = high ⇒ PointBeyond ∷ unfixed ⇒ FixedNotZero ∷ []
@@ -152,6 +161,13 @@ pluckChecks g wrong c w a = gridChecks lastPlucked g ++ (lengthChecks wrong ++ (
 unfoldable pub pluckRefusal : Grid → (older newer : ℕ) → ℕ → ℕ → ℤ → Refusal
 pluckRefusal g older newer c w a = lowest (pluckChecks g (wrongLength g older || wrongLength g newer) c w a)
 
+-- a pluck by a lent table: "14 .. checked after 10"
+abbrev pub pluckWithChecks : Grid → (wrong : Bool) → ℕ → ℕ → ℤ → (lent : List ℕ) → List Check
+pluckWithChecks g wrong c w a lent = pluckChecks g wrong c w a ++ tableChecks lent
+
+unfoldable pub pluckWithRefusal : Grid → (older newer : ℕ) → ℕ → ℕ → ℤ → (lent : List ℕ) → Refusal
+pluckWithRefusal g older newer c w a lent = lowest (pluckWithChecks g (wrongLength g older || wrongLength g newer) c w a lent)
+
 -- "The float reading (kind, columns, rows, newer, pick-up) meets 1, 2, 6, 9, 11 and 12"
 abbrev pub readingChecks : Grid → List ℤ → ℕ → List Check
 readingChecks g newer pick =
@@ -170,4 +186,5 @@ pub record ChecksInOrder : Type 0 where
   pub block : (i : Instrument) (older newer : List ℤ) (wrong : Bool) (pick : ℕ) (h : Hit)
       → T (standsIn order (blockChecks i older newer wrong pick h))
   pub pluck : (g : Grid) (wrong : Bool) (c w : ℕ) (a : ℤ) → T (standsIn order (pluckChecks g wrong c w a))
+  pub pluckWith : (g : Grid) (wrong : Bool) (c w : ℕ) (a : ℤ) (lent : List ℕ) → T (standsIn order (pluckWithChecks g wrong c w a lent))
   pub reading : (g : Grid) (newer : List ℤ) (pick : ℕ) → T (standsIn order (readingChecks g newer pick))

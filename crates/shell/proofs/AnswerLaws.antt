@@ -10,6 +10,7 @@ use lib.ListN.{length, take}
 use Rattle.types.specs.declared.Refusal.{Refusal}
 use Rattle.types.specs.declared.Refusal.the-variants.{Nothing, UnknownKind, WrongSize, SheetNumber, Coefficient, Unstable, WrongLength}
 use Rattle.types.specs.declared.Refusal.the-variants.{NotMoving, TooStrong, PickUp, HalfWidth, PointBeyond, FixedNotZero, NextBeyond}
+use Rattle.types.specs.declared.Refusal.the-variants.{BrokenTable}
 use Rattle.types.specs.Numbers.{number}
 use Rattle.scheme.proofs.Laws.Bools.{and-both}
 use Rattle.decimals.specs.Decimals.{all, digitsValue, isUnsigned, isSigned}
@@ -44,6 +45,7 @@ number-low HalfWidth = omega arith
 number-low PointBeyond = omega arith
 number-low FixedNotZero = omega arith
 number-low NextBeyond = omega arith
+number-low BrokenTable = omega arith
 
 -- ---- the steps that a line may ask for
 

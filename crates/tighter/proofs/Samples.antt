@@ -18,7 +18,8 @@ use Rattle.scheme.specs.Instruments.{points}
 use Rattle.scheme.specs.Step.{sampleOf, divisor}
 use Rattle.scheme.specs.Refusals.{wrongLength, blockRefusal}
 use Rattle.scheme.specs.Calls.{accepted, AfterBlock, play, block, blockInPlace}
-use Rattle.scheme.specs.Book.{LastStep, stepOf, Book, fresh, scale, goesOn, bookBlock, Call, blockCall, inPlaceCall, pluckCall, leaves}
+use Rattle.scheme.specs.Book.{LastStep, stepOf, Book, fresh, scale, goesOn, bookBlock, Call, blockCall, inPlaceCall, pluckCall, pluckWithCall}
+use Rattle.scheme.specs.Book.{leaves}
 use Rattle.scheme.specs.Book.{State, start, called, calls}
 use Rattle.scheme.specs.Program.{callsOf}
 use Rattle.scheme.proofs.Laws.Rounding.{sample-rule}
@@ -124,6 +125,7 @@ module _ (C : OfSteps) (S : OfSamples)
   call-samples (blockCall i work samples pick h) t w = block-samples i work samples pick h t w
   call-samples (inPlaceCall i samples pick h) t w = in-place-samples i samples pick h t w
   call-samples (pluckCall g c a x) t w = tt
+  call-samples (pluckWithCall g c a x lent) t w = tt
 
   every-sample : OfEveryList C → OfEverySample S
   every-sample all older newer ks = each-call Whatever (EachSample S) whatever-next call-samples ks (start older newer) (all older newer)

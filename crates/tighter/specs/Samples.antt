@@ -10,7 +10,7 @@ use Rattle.types.specs.declared.Hit.{Hit}
 use Rattle.scheme.specs.Lists.{point, square}
 use Rattle.scheme.specs.Step.{divisor}
 use Rattle.scheme.specs.Energy.{weight}
-use Rattle.scheme.specs.Book.{scale, bookBlock, Call, blockCall, inPlaceCall, pluckCall, Outcome, stepsOf, samplesOf, State, start}
+use Rattle.scheme.specs.Book.{scale, bookBlock, Call, blockCall, inPlaceCall, pluckCall, pluckWithCall, Outcome, stepsOf, samplesOf, State, start}
 use Rattle.scheme.specs.Book.{EachCall}
 use Rattle.scheme.specs.Program.{Made, AllKept, EachMade}
 use Rattle.tighter.specs.Bounds.{Bound, limit, Row, demanded, numbers}
@@ -32,6 +32,7 @@ abbrev pub EachSample : OfSamples → State → Call → Outcome → Type 0
 EachSample P t (blockCall i work samples pick h) o = OfBlock P t i pick h o
 EachSample P t (inPlaceCall i samples pick h) o = OfBlock P t i pick h o
 EachSample P t (pluckCall g c w a) o = Unit {0}
+EachSample P t (pluckWithCall g c w a lent) o = Unit {0}
 
 -- any two starting levels, any list of blocks and plucks, refused ones included
 abbrev pub OfEverySample : OfSamples → Type 0

@@ -92,10 +92,11 @@ pub enum Refusal {
     PointBeyond,
     FixedNotZero,
     NextBeyond,
+    BrokenTable,
 }
 
 impl Refusal {
-    // The paper's number of each, 0 for none. Ruled out: 13 answered as 12; 3 answered as 0.
+    // The paper's number of each, 0 for none. Ruled out: 13 answered as 12; 3 answered as 0; 14 answered as 10.
     pub fn number(self) -> u64
         ensures { λ r. ⌜ r ≡ number self ⌝ }
     {
@@ -114,6 +115,7 @@ impl Refusal {
             Refusal::PointBeyond => 11,
             Refusal::FixedNotZero => 12,
             Refusal::NextBeyond => 13,
+            Refusal::BrokenTable => 14,
         }
     }
 }

@@ -1,7 +1,7 @@
--- Laws of block (on two levels too), pluck and reading, for every argument: by their cases, lengths kept, and what an accepted block
+-- Laws of block (on two levels too), pluck (by a lent table too) and reading, for every argument: by their cases, lengths kept, and what an accepted block
 -- leaves passes 11 and 12.
 use mathlib.Core.Path.{_≡_, refl, sym, ap, _∙_, subst}
-use mathlib.Core.Bool.{Bool, true, false, not, _&&_, cond}
+use mathlib.Core.Bool.{Bool, true, false, not, _&&_, _||_, cond}
 use mathlib.Core.List.{List, [], _∷_}
 use mathlib.Core.Logic.{_⊎_, inl, inr}
 use Prim.Native.Nat.{ℕ, zero, suc, _+_, _-_, _^_, _≤_, _<_}
@@ -17,21 +17,25 @@ use Rattle.types.specs.declared.Instrument.{Instrument}
 use Rattle.types.specs.declared.Hit.{Hit}
 use Rattle.types.specs.declared.Hit.the-variants.{Absent}
 use Rattle.types.specs.declared.Refusal.{Refusal}
-use Rattle.types.specs.declared.Refusal.the-variants.{Nothing, NextBeyond}
+use Rattle.types.specs.declared.Refusal.the-variants.{Nothing, NextBeyond, BrokenTable}
+use Rattle.pluck_table.specs.declared.LoadedTable.{LoadedTable}
 use Rattle.pluck_table.specs.Table.{table}
+use Rattle.pluck_table.specs.Loading.{loadedNumber}
+use Rattle.pluck_table.proofs.LoadingLaws.{table-loads}
 use Rattle.scheme.specs.Lists.{point}
 use Rattle.scheme.specs.Instruments.{points, fixed}
 use Rattle.scheme.specs.Step.{nextLevel, inexactIn, someBeyond, sampleOf, floatOf}
 use Rattle.scheme.specs.Pluck.{pluckLevel}
-use Rattle.scheme.specs.Refusals.{wrongLength, fixedNotZero, blockRefusal, pluckRefusal, readingRefusal}
+use Rattle.scheme.specs.Refusals.{wrongLength, fixedNotZero, brokenTable, pluckChecks, blockRefusal, pluckRefusal, pluckWithRefusal}
+use Rattle.scheme.specs.Refusals.{readingRefusal}
 use Rattle.scheme.specs.Calls.{accepted, AfterSteps, ended, oneMore, play, levelsAfter, inexactAfter, hitAfter, StandsBehind}
 use Rattle.scheme.specs.Calls.{StepsStandBehind, AfterBlock, capped, withWorkZero, blockRefused, block, overwritten, pluckRefused}
-use Rattle.scheme.specs.Calls.{reported, inPlaceLeft, withoutWork, blockInPlace, BlocksAgree, pluck, reading}
+use Rattle.scheme.specs.Calls.{reported, inPlaceLeft, withoutWork, blockInPlace, BlocksAgree, pluckBy, pluck, pluckWith, CopyPlucksAlike, reading}
 use Rattle.scheme.specs.Claims.{LevelPasses}
 use Rattle.scheme.proofs.Laws.Bools.{cases}
 use Rattle.scheme.proofs.Laws.Lists.{none-below}
 use Rattle.scheme.proofs.Laws.Step.{fixed-still, length-next, next-fixed}
-use Rattle.scheme.proofs.Laws.Refusals.{accepted-is, block-passes}
+use Rattle.scheme.proofs.Laws.Refusals.{last-passed, accepted-is, block-passes}
 
 -- a next level within the ceiling passes
 pub next-passes : (i : Instrument) (h : Hit) (older newer : List ℤ) → someBeyond (nextLevel i h older newer) ≡ false
@@ -265,15 +269,43 @@ blocks-agree i older newer work samples pick h long =
 -- ---- a pluck
 
 module _ (g : Grid) (older newer : List ℤ) (c w : ℕ) (a : ℤ) where
+  -- by any table
+  pub by-done : (ts : List ℕ) {r : Refusal} → r ≡ Nothing → pluckBy ts r g older newer c w a ≡ overwritten (pluckLevel ts g c w a)
+  unfolding pluckBy
+  by-done ts e = simp e
+
+  pub by-refused : (ts : List ℕ) {r : Refusal} → accepted r ≡ false → pluckBy ts r g older newer c w a ≡ pluckRefused r older newer
+  unfolding pluckBy
+  by-refused ts e = simp e
+
   pub pluck-done : pluckRefusal g (length older) (length newer) c w a ≡ Nothing → pluck g older newer c w a
       ≡ overwritten (pluckLevel table g c w a)
   unfolding pluck
-  pluck-done e = simp e
+  pluck-done e = by-done table e
 
   pub pluck-refused : accepted (pluckRefusal g (length older) (length newer) c w a) ≡ false → pluck g older newer c w a
       ≡ pluckRefused (pluckRefusal g (length older) (length newer) c w a) older newer
   unfolding pluck
-  pluck-refused e = simp e
+  pluck-refused e = by-refused table e
+
+  -- by a lent one
+  pub with-done : (lent : List ℕ) → pluckWithRefusal g (length older) (length newer) c w a lent ≡ Nothing
+      → pluckWith g older newer c w a lent ≡ overwritten (pluckLevel lent g c w a)
+  unfolding pluckWith
+  with-done lent e = by-done lent e
+
+  pub with-refused : (lent : List ℕ) → accepted (pluckWithRefusal g (length older) (length newer) c w a lent) ≡ false
+      → pluckWith g older newer c w a lent ≡ pluckRefused (pluckWithRefusal g (length older) (length newer) c w a lent) older newer
+  unfolding pluckWith
+  with-refused lent e = by-refused lent e
+
+-- T is loaded, so that its copy is refused by no more
+pub copy-plucks-alike : CopyPlucksAlike
+unfolding pluck pluckWith pluckRefusal pluckWithRefusal
+copy-plucks-alike g older newer c w a =
+    ap (λ (r : Refusal). pluckBy table r g older newer c w a)
+    (last-passed (pluckChecks g (wrongLength g (length older) || wrongLength g (length newer)) c w a) (brokenTable table) BrokenTable
+    (ap (λ (l : LoadedTable). ltb 0 (loadedNumber l)) table-loads))
 
 -- ---- the float reading
 

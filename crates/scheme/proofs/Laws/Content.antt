@@ -17,7 +17,7 @@ use Rattle.scheme.specs.Step.{nextLevel, inexactIn, someBeyond, sampleOf
 use Rattle.scheme.specs.Refusals.{wrongLength, blockRefusal}
 use Rattle.scheme.specs.Calls.{accepted, AfterSteps, oneMore, play, AfterBlock, reported, blockRefused, block, AfterInPlace}
 use Rattle.scheme.specs.Calls.{inPlaceLeft, blockInPlace}
-use Rattle.scheme.specs.Book.{Call, blockCall, inPlaceCall, pluckCall, Outcome, blockOutcome, inPlaceOutcome, Left, leaves}
+use Rattle.scheme.specs.Book.{Call, blockCall, inPlaceCall, pluckCall, pluckWithCall, Outcome, blockOutcome, inPlaceOutcome, Left, leaves}
 use Rattle.scheme.specs.Mirror.{blank, heardLeft}
 use Rattle.scheme.proofs.Laws.Refusals.{accepted-is}
 use Rattle.scheme.proofs.Laws.Calls.{play-ends, play-goes, block-done, block-refused}
@@ -92,3 +92,4 @@ content-left (inPlaceCall i samples pick h) older newer =
     ap (λ (a : AfterInPlace). left (inPlaceOutcome (a .answer) (a .samples)) (a .older) (a .newer))
     (block-content i older newer work samples pick h work _ refl (length-replicate (length samples) _))
 content-left (pluckCall g c w a) older newer = refl
+content-left (pluckWithCall g c w a lent) older newer = refl

@@ -25,16 +25,17 @@ use Rattle.scheme.specs.Lists.{point, someBelow, countBelow}
 use Rattle.scheme.specs.Instruments.{points, fixed, moving}
 use Rattle.scheme.specs.Step.{numerator, roundAway, forceOf, divisor, nextAt, nextLevel, inexactAt, inexactIn, someBeyond, sampleOf}
 use Rattle.scheme.specs.Pluck.{distanceFrom, pluckValue, pluckAt, pluckLevel}
-use Rattle.scheme.specs.Refusals.{lastPlucked, wrongLength, fixedNotZero, _⇒_, lowest, gridChecks, instrumentChecks, lengthChecks}
-use Rattle.scheme.specs.Refusals.{hitChecks, pickChecks, widthChecks, stateChecks, blockRefusal, pluckRefusal}
+use Rattle.scheme.specs.Refusals.{lastPlucked, wrongLength, fixedNotZero, Check, _⇒_, lowest, gridChecks, instrumentChecks, lengthChecks}
+use Rattle.scheme.specs.Refusals.{hitChecks, pickChecks, widthChecks, tableChecks, stateChecks, pluckChecks, blockRefusal, pluckRefusal}
+use Rattle.scheme.specs.Refusals.{pluckWithRefusal}
 use Rattle.scheme.specs.Calls.{accepted, AfterSteps, oneMore, play, AfterBlock, blockLeft, withWorkZero, blockRefused, block}
-use Rattle.scheme.specs.Calls.{AfterPluck, pluckLeft, overwritten, pluckRefused, pluck}
+use Rattle.scheme.specs.Calls.{AfterPluck, pluckLeft, overwritten, pluckRefused, pluckBy, pluck, pluckWith}
 use Rattle.scheme.specs.Mirror.{negated, mirrorHit, mirrorSamples}
 use Rattle.scheme.proofs.Laws.Lists.{map-tabulate}
 use Rattle.scheme.proofs.Laws.Rounding.{round-odd, sample-rule}
 use Rattle.scheme.proofs.Laws.Step.{numerator-scale}
 use Rattle.scheme.proofs.Laws.Refusals.{accepted-is}
-use Rattle.scheme.proofs.Laws.Calls.{play-ends, play-goes, block-done, block-refused, pluck-done, pluck-refused}
+use Rattle.scheme.proofs.Laws.Calls.{play-ends, play-goes, block-done, block-refused, by-done, by-refused}
 
 -- ---- negated levels and forces
 
@@ -114,13 +115,24 @@ block-refusal-even i older newer wrong pick h =
     hit-even g h x ++ pickChecks g pick))) ++
     stateChecks (beyond-even older x || beyond-even newer x) (fixed-even g older x || fixed-even g newer x))
 
+pluck-checks-even : (g : Grid) (older newer : List ℤ) (c w : ℕ) (a : ℤ)
+    → pluckChecks g (wrongLength g (length (negated older)) || wrongLength g (length (negated newer))) c w (negℤ a)
+    ≡ pluckChecks g (wrongLength g (length older) || wrongLength g (length newer)) c w a
+pluck-checks-even g older newer c w a = λ x.
+    gridChecks lastPlucked g ++ (lengthChecks (wrongLength g (length-map older negℤ x) || wrongLength g (length-map newer negℤ x)) ++ (
+    hit-even g (At c a) x ++ widthChecks g w))
+
 pub pluck-refusal-even : (g : Grid) (older newer : List ℤ) (c w : ℕ) (a : ℤ)
     → pluckRefusal g (length (negated older)) (length (negated newer)) c w (negℤ a) ≡ pluckRefusal g (length older) (length newer) c w a
 unfolding pluckRefusal
-pluck-refusal-even g older newer c w a =
-    λ x. lowest (
-    gridChecks lastPlucked g ++ (lengthChecks (wrongLength g (length-map older negℤ x) || wrongLength g (length-map newer negℤ x)) ++ (
-    hit-even g (At c a) x ++ widthChecks g w)))
+pluck-refusal-even g older newer c w a = ap lowest (pluck-checks-even g older newer c w a)
+
+pub with-refusal-even : (g : Grid) (older newer : List ℤ) (c w : ℕ) (a : ℤ) (lent : List ℕ)
+    → pluckWithRefusal g (length (negated older)) (length (negated newer)) c w (negℤ a) lent
+    ≡ pluckWithRefusal g (length older) (length newer) c w a lent
+unfolding pluckWithRefusal
+with-refusal-even g older newer c w a lent =
+    ap (λ (cs : List Check). lowest (cs ++ tableChecks lent)) (pluck-checks-even g older newer c w a)
 
 -- ---- the steps of a block
 
@@ -211,23 +223,29 @@ shape-mirrored ts g c w a = sym (map-tabulate negℤ (points g) _ _ (λ k l. sym
 abbrev pub mirrorPluck : AfterPluck → AfterPluck
 mirrorPluck a = pluckLeft (a .refusal) (negated (a .older)) (negated (a .newer))
 
+-- by any table, where both are refused alike
+by-mirrored : (ts : List ℕ) (r r′ : Refusal) (g : Grid) (older newer : List ℤ) (c w : ℕ) (a : ℤ) → r′ ≡ r
+    → pluckBy ts r′ g (negated older) (negated newer) c w (negℤ a) ≡ mirrorPluck (pluckBy ts r g older newer c w a)
+by-mirrored ts r r′ g older newer c w a even = go (accepted r) refl
+  where
+    go : (t : Bool) → accepted r ≡ t
+        → pluckBy ts r′ g (negated older) (negated newer) c w (negℤ a) ≡ mirrorPluck (pluckBy ts r g older newer c w a)
+    go true e =
+        let z = accepted-is r e in
+        by-done g (negated older) (negated newer) c w (negℤ a) ts (even ∙ z) ∙
+        ap (λ (l : List ℤ). overwritten l) (shape-mirrored ts g c w a) ∙
+        sym (ap (λ (p : AfterPluck). mirrorPluck p) (by-done g older newer c w a ts z))
+    go false e =
+        by-refused g (negated older) (negated newer) c w (negℤ a) ts (ap (λ (r : Refusal). accepted r) even ∙ e) ∙
+        ap (λ (r : Refusal). pluckRefused r (negated older) (negated newer)) even ∙
+        sym (ap (λ (p : AfterPluck). mirrorPluck p) (by-refused g older newer c w a ts e))
+
 pub pluck-mirrored : (g : Grid) (older newer : List ℤ) (c w : ℕ) (a : ℤ) → pluck g (negated older) (negated newer) c w (negℤ a)
     ≡ mirrorPluck (pluck g older newer c w a)
-pluck-mirrored g older newer c w a = go (accepted refusal) refl
-  where
-    refusal : Refusal
-    refusal = pluckRefusal g (length older) (length newer) c w a
+unfolding pluck
+pluck-mirrored g older newer c w a = by-mirrored table _ _ g older newer c w a (pluck-refusal-even g older newer c w a)
 
-    even : pluckRefusal g (length (negated older)) (length (negated newer)) c w (negℤ a) ≡ refusal
-    even = pluck-refusal-even g older newer c w a
-
-    go : (t : Bool) → accepted refusal ≡ t → pluck g (negated older) (negated newer) c w (negℤ a) ≡ mirrorPluck (pluck g older newer c w a)
-    go true e =
-        let z = accepted-is refusal e in
-        pluck-done g (negated older) (negated newer) c w (negℤ a) (even ∙ z) ∙
-        ap (λ (l : List ℤ). overwritten l) (shape-mirrored table g c w a) ∙
-        sym (ap (λ (p : AfterPluck). mirrorPluck p) (pluck-done g older newer c w a z))
-    go false e =
-        pluck-refused g (negated older) (negated newer) c w (negℤ a) (ap (λ (r : Refusal). accepted r) even ∙ e) ∙
-        ap (λ (r : Refusal). pluckRefused r (negated older) (negated newer)) even ∙
-        sym (ap (λ (p : AfterPluck). mirrorPluck p) (pluck-refused g older newer c w a e))
+pub with-mirrored : (g : Grid) (older newer : List ℤ) (c w : ℕ) (a : ℤ) (lent : List ℕ)
+    → pluckWith g (negated older) (negated newer) c w (negℤ a) lent ≡ mirrorPluck (pluckWith g older newer c w a lent)
+unfolding pluckWith
+with-mirrored g older newer c w a lent = by-mirrored lent _ _ g older newer c w a (with-refusal-even g older newer c w a lent)

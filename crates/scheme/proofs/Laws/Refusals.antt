@@ -1,7 +1,7 @@
 -- What it says that no refusal applies.
 use mathlib.Core.Path.{_≡_, refl, sym, ap, _∙_, subst}
 use mathlib.Core.Bool.{Bool, true, false, not, _&&_, _||_, true≢false}
-use mathlib.Core.List.{List, [], _∷_}
+use mathlib.Core.List.{List, [], _∷_, _++_}
 use Prim.Native.Nat.{ℕ, _≤_, _<_}
 use native.Mathlib.Omega.{arith}
 use borrow.Author.Tests.{eqb-true, ltb-true, ltb-false, not-false}
@@ -17,7 +17,7 @@ use Rattle.types.specs.declared.Hit.{Hit}
 use Rattle.types.specs.declared.Refusal.{Refusal}
 use Rattle.types.specs.declared.Refusal.the-variants.{Nothing, UnknownKind, WrongSize, SheetNumber, Coefficient, Unstable}
 use Rattle.types.specs.declared.Refusal.the-variants.{WrongLength, NotMoving, TooStrong, PickUp, HalfWidth, PointBeyond}
-use Rattle.types.specs.declared.Refusal.the-variants.{FixedNotZero, NextBeyond}
+use Rattle.types.specs.declared.Refusal.the-variants.{FixedNotZero, NextBeyond, BrokenTable}
 use Rattle.types.specs.Numbers.{D, ceiling, number}
 use Rattle.scheme.specs.Lists.{point}
 use Rattle.scheme.specs.Instruments.{points, beyond, fixed, moving}
@@ -33,7 +33,12 @@ use Rattle.scheme.proofs.Laws.Lists.{none-at}
 
 -- each call's checks stand in the order of all numbers: by computing
 pub checks-in-order : ChecksInOrder
-checks-in-order = record { block = λ i older newer wrong pick h. tt; pluck = λ g wrong c w a. tt; reading = λ g newer pick. tt }
+checks-in-order = record {
+  block = λ i older newer wrong pick h. tt;
+  pluck = λ g wrong c w a. tt;
+  pluckWith = λ g wrong c w a lent. tt;
+  reading = λ g newer pick. tt;
+}
 
 -- ---- a list of checks
 
@@ -57,6 +62,12 @@ applies-none [] n = refl
 applies-none ((true ⇒ r) ∷ cs) n = absurd (true≢false (n .0))
 applies-none ((false ⇒ r) ∷ cs) n = applies-none cs (n .1)
 
+-- a last check that does not apply
+pub last-passed : (cs : List Check) (t : Bool) (r : Refusal) → t ≡ false → lowest (cs ++ (t ⇒ r ∷ [])) ≡ lowest cs
+last-passed [] t r e = ap (λ (b : Bool). lowest (b ⇒ r ∷ [])) e
+last-passed ((true ⇒ x) ∷ cs) t r e = refl
+last-passed ((false ⇒ x) ∷ cs) t r e = last-passed cs t r e
+
 -- nothing refuses it
 pub accepted-is : (r : Refusal) → accepted r ≡ true → r ≡ Nothing
 accepted-is Nothing e = refl
@@ -73,6 +84,7 @@ accepted-is HalfWidth e = absurd (true≢false (sym e))
 accepted-is PointBeyond e = absurd (true≢false (sym e))
 accepted-is FixedNotZero e = absurd (true≢false (sym e))
 accepted-is NextBeyond e = absurd (true≢false (sym e))
+accepted-is BrokenTable e = absurd (true≢false (sym e))
 
 -- ---- what has passed
 

@@ -15,14 +15,14 @@ use Rattle.types.specs.declared.Refusal.the-variants.{Nothing}
 use Rattle.pluck_table.specs.Table.{table}
 use Rattle.scheme.specs.Instruments.{points}
 use Rattle.scheme.specs.Pluck.{pluckLevel}
-use Rattle.scheme.specs.Refusals.{wrongLength, blockRefusal, pluckRefusal}
+use Rattle.scheme.specs.Refusals.{wrongLength, blockRefusal, pluckRefusal, pluckWithRefusal}
 use Rattle.scheme.specs.Calls.{accepted, AfterSteps, play, levelsAfter, inexactAfter, capped, AfterBlock, AfterPluck, block}
-use Rattle.scheme.specs.Calls.{blockInPlace, pluck}
-use Rattle.scheme.specs.Book.{fresh, bookBlock, bookPluck, sumBlock, sumPluck, Call, blockCall, inPlaceCall, pluckCall, leaves}
+use Rattle.scheme.specs.Calls.{blockInPlace, pluckBy, pluck, pluckWith}
+use Rattle.scheme.specs.Book.{fresh, bookBlock, bookPluck, sumBlock, sumPluck, Call, blockCall, inPlaceCall, pluckCall, pluckWithCall, leaves}
 use Rattle.scheme.specs.Book.{bookCall, sumCall, State, stateAfter, called, calls, Outcome, EachCall}
 use Rattle.scheme.specs.Passing.{InstrumentPasses}
 use Rattle.scheme.proofs.Laws.Refusals.{accepted-is, instrument-passes, block-passes}
-use Rattle.scheme.proofs.Laws.Calls.{stands-behind, all-done, block-done, block-refused, pluck-done, pluck-refused}
+use Rattle.scheme.proofs.Laws.Calls.{stands-behind, all-done, block-done, block-refused, by-done, by-refused}
 
 -- k steps of an instrument, the hit in the first, of the levels and in the book, and their inexact points
 abbrev pub stepped : Instrument → Hit → ℕ → State → State
@@ -108,35 +108,40 @@ in-place-after : (i : Instrument) (samples : List ℤ) (pick : ℕ) (h : Hit) (t
 unfolding blockInPlace leaves bookCall sumCall
 in-place-after i samples pick h t = refl
 
-pluck-effect : (g : Grid) (c w : ℕ) (a : ℤ) (t : State) → Effect t (afterCall (pluckCall g c w a) t)
-unfolding leaves bookCall bookPluck sumCall sumPluck
-pluck-effect g c w a t = go (accepted (pluckRefusal g (length (t .older)) (length (t .newer)) c w a)) refl
-  where
-    left : AfterPluck → State
-    left r = record {
-      older = r .older;
-      newer = r .newer;
-      book = bookPluck (accepted (r .refusal)) (pluckLevel table g c w a) (t .book);
-      inexact = sumPluck (accepted (r .refusal)) (t .inexact);
-    }
+-- a pluck by any table: both levels overwritten, or nothing
+module _ (ts : List ℕ) (r : Refusal) (g : Grid) (c w : ℕ) (a : ℤ) (t : State) where
+  abbrev plucked : AfterPluck → State
+  plucked p = record {
+    older = p .older;
+    newer = p .newer;
+    book = bookPluck (accepted (p .refusal)) (pluckLevel ts g c w a) (t .book);
+    inexact = sumPluck (accepted (p .refusal)) (t .inexact);
+  }
 
-    go : (x : Bool) → accepted (pluckRefusal g (length (t .older)) (length (t .newer)) c w a) ≡ x
-        → Effect t (left (pluck g (t .older) (t .newer) c w a))
-    go true e = overwrites (pluckLevel table g c w a) (ap left (pluck-done g (t .older) (t .newer) c w a (accepted-is _ e)))
-    go false e = nothing (ap left (pluck-refused g (t .older) (t .newer) c w a e) ∙
-        ap (λ (x : Bool). record {
-          older = t .older;
-          newer = t .newer;
-          book = bookPluck x (pluckLevel table g c w a) (t .book);
-          inexact = sumPluck x (t .inexact);
-        }) e)
+  pluck-effect : Effect t (plucked (pluckBy ts r g (t .older) (t .newer) c w a))
+  unfolding bookPluck sumPluck
+  pluck-effect = go (accepted r) refl
+    where
+      go : (x : Bool) → accepted r ≡ x → Effect t (plucked (pluckBy ts r g (t .older) (t .newer) c w a))
+      go true e = overwrites (pluckLevel ts g c w a)
+          (ap (λ (p : AfterPluck). plucked p) (by-done g (t .older) (t .newer) c w a ts (accepted-is _ e)))
+      go false e = nothing (ap (λ (p : AfterPluck). plucked p) (by-refused g (t .older) (t .newer) c w a ts e) ∙
+          ap (λ (x : Bool). record {
+            older = t .older;
+            newer = t .newer;
+            book = bookPluck x (pluckLevel ts g c w a) (t .book);
+            inexact = sumPluck x (t .inexact);
+          }) e)
 
 -- the effect of each call
 pub effect-of : (k : Call) (t : State) → Effect t (afterCall k t)
+unfolding leaves bookCall sumCall pluck pluckWith
 effect-of (blockCall i work samples pick h) t = block-effect i work samples pick h t
 effect-of (inPlaceCall i samples pick h) t =
     subst (Effect t) (sym (in-place-after i samples pick h t)) (block-effect i (replicate (points (i .grid)) (pos 0)) samples pick h t)
-effect-of (pluckCall g c w a) t = pluck-effect g c w a t
+effect-of (pluckCall g c w a) t = pluck-effect table (pluckRefusal g (length (t .older)) (length (t .newer)) c w a) g c w a t
+effect-of (pluckWithCall g c w a lent) t =
+    pluck-effect lent (pluckWithRefusal g (length (t .older)) (length (t .newer)) c w a lent) g c w a t
 
 -- what every effect keeps, a list of calls keeps
 pub list-keeps : (P : State → Type 0) → ((t t′ : State) → Effect t t′ → P t → P t′) → (ks : List Call) (t : State) → P t

@@ -19,7 +19,7 @@ use Rattle.scheme.specs.Step.{laplacian, biharmonic, numeratorOf, numera
 use Rattle.scheme.specs.Step.{isMultiple, inexactAt, inexactIn}
 use Rattle.scheme.specs.Calls.{accepted, Levels, levelsAfter, inexactAfter, capped}
 use Rattle.scheme.specs.Book.{LastStep, noStep, stepOf, Book, fresh, scale, unroundedAt, unroundedStep, unroundedSteps, goesOn}
-use Rattle.scheme.specs.Book.{bookBlock, sumBlock, sumPluck, sumCall, Call, blockCall, inPlaceCall, pluckCall, Outcome, stepsOf}
+use Rattle.scheme.specs.Book.{bookBlock, sumBlock, sumPluck, sumCall, Call, blockCall, inPlaceCall, pluckCall, pluckWithCall, Outcome, stepsOf}
 use Rattle.scheme.specs.Book.{inexactOf, refusalOf, State, start, stateAfter, called, calls, EachCall}
 use Rattle.scheme.specs.Program.{Made, afterAll, EachMade}
 use Rattle.scheme.specs.Exact.{bookScale, Unrounded, NoneInexact, ExactSince, ExactFromStart, ProgramExactSince}
@@ -184,12 +184,18 @@ block-sum-kept i zero c b sum e z = z
 block-sum-kept i (suc k) c b sum e z =
     cases (λ x. cond x sum 0 + c ≡ 0) (goesOn i (b .last)) (λ q. omega (arith, e, z)) (λ q. omega (arith, e))
 
+pluck-sum-kept : (done : Bool) (sum : ℕ) → sum ≡ 0 → sumPluck done sum ≡ 0
+unfolding sumPluck
+pluck-sum-kept true sum z = refl
+pluck-sum-kept false sum z = z
+
 -- a call that answered 0 does
 sum-kept : (k : Call) (o : Outcome) (b : Book) (sum : ℕ) → inexactOf o ≡ 0 → sum ≡ 0 → sumCall k o b sum ≡ 0
-unfolding sumCall sumPluck
+unfolding sumCall
 sum-kept (blockCall i work samples pick h) o b sum e z = block-sum-kept i (stepsOf o) (inexactOf o) b sum e z
 sum-kept (inPlaceCall i samples pick h) o b sum e z = block-sum-kept i (stepsOf o) (inexactOf o) b sum e z
-sum-kept (pluckCall g c w a) o b sum e z = cases (λ x. cond x 0 sum ≡ 0) (accepted (refusalOf o)) (λ q. refl) (λ q. z)
+sum-kept (pluckCall g c w a) o b sum e z = pluck-sum-kept (accepted (refusalOf o)) sum z
+sum-kept (pluckWithCall g c w a lent) o b sum e z = pluck-sum-kept (accepted (refusalOf o)) sum z
 
 sums-stay : (ks : List Call) (t : State) → EachCall NoneInexact ks t → t .inexact ≡ 0 → calls ks t .state .inexact ≡ 0
 unfolding calls EachCall

@@ -24,14 +24,14 @@ use Rattle.scheme.specs.Pluck.{pluckLevel}
 use Rattle.scheme.specs.Calls.{accepted, AfterBlock, withoutWork, blockInPlace, AfterPluck}
 use Rattle.scheme.specs.Energy.{weight, squares, energy}
 use Rattle.scheme.specs.Book.{Book, stepOf, fresh, scale, unroundedAt, unroundedStep, unroundedSteps, goesOn, bookBlock, bookPluck}
-use Rattle.scheme.specs.Book.{sumBlock, sumPluck, Call, blockCall, inPlaceCall, pluckCall, Outcome, blockOutcome, inPlaceOutcome}
+use Rattle.scheme.specs.Book.{sumBlock, sumPluck, Call, blockCall, inPlaceCall, pluckCall, pluckWithCall, Outcome, blockOutcome, inPlaceOutcome}
 use Rattle.scheme.specs.Book.{pluckOutcome, stepsOf, inexactOf, refusalOf, Left, leftByBlock, leftByInPlace, leftByPluck, leaves}
 use Rattle.scheme.specs.Book.{bookCall, sumCall, State, start, stateAfter, called, calls}
 use Rattle.scheme.specs.Mirror.{negated, mirrorHit, mirrorCall, mirrorOutcome, mirrorLeft, mirrorBook, mirrorState, mirrorAfter}
 use Rattle.scheme.specs.Mirror.{MirrorImage, MirrorMeasures}
 use Rattle.scheme.proofs.Laws.Lists.{map-tabulate}
 use Rattle.scheme.proofs.Laws.Mirror.{points-negated, force-negated, cond-odd, numerator-odd, block-mirrored, shape-mirrored}
-use Rattle.scheme.proofs.Laws.Mirror.{pluck-mirrored}
+use Rattle.scheme.proofs.Laws.Mirror.{pluck-mirrored, with-mirrored}
 use Rattle.scheme.proofs.Theorems.Forms.{pair-form, laplacian-form}
 
 -- ---- steps in the book
@@ -101,6 +101,13 @@ unfolding bookPluck
 overwritten-mirrored true xs b = refl
 overwritten-mirrored false xs b = refl
 
+-- by a pluck, whatever its table
+plucked-mirrored : (ts : List ℕ) (g : Grid) (c w : ℕ) (a : ℤ) (done : Bool) (b : Book)
+    → bookPluck done (pluckLevel ts g c w (negℤ a)) (mirrorBook b) ≡ mirrorBook (bookPluck done (pluckLevel ts g c w a) b)
+plucked-mirrored ts g c w a done b =
+    ap (λ (xs : List ℤ). bookPluck done xs (mirrorBook b)) (shape-mirrored ts g c w a) ∙
+    overwritten-mirrored done (pluckLevel ts g c w a) b
+
 -- ---- the state after a call
 
 -- what the book and the sum are fed of an outcome
@@ -114,12 +121,15 @@ fed-book (blockCall i work samples pick h) o o′ older newer b e = ap (λ (a : 
 fed-book (inPlaceCall i samples pick h) o o′ older newer b e = ap (λ (a : BlockAnswer). bookBlock i h older newer (a .steps) b) e
 fed-book (pluckCall g c w a) o o′ older newer b e =
     ap (λ (r : BlockAnswer). bookPluck (accepted (r .refusal)) (pluckLevel table g c w a) b) e
+fed-book (pluckWithCall g c w a lent) o o′ older newer b e =
+    ap (λ (r : BlockAnswer). bookPluck (accepted (r .refusal)) (pluckLevel lent g c w a) b) e
 
 pub fed-sum : (k : Call) (o o′ : Outcome) (b : Book) (sum : ℕ) → told o ≡ told o′ → sumCall k o b sum ≡ sumCall k o′ b sum
 unfolding sumCall
 fed-sum (blockCall i work samples pick h) o o′ b sum e = ap (λ (a : BlockAnswer). sumBlock i (a .steps) (a .inexact) b sum) e
 fed-sum (inPlaceCall i samples pick h) o o′ b sum e = ap (λ (a : BlockAnswer). sumBlock i (a .steps) (a .inexact) b sum) e
 fed-sum (pluckCall g c w a) o o′ b sum e = ap (λ (r : BlockAnswer). sumPluck (accepted (r .refusal)) sum) e
+fed-sum (pluckWithCall g c w a lent) o o′ b sum e = ap (λ (r : BlockAnswer). sumPluck (accepted (r .refusal)) sum) e
 
 told-mirrored : (o : Outcome) → told (mirrorOutcome o) ≡ told o
 told-mirrored (blockOutcome a work samples) = refl
@@ -131,15 +141,15 @@ book-mirrored : (k : Call) (o : Outcome) (older newer : List ℤ) (b : Book)
 unfolding bookCall
 book-mirrored (blockCall i work samples pick h) o older newer b = steps-mirrored i h older newer (stepsOf o) b
 book-mirrored (inPlaceCall i samples pick h) o older newer b = steps-mirrored i h older newer (stepsOf o) b
-book-mirrored (pluckCall g c w a) o older newer b =
-    ap (λ (xs : List ℤ). bookPluck (accepted (refusalOf o)) xs (mirrorBook b)) (shape-mirrored table g c w a) ∙
-    overwritten-mirrored (accepted (refusalOf o)) (pluckLevel table g c w a) b
+book-mirrored (pluckCall g c w a) o older newer b = plucked-mirrored table g c w a (accepted (refusalOf o)) b
+book-mirrored (pluckWithCall g c w a lent) o older newer b = plucked-mirrored lent g c w a (accepted (refusalOf o)) b
 
 counts-mirrored : (k : Call) (o : Outcome) (b : Book) (sum : ℕ) → sumCall (mirrorCall k) o (mirrorBook b) sum ≡ sumCall k o b sum
 unfolding sumCall
 counts-mirrored (blockCall i work samples pick h) o b sum = sum-mirrored i (stepsOf o) (inexactOf o) b sum
 counts-mirrored (inPlaceCall i samples pick h) o b sum = sum-mirrored i (stepsOf o) (inexactOf o) b sum
 counts-mirrored (pluckCall g c w a) o b sum = refl
+counts-mirrored (pluckWithCall g c w a lent) o b sum = refl
 
 state-mirrored : (k : Call) (l : Left) (t : State)
     → stateAfter (mirrorCall k) (mirrorLeft l) (mirrorState t) ≡ mirrorState (stateAfter k l t)
@@ -165,6 +175,7 @@ left-mirrored (inPlaceCall i samples pick h) older newer =
     ap (λ (a : AfterBlock). leftByInPlace (withoutWork a))
     (block-mirrored i older newer (replicate (points (i .grid)) (pos 0)) samples pick h)
 left-mirrored (pluckCall g c w a) older newer = ap (λ (p : AfterPluck). leftByPluck p) (pluck-mirrored g older newer c w a)
+left-mirrored (pluckWithCall g c w a lent) older newer = ap (λ (p : AfterPluck). leftByPluck p) (with-mirrored g older newer c w a lent)
 
 -- ---- every list
 

@@ -4,7 +4,7 @@ use mathlib.Core.List.{List, [], _∷_, map}
 use Prim.Native.Nat.{ℕ, zero, suc}
 use lib.IntN.{ℤ, negℤ}
 use lib.ListN.{take}
-use Rattle.scheme.specs.Book.{Book, Call, blockCall, inPlaceCall, pluckCall, Outcome, blockOutcome, inPlaceOutcome, pluckOutcome}
+use Rattle.scheme.specs.Book.{Book, Call, blockCall, inPlaceCall, pluckCall, pluckWithCall, Outcome, blockOutcome, inPlaceOutcome, pluckOutcome}
 use Rattle.scheme.specs.Book.{Left, bookCall, sumCall, State, start, stateAfter, called, AfterCalls, calls}
 use Rattle.scheme.specs.Program.{callsOf}
 use Rattle.scheme.specs.Mirror.{negated, mirrorSamples, mirrorOutcome, mirrorLeft, mirrorState, mirrorAfter, blank, heard}
@@ -25,12 +25,14 @@ unfolding bookCall
 blank-book (blockCall i work samples pick h) o older newer b = refl
 blank-book (inPlaceCall i samples pick h) o older newer b = refl
 blank-book (pluckCall g c w a) o older newer b = refl
+blank-book (pluckWithCall g c w a lent) o older newer b = refl
 
 blank-sum : (k : Call) (o : Outcome) (b : Book) (sum : ℕ) → sumCall (blank k) o b sum ≡ sumCall k o b sum
 unfolding sumCall
 blank-sum (blockCall i work samples pick h) o b sum = refl
 blank-sum (inPlaceCall i samples pick h) o b sum = refl
 blank-sum (pluckCall g c w a) o b sum = refl
+blank-sum (pluckWithCall g c w a lent) o b sum = refl
 
 -- the state after a call
 content-state : (k : Call) (t : State) → stateAfter (blank k) (called (blank k) t) t ≡ stateAfter k (called k t) t

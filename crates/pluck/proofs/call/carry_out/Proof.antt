@@ -29,7 +29,7 @@ module _ (c : tie.After-straight-run) where
   height-is = back (s .args .height) (s .fits .height .sfits)
 
   run-at : c .straight-run .result ≡ runOf (s .args .g) 0
-  run-at = c .straight-run .ensures ∙ line-run _ _ _ _ _ _ (s .pre .1)
+  run-at = c .straight-run .ensures ∙ line-run _ _ _ _ _ _ (s .pre .2)
 
   -- the shape as the code makes it
   abbrev made : Run → ℤ → Shape
@@ -47,14 +47,14 @@ module _ (c : tie.After-fill) where
   older = s m .args .older .now
 
   abbrev filled : List ℤ
-  filled = c .fill .last .1 .1 .0
+  filled = c .fill .last .1 .1 .1 .0
 
   filled-is : filled ≡ tabulate (length older) (shapeAt (s m .args .table .now)
       (shapeOf (s m .args .g) (s m .args .centre) (s m .args .half-width) (s m .args .height)))
   filled-is = c .fill .ensures ∙ ap (λ (x : Shape). tabulate (length older) (shapeAt (s m .args .table .now) x)) (made-is m)
 
   older-is : filled ≡ pluckLevel (s m .args .table .now) (s m .args .g) (s m .args .centre) (s m .args .half-width) (s m .args .height)
-  older-is = filled-is ∙ level-is _ _ _ _ _ _ (s m .pre .1) _
+  older-is = filled-is ∙ level-is _ _ _ _ _ _ (s m .pre .2) _
 
 straight-run-requires : tie.Need-straight-run-requires
 straight-run-requires c κs = search needs
@@ -62,9 +62,10 @@ straight-run-requires c κs = search needs
 fill-requires : tie.Need-fill-requires
 fill-requires c κs =
     let a = s (c .before) .args in
-    let none = s (c .before) .pre .1 in (
+    let none = s (c .before) .pre .2 in (
       subst (λ (x : Shape). Shaped x) (sym (made-is (c .before))) (shaped _ _ _ _ _ _ none),
       s (c .before) .pre .0,
+      s (c .before) .pre .1,
       subst (λ (r : Run). r .to ≤ length (a .older .now)) (sym (run-at (c .before))) (run-in _ _ _ _ _ _ none),
     )
 
@@ -81,7 +82,7 @@ returns : tie.Need-returns
 returns c =
     let f = c .before .before .before .before .before in
     let l : length (filled f) ≡ length (s (m f) .args .newer .now) =
-    ap length (filled-is f) ∙ length-tabulate _ _ ∙ as-long _ _ _ _ _ _ (s (m f) .pre .1) in
+    ap length (filled-is f) ∙ length-tabulate _ _ ∙ as-long _ _ _ _ _ _ (s (m f) .pre .2) in
     (older-is f, c .before .copy .ensures ∙ copied-whole _ _ l ∙ older-is f)
 
 pub carry-out-spec : {M : Type 1} → statement M

@@ -1,5 +1,5 @@
 -- `pluck` meets its contract: the constant is the definition's table, entry by entry.
-use mathlib.Core.Path.{_≡_, sym, ap, ap₂, _∙_}
+use mathlib.Core.Path.{_≡_, refl, sym, ap, ap₂, _∙_}
 use mathlib.Core.List.{List}
 use borrow.Author.Needs.{needs}
 use borrow.Author.Tests.{not-true, not-false}
@@ -65,7 +65,7 @@ unfolding table
 carry-out-requires c κs =
     let e = c .before .before .before in
     let m = e .before .before in
-    (table-rule .shape, ap (refuses m) (height-is m) ∙ nothing-is e)
+    (table-rule .shape, refl, ap (refuses m) (height-is m) ∙ nothing-is e)
 
 same-length : tie.Need-same-length
 same-length c = search needs

@@ -15,10 +15,10 @@ use Rattle.pluck.proofs.shape.fill.Statement.{statement}
 use Rattle.pluck.proofs.shape.fill.Tie as tie
 
 abbrev Inv-loop : tie.InvT-loop
-Inv-loop shape table level₀ step d₀ level d = Raised (length level₀) (shape .centre) (shapeAt table shape) level d
+Inv-loop shape table last level₀ step d₀ level d = Raised (length level₀) (shape .centre) (shapeAt table shape) level d
 
 abbrev μ-loop : tie.MeasureT-loop
-μ-loop shape table level₀ step d₀ level d = shape .width + 1 - d
+μ-loop shape table last level₀ step d₀ level d = shape .width + 1 - d
 
 module _ (c : tie.At-loop Inv-loop μ-loop) where
   abbrev s : tie.Start Inv-loop μ-loop
@@ -49,7 +49,7 @@ value-requires c κs =
 put-requires : tie.Need-put-requires Inv-loop μ-loop
 put-requires c κs =
     let l = c .before .before .before .before in
-    (s l .pre .0, omega (arith, s l .pre .2, l .loop .inv .long, as-long l))
+    (s l .pre .0, omega (arith, s l .pre .3, l .loop .inv .long, as-long l))
 
 add-d : tie.Need-add-d Inv-loop μ-loop
 add-d c =
