@@ -1,5 +1,5 @@
--- What a C program learns from the promises of `buvcsolta_block` and `buvcsolta_pluck` is what the claim about a program asks of its calls:
--- a call was made and kept, with these arguments and slices, and C got its counts of steps and of inexact points
+-- What a C program learns from the promises of `buvcsolta_block`, `buvcsolta_pluck` and `buvcsolta_pluck_with` is what the claim about a
+-- program asks of its calls: a call was made and kept, with these arguments and slices, and C got its counts of steps and of inexact points
 -- and its refusal's number.
 use mathlib.Core.Path.{_≡_, ap}
 use contract.Lifetimes.{Lfts}
@@ -11,7 +11,7 @@ use Rattle.types.specs.declared.Instrument.{Instrument}
 use Rattle.types.specs.declared.Hit.{Hit}
 use Rattle.types.specs.Numbers.{number}
 use Rattle.scheme.specs.Calls as Calls
-use Rattle.scheme.specs.Book.{blockCall, pluckCall, blockOutcome, pluckOutcome, leaves, leftByBlock, leftByPluck}
+use Rattle.scheme.specs.Book.{blockCall, pluckCall, pluckWithCall, blockOutcome, pluckOutcome, leaves, leftByBlock, leftByPluck}
 use Rattle.scheme.specs.Program.{Made, Kept}
 use Rattle.packing.specs.Packing.{gridOf, instrumentOf, hitOf}
 use Rattle.c_api.specs.Exports.{BlockLeft, PluckLeft}
@@ -21,6 +21,9 @@ use Rattle.c_api.proofs.buvcsolta_block.Reads as block-reads
 use Rattle.c_api.proofs.buvcsolta_pluck as pluck
 use Rattle.c_api.proofs.buvcsolta_pluck.Kinds as pluck-kinds
 use Rattle.c_api.proofs.buvcsolta_pluck.Reads as pluck-reads
+use Rattle.c_api.proofs.buvcsolta_pluck_with as with
+use Rattle.c_api.proofs.buvcsolta_pluck_with.Kinds as with-kinds
+use Rattle.c_api.proofs.buvcsolta_pluck_with.Reads as with-reads
 
 -- kind, columns, rows, q, m, s, older, newer, work, samples, pick-up, hit, point, force, steps, inexact
 module _ (κs : Lfts 6) (a : ArgsD block.signature κs) (r : ResD block.signature κs)
@@ -88,3 +91,29 @@ module _ (κs : Lfts 2) (a : ArgsD pluck.signature κs) (r : ResD pluck.signatur
 
   pub pluck-refusal : r ≡ number (plucked .refusal)
   pluck-refusal = ap (λ (x : PluckLeft). x .refusal) learnt
+
+-- kind, columns, rows, older, newer, centre, half width, height, table
+module _ (κs : Lfts 3) (a : ArgsD with.signature κs) (r : ResD with.signature κs)
+    (s : AtExit (endedOf 3 with-kinds.ps with-kinds.r) κs) (learnt : with-reads.Learnt κs a r s) where
+  abbrev plucked-with : Calls.AfterPluck
+  plucked-with =
+      let lent = a .1 .1 .1 in
+      let shape = lent .1 .1 in
+      Calls.pluckWith (gridOf (a .0) (a .1 .0) (a .1 .1 .0)) (lent .0 .now) (lent .1 .0 .now) (shape .0) (shape .1 .0) (shape .1 .1 .0)
+      (shape .1 .1 .1 .0 .now)
+
+  abbrev with-made : Made
+  with-made =
+      let shape = a .1 .1 .1 .1 .1 in
+      let left = s .1 .1 .1 in
+      record {
+        call = pluckWithCall (gridOf (a .0) (a .1 .0) (a .1 .1 .0)) (shape .0) (shape .1 .0) (shape .1 .1 .0) (shape .1 .1 .1 .0 .now);
+        left = record { outcome = pluckOutcome (plucked-with .refusal); older = left .0 .now; newer = left .1 .0 .now };
+      }
+
+  pub with-kept : Kept (a .1 .1 .1 .0 .now) (a .1 .1 .1 .1 .0 .now) with-made
+  unfolding leaves
+  with-kept = ap (λ (x : PluckLeft). leftByPluck (Calls.pluckLeft (plucked-with .refusal) (x .older) (x .newer))) learnt
+
+  pub with-refusal : r ≡ number (plucked-with .refusal)
+  with-refusal = ap (λ (x : PluckLeft). x .refusal) learnt

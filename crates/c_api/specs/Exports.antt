@@ -41,7 +41,7 @@ abbrev pub block : (kind columns rows q m s : ℕ) → (older newer work samples
 block kind columns rows q m s older newer work samples pickUp hit point force =
     blockNumbers (Calls.block (instrumentOf kind columns rows q m s) older newer work samples pickUp (hitOf hit point force))
 
--- ---- a pluck
+-- ---- a pluck, and one by a lent table
 
 pub record PluckLeft : Type 0 where
   pub refusal : ℕ
@@ -57,6 +57,10 @@ pluckNumbers a = pluckLeft (number (a .refusal)) (a .older) (a .newer)
 abbrev pub pluck : (kind columns rows : ℕ) → (older newer : List ℤ) → (centre halfWidth : ℕ) → ℤ → PluckLeft
 pluck kind columns rows older newer centre halfWidth height =
     pluckNumbers (Calls.pluck (gridOf kind columns rows) older newer centre halfWidth height)
+
+abbrev pub pluckWith : (kind columns rows : ℕ) → (older newer : List ℤ) → (centre halfWidth : ℕ) → ℤ → (lent : List ℕ) → PluckLeft
+pluckWith kind columns rows older newer centre halfWidth height lent =
+    pluckNumbers (Calls.pluckWith (gridOf kind columns rows) older newer centre halfWidth height lent)
 
 -- ---- the float reading
 

@@ -5,6 +5,7 @@ ghost use Rattle.c_api.specs.Exports as Exports;
 use engine::Grid;
 use engine::block;
 use engine::pluck;
+use engine::pluck_with;
 use engine::reading;
 use engine::settings_for;
 use packing::hit_of;
@@ -62,6 +63,28 @@ pub extern "C" fn buvcsolta_pluck(
 {
     let g = Grid::new(kind, columns, rows);
     let refusal = pluck(g, older, newer, centre, half_width, height);
+    refusal.number()
+}
+
+// A pluck by a lent table. Ruled out: the lent table not used; the centre taken for the half width.
+#[no_mangle]
+pub extern "C" fn buvcsolta_pluck_with(
+    kind: u64,
+    columns: usize,
+    rows: usize,
+    older: &mut [i64],
+    newer: &mut [i64],
+    centre: usize,
+    half_width: usize,
+    height: i64,
+    table: &[u32],
+) -> u64
+    ensures { λ r. ⌜ Exports.pluckLeft r (now (older .exit)) (now (newer .exit))
+        ≡ Exports.pluckWith kind columns rows (now (older .entry)) (now (newer .entry)) centre «half_width» height
+        (now (table .entry)) ⌝ }
+{
+    let g = Grid::new(kind, columns, rows);
+    let refusal = pluck_with(g, older, newer, centre, half_width, height, table);
     refusal.number()
 }
 

@@ -2,6 +2,7 @@
 pub use block::block;
 pub use block::block_in_place;
 pub use pluck::pluck;
+pub use pluck::pluck_with;
 pub use reading::reading;
 pub use sheet::Loss;
 pub use sheet::Sheet;
