@@ -16,6 +16,7 @@ enum { ROOM = 4096 + 40, PLACES = 64, ROUNDS = 40, THREE_LEVELS = 4, ENGINES, CA
 extern __typeof__(buvcsolta_block) gcc_block, clang_block, reciprocal_block;
 extern __typeof__(buvcsolta_block_in_place) gcc_block_in_place, clang_block_in_place;
 extern __typeof__(buvcsolta_pluck) gcc_pluck, clang_pluck;
+extern __typeof__(buvcsolta_pluck_with) gcc_pluck_with, clang_pluck_with;
 extern __typeof__(buvcsolta_reading) gcc_reading, clang_reading;
 extern __typeof__(buvcsolta_sheet) gcc_sheet, clang_sheet;
 
@@ -24,20 +25,21 @@ struct engine {
     __typeof__(buvcsolta_block) *block;
     __typeof__(buvcsolta_block_in_place) *block_in_place;
     __typeof__(buvcsolta_pluck) *pluck;
+    __typeof__(buvcsolta_pluck_with) *pluck_with;
     __typeof__(buvcsolta_reading) *reading;
     __typeof__(buvcsolta_sheet) *sheet;
 };
 
 static const struct engine engines[ENGINES] = {
-    {"proved", buvcsolta_block, buvcsolta_block_in_place, buvcsolta_pluck, buvcsolta_reading, buvcsolta_sheet},
-    {"gcc", gcc_block, gcc_block_in_place, gcc_pluck, gcc_reading, gcc_sheet},
+    {"proved", buvcsolta_block, buvcsolta_block_in_place, buvcsolta_pluck, buvcsolta_pluck_with, buvcsolta_reading, buvcsolta_sheet},
+    {"gcc", gcc_block, gcc_block_in_place, gcc_pluck, gcc_pluck_with, gcc_reading, gcc_sheet},
 #ifdef WITH_CLANG
-    {"clang", clang_block, clang_block_in_place, clang_pluck, clang_reading, clang_sheet},
+    {"clang", clang_block, clang_block_in_place, clang_pluck, clang_pluck_with, clang_reading, clang_sheet},
 #else
     {0},
 #endif
-    {"reciprocal", reciprocal_block, 0, 0, 0, 0},
-    {"three levels", buvcsolta_block, 0, 0, 0, 0}, /* of rows in place */
+    {"reciprocal", reciprocal_block, 0, 0, 0, 0, 0},
+    {"three levels", buvcsolta_block, 0, 0, 0, 0, 0}, /* of rows in place */
 };
 
 /* What an engine is lent and what it leaves. */
@@ -50,6 +52,7 @@ struct state {
 };
 
 static struct state states[ENGINES];
+static uint32_t straight[BUVCSOLTA_TABLE_LENGTH];
 static double double_levels[3][ROOM], *doubles[3];
 static float double_samples[PLACES];
 
@@ -111,6 +114,12 @@ static void pluck(const struct engine *e, struct state *x, const struct row *r, 
     x->refusal |= e->pluck(r->kind, r->size, 1, x->older, r->size, x->newer, r->size, r->size / 2, r->size / 4, force);
 }
 
+static void pluck_with(const struct engine *e, struct state *x, const struct row *r, int64_t force)
+{
+    x->refusal |= e->pluck_with(r->kind, r->size, 1, x->older, r->size, x->newer, r->size, r->size / 2, r->size / 4, force, straight,
+                                BUVCSOLTA_TABLE_LENGTH);
+}
+
 static void reading(const struct engine *e, struct state *x, const struct row *r, int64_t force)
 {
     struct buvcsolta_instrument i = instrument_of(r);
@@ -139,6 +148,7 @@ static const struct row rows[] = {
     {"block of one step, round membrane", short_block, 6, 8}, {"block of one step, round membrane", short_block, 6, 64},
     {"block of one step, plate", short_block, 7, 8}, {"block of one step, plate", short_block, 7, 64},
     {"pluck", pluck, 1, 32}, {"pluck", pluck, 1, 1024},
+    {"pluck by a lent table", pluck_with, 1, 32}, {"pluck by a lent table", pluck_with, 1, 1024},
     {"reading, string", reading, 1, 32}, {"reading, string", reading, 1, 1024}, {"reading, round membrane", reading, 6, 64},
     {"sheet in hertz", sheet, 1, 101}, {"sheet by tension", sheet, 5, 64},
 };
@@ -287,6 +297,8 @@ int main(int argc, char **argv)
         fputs("usage: bench [count]\n", stderr);
         return 2;
     }
+    for (uint32_t j = 0; j < BUVCSOLTA_TABLE_LENGTH; j++)
+        straight[j] = 64 * j;
     for (int k = 0; k < ROW_COUNT; k++)
         same &= run(&rows[k]);
     for (int k = 0; k < ROW_COUNT; k++)

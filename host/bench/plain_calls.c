@@ -1,15 +1,18 @@
-/* A pluck, a reading and a sheet. */
+/* Plucks, a reading and a sheet. */
 #include "plain.h"
 #include "table.h"
 #include <math.h>
 #include <string.h>
 
 /* Both levels of a pluck that nothing refuses: each distance is worked out once, from the rim to the centre. */
-static void shape(const struct edges *e, int64_t *restrict older, int64_t *restrict newer, size_t centre, size_t width, int64_t height)
+static inline void shape(const uint32_t *restrict from, const struct edges *e, int64_t *restrict older, int64_t *restrict newer,
+                         size_t columns, size_t centre, size_t width, int64_t height)
 {
     size_t whole = 1024 / width, part = 1024 % width, i = 0, rest = 0;
+    memset(older, 0, columns * sizeof *older);
+    memset(newer, 0, columns * sizeof *newer);
     for (size_t d = width; d > 0; d--) {
-        int64_t v = height * table[i] / 65536;
+        int64_t v = height * from[i] / 65536;
         if (d + e->from[0] <= centre)
             older[centre - d] = newer[centre - d] = v;
         if (centre + d < e->to[0])
@@ -19,28 +22,58 @@ static void shape(const struct edges *e, int64_t *restrict older, int64_t *restr
         i += rest >= width;
         rest -= rest >= width ? width : 0;
     }
-    older[centre] = newer[centre] = height * table[i] / 65536;
+    older[centre] = newer[centre] = height * from[i] / 65536;
+}
+
+/* What refuses a pluck, its table apart; where nothing does, the line's moving points. */
+static inline uint64_t pluck_refusal(uint64_t kind, size_t columns, size_t rows, size_t older_length, size_t newer_length, size_t centre,
+                                     size_t half_width, int64_t height, struct edges *e)
+{
+    uint64_t refusal = grid_refusal(kind, 4, columns, rows);
+    if (refusal)
+        return refusal;
+    find_edges(kind, columns, rows, e);
+    if (older_length != columns || newer_length != columns)
+        return 6;
+    if (!is_moving(e, columns, 1, centre))
+        return 7;
+    if (passes(height, CEILING) < 0)
+        return 8;
+    return half_width - 1 >= columns - 1 ? 10 : 0;
 }
 
 uint64_t PLAIN(pluck)(uint64_t kind, size_t columns, size_t rows, int64_t *older, size_t older_length, int64_t *newer, size_t newer_length,
                       size_t centre, size_t half_width, int64_t height)
 {
-    uint64_t refusal = grid_refusal(kind, 4, columns, rows);
     struct edges e;
+    uint64_t refusal = pluck_refusal(kind, columns, rows, older_length, newer_length, centre, half_width, height, &e);
+    if (refusal == 0)
+        shape(table, &e, older, newer, columns, centre, half_width, height);
+    return refusal;
+}
+
+/* Every pair of neighbours is looked at, without a branch: clang takes four at a time. */
+static int keeps_rule(const uint32_t *lent, size_t length)
+{
+    int rises = 1;
+    if (length != 1025 || lent[0] != 0 || lent[1024] != 65536)
+        return 0;
+    for (size_t j = 1; j < 1025; j++)
+        rises &= lent[j - 1] <= lent[j];
+    return rises;
+}
+
+uint64_t PLAIN(pluck_with)(uint64_t kind, size_t columns, size_t rows, int64_t *older, size_t older_length, int64_t *newer,
+                           size_t newer_length, size_t centre, size_t half_width, int64_t height, const uint32_t *lent,
+                           size_t lent_length)
+{
+    struct edges e;
+    uint64_t refusal = pluck_refusal(kind, columns, rows, older_length, newer_length, centre, half_width, height, &e);
     if (refusal)
         return refusal;
-    find_edges(kind, columns, rows, &e);
-    if (older_length != columns || newer_length != columns)
-        return 6;
-    if (!is_moving(&e, columns, 1, centre))
-        return 7;
-    if (passes(height, CEILING) < 0)
-        return 8;
-    if (half_width - 1 >= columns - 1)
-        return 10;
-    memset(older, 0, columns * sizeof *older);
-    memset(newer, 0, columns * sizeof *newer);
-    shape(&e, older, newer, centre, half_width, height);
+    if (!keeps_rule(lent, lent_length))
+        return 14;
+    shape(lent, &e, older, newer, columns, centre, half_width, height);
     return 0;
 }
 

@@ -1,6 +1,6 @@
 /* Buvcsolta: strings, bars, membranes and plates by finite-difference schemes in whole numbers.
  *
- * Programs in C and C++ use the calls buvcsolta_instrument_..., at the end of this file. They hand their arguments to the five
+ * Programs in C and C++ use the calls buvcsolta_instrument_..., at the end of this file. They hand their arguments to the six
  * exported functions, which are for bindings of other languages. Every call answers a refusal number, 0 where it was carried out;
  * the lowest number that applies answers, and buvcsolta_refusal_text tells it in words.
  *
@@ -31,14 +31,19 @@ extern "C" {
 
 /* The version of this header: a new major number where a program must be changed, a new minor one where there is a call more, or
  * a call takes more or gives another number. Since 1.2 samples are rounded to the nearest; since 2.0 a block has an argument more,
- * inexact, at its end; since 2.1 there is a block in place, which needs no work. */
+ * inexact, at its end; since 2.1 there is a block in place, which needs no work; since 2.2 a pluck by a table of your own, and with it
+ * refusal 14. */
 #define BUVCSOLTA_VERSION_MAJOR 2
-#define BUVCSOLTA_VERSION_MINOR 1
+#define BUVCSOLTA_VERSION_MINOR 2
 #define BUVCSOLTA_VERSION_PATCH 0
 #define BUVCSOLTA_VERSION (BUVCSOLTA_VERSION_MAJOR * 10000 + BUVCSOLTA_VERSION_MINOR * 100 + BUVCSOLTA_VERSION_PATCH)
 
 #define BUVCSOLTA_UNITS_PER_SAMPLE (INT64_C(1) << 28)
 #define BUVCSOLTA_CEILING (INT64_C(32767) * BUVCSOLTA_UNITS_PER_SAMPLE)
+
+/* Of a table for buvcsolta_pluck_with: how many entries it has, and what the last of them is. */
+#define BUVCSOLTA_TABLE_LENGTH 1025
+#define BUVCSOLTA_TABLE_LAST UINT32_C(65536)
 
 /* Kinds, and the columns x rows that each may have. */
 enum buvcsolta_kind {
@@ -51,7 +56,7 @@ enum buvcsolta_kind {
     BUVCSOLTA_PLATE = 7                 /* rectangular, edge supported            3..64 x 3..64 */
 };
 
-/* Refusals. 1 to 10 are of what was handed over, 11 to 13 of the state. */
+/* Refusals. 1 to 10 and 14 are of what was handed over, 11 to 13 of the state. 14 is looked at after 10. */
 enum buvcsolta_refusal {
     BUVCSOLTA_NOTHING = 0,         /* carried out */
     BUVCSOLTA_UNKNOWN_KIND = 1,    /* the kind is not 1..7; for a pluck not 1..4 */
@@ -67,7 +72,8 @@ enum buvcsolta_refusal {
     BUVCSOLTA_HALF_WIDTH = 10,     /* the pluck's half width is not 1..columns - 1 */
     BUVCSOLTA_POINT_BEYOND = 11,   /* a point of older or newer is beyond the ceiling */
     BUVCSOLTA_FIXED_NOT_ZERO = 12, /* a fixed point of older or newer is not 0 */
-    BUVCSOLTA_NEXT_BEYOND = 13     /* the next step would put some point beyond the ceiling */
+    BUVCSOLTA_NEXT_BEYOND = 13,    /* the next step would put some point beyond the ceiling */
+    BUVCSOLTA_BROKEN_TABLE = 14    /* the lent table does not have 1025 entries, does not begin at 0 or end at 65536, or falls */
 };
 
 /* The exported functions. A level or sample buffer is a pointer and the number of its elements. */
@@ -107,6 +113,18 @@ uint64_t buvcsolta_block_in_place(uint64_t kind, size_t columns, size_t rows, ui
 uint64_t buvcsolta_pluck(uint64_t kind, size_t columns, size_t rows,
                          int64_t *older, size_t older_length, int64_t *newer, size_t newer_length,
                          size_t centre, size_t half_width, int64_t height);
+
+/* A pluck by a table of your own: as buvcsolta_pluck, with this table in place of the raised cosine.
+ *
+ * table: 1025 entries from the rim to the centre: the first is 0, the last 65536, and none is below the one before it; equal ones are
+ *        fine. A moving point at distance d from the centre, d at most half_width, gets height times entry
+ *        1024 (half_width - d) / half_width, rounded down, over 65536, cut toward zero. The table is only read, and looked at in
+ *        every call: 14 where it breaks a rule.
+ *
+ * 0: both levels are overwritten, whatever they held. 1, 2, 6, 7, 8, 10 and 14: both are unchanged. */
+uint64_t buvcsolta_pluck_with(uint64_t kind, size_t columns, size_t rows,
+                              int64_t *older, size_t older_length, int64_t *newer, size_t newer_length,
+                              size_t centre, size_t half_width, int64_t height, const uint32_t *table, size_t table_length);
 
 /* The float reading: newer at the pick-up over 2^43.
  *
@@ -193,6 +211,15 @@ static inline uint64_t buvcsolta_instrument_pluck(const struct buvcsolta_instrum
                            half_width, height);
 }
 
+/* A pluck by a table of your own, of BUVCSOLTA_TABLE_LENGTH entries. */
+static inline uint64_t buvcsolta_instrument_pluck_with(const struct buvcsolta_instrument *i, const struct buvcsolta_levels *levels,
+                                                       size_t centre, size_t half_width, int64_t height, const uint32_t *table,
+                                                       size_t table_length)
+{
+    return buvcsolta_pluck_with(i->kind, i->columns, i->rows, levels->older, levels->length, levels->newer, levels->length, centre,
+                                half_width, height, table, table_length);
+}
+
 /* The float reading of newer. */
 static inline uint64_t buvcsolta_instrument_reading(const struct buvcsolta_instrument *i, const struct buvcsolta_levels *levels,
                                                     size_t pick_up, double *value)
@@ -218,6 +245,7 @@ static inline const char *buvcsolta_refusal_text(uint64_t refusal)
     case BUVCSOLTA_POINT_BEYOND: return "a point is beyond the ceiling";
     case BUVCSOLTA_FIXED_NOT_ZERO: return "a fixed point is not 0";
     case BUVCSOLTA_NEXT_BEYOND: return "the next step would pass the ceiling";
+    case BUVCSOLTA_BROKEN_TABLE: return "the table does not run from 0 to 65536 in 1025 entries without a fall";
     default: return "not a refusal";
     }
 }

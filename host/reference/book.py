@@ -71,10 +71,15 @@ class Book:
             each_step(number)
         self.inexact += inexact
 
-    def pluck(self, kind, columns, rows, older, newer, centre, half_width, height):
-        """"An accepted pluck puts the levels its rule gives into the book, with n 0."""
-        refusal, older, newer = calls.pluck(
-            kind, columns, rows, older, newer, centre, half_width, height)
+    def pluck(self, *arguments):
+        self.take_plucked(*calls.pluck(*arguments))
+
+    def pluck_with(self, *arguments):
+        """By a lent table, the last argument."""
+        self.take_plucked(*calls.pluck_with(*arguments))
+
+    def take_plucked(self, refusal, older, newer):
+        """"An accepted pluck puts the levels its rule gives into the book, with n 0. A refused one changes nothing."""
         if refusal == 0:
             self.take(older, newer)
 

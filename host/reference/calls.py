@@ -1,15 +1,16 @@
-"""The five calls as functions of their arguments and the lent levels.
+"""The six calls as functions of their arguments and the lent levels.
 
 Each gives back its answer and the lent levels, work and samples afterwards; the lists handed over
 are not changed. kind, columns, rows, q, m, s, pick-up, point, centre and half width are whole
-numbers 0..2^64-1; force, height and the points of levels are signed 64-bit; a level may have any
-length. A refused call gives back what it was lent, except for 13. The block in place is in in_place.py.
+numbers 0..2^64-1; force, height and the points of levels are signed 64-bit, the entries of a lent
+table 0..2^32-1; a level or table may have any length. A refused call gives back what it was lent,
+except for 13. The block in place is in in_place.py.
 """
 
 import refusals as r
 import sheet as sheets
 from in_place import block_in_place
-from pluck import pluck_level
+from pluck import T, pluck_level
 from step import one_step, reading as float_reading, sample, sum_held
 
 
@@ -41,18 +42,33 @@ def block(kind, columns, rows, q, m, s, older, newer, work, samples, pick_up, hi
 
 def pluck(kind, columns, rows, older, newer, centre, half_width, height):
     """(refusal, older, newer)."""
+    return plucked((kind, columns, rows), (older, newer), (centre, half_width, height), T, {})
+
+
+def pluck_with(kind, columns, rows, older, newer, centre, half_width, height, table):
+    """Request 7: "A pluck may take a lent table of 1025 numbers in place of T"; (refusal, older, newer)."""
+    # "14, the table breaks a rule or has another length, checked after 10".
+    tests = {14: lambda: r.bad_table(table)}
+    return plucked((kind, columns, rows), (older, newer), (centre, half_width, height), table, tests)
+
+
+def plucked(grid, levels, shape, table, further):
+    """(refusal, older, newer) of a pluck by a table; further: the tests it meets beside those of every pluck."""
+    (kind, columns, rows), (centre, half_width, height) = grid, shape
     refusal = r.lowest({
         1: lambda: r.unknown_pluck_kind(kind),
         2: lambda: r.outside_table(kind, columns, rows),
-        6: lambda: r.bad_length(columns, rows, (older, newer)),
-        7: lambda: r.not_moving((kind, columns, rows), centre),
+        6: lambda: r.bad_length(columns, rows, levels),
+        7: lambda: r.not_moving(grid, centre),
         8: lambda: r.beyond(height),
         10: lambda: r.bad_half_width(columns, half_width),
+        **further,
     })
     if refusal:
-        return refusal, older, newer
+        # "every lent level and sample unchanged"; 14 "returns and leaves what 1 to 12 do".
+        return refusal, *levels
     # "Both levels are overwritten."
-    level = pluck_level(kind, columns, centre, half_width, height)
+    level = pluck_level(kind, columns, centre, half_width, height, table)
     return 0, level, list(level)
 
 

@@ -24,7 +24,7 @@ import must_fail
 from library import open_library, stand_in, wrong_stand_in
 from run import REFERENCE, Difference, Run
 
-NAMES = ("block", "block_in_place", "pluck", "reading", "sheet")
+NAMES = ("block", "block_in_place", "pluck", "pluck_with", "reading", "sheet")
 PROGRESS = 10  # seconds
 
 
@@ -106,6 +106,10 @@ def compared(counts):
     return sum(counts[key] for key in counts if isinstance(key, tuple))
 
 
+def plucks_by_tables(counts):
+    return sum(counts[key] for key in counts if isinstance(key, tuple) and key[0] == "pluck_with")
+
+
 def summary(counts, seconds, jobs):
     total = compared(counts)
     print(f"{total} calls agree, in {seconds:.1f} s with {jobs} jobs: {60 * total / max(seconds, 0.001):.0f} a minute")
@@ -123,11 +127,13 @@ def summary(counts, seconds, jobs):
     print(f"{counts['both']} inputs given to both blocks: 13 in the first step of {counts['both, 13 first']}, in a later step of "
           f"{counts['both, 13 later']}, by the last moving point alone in {counts['both, 13 last point']}; "
           f"work alone of a wrong length in {counts['both, work of a wrong length']}")
+    print(f"{plucks_by_tables(counts)} plucks by lent tables: {counts['pluck_with', 0]} accepted, {counts['pluck_with', 14]} refused by "
+          f"14; {counts['copies of T']} by a copy of T beside the built-in pluck")
     print(f"{counts['mirrored lists']} lists also as their mirror image, {counts['mirrored lists with hits']} of them "
           f"with hits in steps done, {counts['mirror images ended']} more up to a number without a negative; "
-          f"{counts['mirrored calls']} calls in them: {counts['mirrored, refused']} refused by 1 to 12, "
+          f"{counts['mirrored calls']} calls in them: {counts['mirrored, refused']} refused by 1 to 12 or 14, "
           f"13 in the first step of {counts['mirrored, 13 first']}, in a later step of {counts['mirrored, 13 later']}, "
-          f"{counts['mirrored plucks']} plucks accepted")
+          f"{counts['mirrored plucks']} plucks accepted, {counts['mirrored plucks by lent tables']} of them by lent tables")
 
 
 def each_wrong_edit(seed, jobs, calls, seconds):

@@ -8,6 +8,7 @@ from instrument import (CEILING, D, GRID_KINDS, KINDS, LINE_KINDS, RECTANGULAR_K
                         moving, moving_set, size_in_table)
 from pluck import cut_toward_zero
 from sheet import Sheet, nearest
+from tables import BUILT_IN, LARGEST, TOP, changed, dip, doubled, ending, longer, lowered, peak, pool, raised, shorter
 
 U64 = 2**64
 EDGES = (0, 1, 2, 3, 2**15, 2**16, 2**31 - 1, 2**31, 2**32 - 1, 2**32, 2**32 + 1, 2**62, 2**62 + 1,
@@ -22,6 +23,7 @@ LONG_GRIDS = ((8, 8), (9, 7), (16, 4), (13, 5), (5, 13), (22, 3), (3, 22), (9, 8
 LONG_SQUARES = (8, 9, 10, 11, 12)
 # The points where a piece ends and the next begins.
 SEAMS = (*range(62, 67), *range(126, 131))
+TABLES = pool("tables")
 
 
 def from_bits(bits):
@@ -227,6 +229,52 @@ class Draws(random.Random):
         if self.rarely():
             return self.choice((0, columns % U64, self.wild()))
         return self.randint(1, columns - 1) if 3 <= columns <= 1024 else self.randint(1, 9)
+
+    def table(self):
+        """A table for a pluck: one that keeps the rule, every third time T, or a broken one."""
+        table = BUILT_IN if self.rarely(0.3) else self.choice(TABLES)
+        return self.broken_table(table) if self.rarely(0.3) else table
+
+    def broken_table(self, table):
+        """Broken in one way alone, but for some that have another length or another beginning."""
+        return self.choice((self.table_of_another_length, self.table_of_another_beginning, self.table_of_another_end,
+                            self.table_that_falls, self.table_beyond))(table)
+
+    def entry(self, ends):
+        """The place of an entry between the ends, ends for both of them too."""
+        return self.choice((1 - ends, 2, 512, 1022, 1023 + ends, self.randint(1 - ends, 1023 + ends)))
+
+    def table_of_another_length(self, table):
+        place = self.entry(1)
+        return self.choice((
+            lambda: [], lambda: [self.choice((0, TOP))], lambda: [0, self.randint(0, TOP), TOP], lambda: table[:place],
+            lambda: table[:1024], lambda: table[1:], lambda: shorter(table, place), lambda: shorter(table, self.entry(0)),
+            lambda: longer(table, place), lambda: [*table, self.choice((0, TOP, LARGEST))], lambda: doubled(table),
+            lambda: table + table))()
+
+    def table_of_another_beginning(self, table):
+        if self.rarely(0.3):
+            return changed(table, 0, self.choice((1, table[1] or 1, TOP, LARGEST, self.randint(1, LARGEST))))
+        return raised(table, self.choice((1, 2, table[1] or 1, TOP, self.randint(1, TOP))))
+
+    def table_of_another_end(self, table):
+        if self.rarely(0.5):
+            return ending(table, self.beyond())
+        return lowered(table, self.choice((TOP - 1, TOP - 2, 0, 1, self.randint(0, TOP - 1))))
+
+    def table_that_falls(self, table):
+        place = self.entry(0)
+        if place > 1 and table[place - 1] and self.rarely(0.6):
+            return dip(table, place, self.choice((1, 1, table[place - 1], self.randint(1, table[place - 1]))))
+        return peak(table, place, self.choice((1, 1, self.randint(1, TOP))))
+
+    def table_beyond(self, table):
+        """An entry between the ends above 65536."""
+        return changed(table, self.entry(0), self.beyond())
+
+    def beyond(self):
+        """A number of 32 bits above 65536."""
+        return self.choice((TOP + 1, 2 * TOP, 2**31, 2**31 + TOP, LARGEST, self.randint(TOP + 1, LARGEST)))
 
     def float(self, low, high):
         """A number of the sheet between about 10^low and 10^high, or an edge, or any 64 bits."""

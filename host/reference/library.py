@@ -4,6 +4,7 @@ Both sides take the C functions' plain arguments, with buffers as lists, and giv
     block:          (refusal, steps, inexact, older, newer, work, samples)
     block_in_place: (refusal, steps, inexact, older, newer, samples)
     pluck:          (refusal, older, newer)
+    pluck_with:     (refusal, older, newer, table)
     reading:        (refusal, bits of the value, newer)
     sheet:          (refusal, q, m, s)
 """
@@ -19,16 +20,18 @@ import must_fail
 from draws import to_bits
 from sheet import Sheet
 
-U64, I64, SIZE, F64, PLACE = (ctypes.c_uint64, ctypes.c_int64, ctypes.c_size_t, ctypes.c_double,
-                              ctypes.c_void_p)
-LEVEL = (PLACE, SIZE)
+U64, I64, U32, SIZE, F64, PLACE = (ctypes.c_uint64, ctypes.c_int64, ctypes.c_uint32, ctypes.c_size_t, ctypes.c_double,
+                                   ctypes.c_void_p)
+LEVEL = TABLE = (PLACE, SIZE)
 INSTRUMENT = (U64, SIZE, SIZE, U64, U64, U64)
 # The samples, the pick-up, the hit with its point and force, the counts of steps and of inexact points.
 PLAYED = (PLACE, SIZE, SIZE, U64, SIZE, I64, PLACE, PLACE)
+PLUCK = (U64, SIZE, SIZE, *LEVEL, *LEVEL, SIZE, SIZE, I64)
 SIGNATURES = {
     "block": (*INSTRUMENT, *LEVEL, *LEVEL, *LEVEL, *PLAYED),
     "block_in_place": (*INSTRUMENT, *LEVEL, *LEVEL, *PLAYED),
-    "pluck": (U64, SIZE, SIZE, *LEVEL, *LEVEL, SIZE, SIZE, I64),
+    "pluck": PLUCK,
+    "pluck_with": (*PLUCK, *TABLE),
     "reading": (U64, SIZE, SIZE, *LEVEL, SIZE, PLACE),
     "sheet": (U64, SIZE, SIZE, F64, F64, F64, U64, F64, F64, U64, F64, PLACE, PLACE, PLACE),
 }
@@ -56,7 +59,7 @@ class Lent:
 
 
 class Library:
-    """The five functions of a library, given as {name: C function}."""
+    """The six functions of a library, given as {name: C function}."""
 
     def __init__(self, functions):
         self.functions = functions
@@ -80,6 +83,13 @@ class Library:
         refusal = self.functions["pluck"](kind, columns, rows, a.place, a.length, b.place, b.length,
                                           centre, half_width, height)
         return refusal, a.values(), b.values()
+
+    def pluck_with(self, kind, columns, rows, older, newer, centre, half_width, height, table):
+        """The table is given back as the library left it."""
+        a, b, c = Lent("q", older), Lent("q", newer), Lent("I", table)
+        refusal = self.functions["pluck_with"](kind, columns, rows, a.place, a.length, b.place, b.length,
+                                               centre, half_width, height, c.place, c.length)
+        return refusal, a.values(), b.values(), c.values()
 
     def reading(self, kind, columns, rows, newer, pick_up):
         a, value = Lent("q", newer), Lent("Q", [GUARD])
@@ -123,6 +133,9 @@ class Reference:
     def pluck(self, *arguments):
         return self.calls.pluck(*arguments)
 
+    def pluck_with(self, *arguments):
+        return *self.calls.pluck_with(*arguments), arguments[-1]
+
     def reading(self, kind, columns, rows, newer, pick_up):
         refusal, value = self.calls.reading(kind, columns, rows, newer, pick_up)
         return refusal, to_bits(value), newer
@@ -159,11 +172,19 @@ def stand_in(module=calls):
 
         return block
 
-    def pluck(kind, columns, rows, older, older_length, newer, newer_length, centre, half_width, height):
-        lent = [cells(I64, older, older_length), cells(I64, newer, newer_length)]
-        refusal, lent[0][:], lent[1][:] = reference.pluck(
-            kind, columns, rows, list(lent[0]), list(lent[1]), centre, half_width, height)
-        return refusal
+    def pluck_of(call):
+        """The C function of a pluck, by a lent table or by T."""
+
+        def pluck(*arguments):
+            grid, lent, shape, table = arguments[:3], arguments[3:7], arguments[7:10], arguments[10:]
+            levels = [cells(I64, *lent[:2]), cells(I64, *lent[2:])]
+            tables = [cells(U32, *table)] if table else []
+            refusal, *after = call(*grid, *map(list, levels), *shape, *map(list, tables))
+            for buffer, values in zip((*levels, *tables), after):
+                buffer[:] = values
+            return refusal
+
+        return pluck
 
     def reading(kind, columns, rows, newer, length, pick_up, value):
         refusal, cells(U64, value, 1)[0], _ = reference.reading(
@@ -185,7 +206,8 @@ def stand_in(module=calls):
         return answer
 
     functions = {"block": block_of(reference.block, 3), "block_in_place": block_of(reference.block_in_place, 2),
-                 "pluck": pluck, "reading": reading, "sheet": sheet}
+                 "pluck": pluck_of(reference.pluck), "pluck_with": pluck_of(reference.pluck_with),
+                 "reading": reading, "sheet": sheet}
     return Library({name: ctypes.CFUNCTYPE(U64, *SIGNATURES[name])(total(function))
                     for name, function in functions.items()})
 

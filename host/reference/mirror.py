@@ -1,11 +1,12 @@
 """Request 5, "Up and down alike": the mirror image of a call, of its outcome and of a list's book.
 
-For block, block_in_place and pluck, with arguments and outcomes in the form of library.py. -2^63 has no negative in
+For both blocks and both plucks, with arguments and outcomes in the form of library.py. -2^63 has no negative in
 signed 64 bits: a call with such a point of older or newer, force or height has no mirror image.
 """
 
+PLUCKS = ("pluck", "pluck_with")
 # By call: the place of older among the arguments and its place in the outcome; newer stands after it.
-OLDER = {"block": (6, 3), "block_in_place": (6, 3), "pluck": (3, 1)}
+OLDER = {"block": (6, 3), "block_in_place": (6, 3), "pluck": (3, 1), "pluck_with": (3, 1)}
 
 
 def negated(values):
@@ -21,21 +22,23 @@ def with_negated_levels(values, place):
 def of_arguments(name, arguments):
     """"two starts whose points are negatives, with calls otherwise the same and hits that are negatives"; or None.
 
-    The last argument is the force or the height: "It covers plucks of negated height too". Without a hit it stays.
+    The last argument is the force or the height: "It covers plucks of negated height too". Without a hit it stays. A lent
+    table, which stands after the height, is the same.
     """
     place, _ = OLDER[name]
+    arguments, table = (arguments[:-1], arguments[-1:]) if name == "pluck_with" else (arguments, ())
     *image, strength = with_negated_levels(arguments, place)
-    if name == "pluck" or arguments[-3]:
+    if name in PLUCKS or arguments[-3]:
         strength = -strength
     if 2**63 in (*image[place], *image[place + 1], strength):
         return None
-    return *image, strength
+    return *image, strength, *table
 
 
 def of_outcome(name, outcome):
     """"negated levels, negated samples for the steps done, equal counts and equal refusals"; the rest is equal too."""
     image = with_negated_levels(outcome, OLDER[name][1])
-    if name == "pluck":
+    if name in PLUCKS:
         return image
     steps, *_, samples = image[1:]
     return *image[:-1], negated(samples[:steps]) + samples[steps:]

@@ -52,9 +52,9 @@ ONE_SIDED = (
     ("only remainders above 0 counted", "step.py", "sum(values[point] % divisor != 0 for",
      "sum(round_half_away(values[point], divisor)[1] > 0 for"),
     ("force without its sign", "step.py", "return hit[1] if", "return abs(hit[1]) if"),
-    ("pluck rounded down", "pluck.py", "cut_toward_zero(height * T[i], 65536)", "height * T[i] // 65536"),
-    ("height without its sign", "calls.py", "level = pluck_level(kind, columns, centre, half_width, height)",
-     "level = pluck_level(kind, columns, centre, half_width, abs(height))"),
+    ("pluck rounded down", "pluck.py", "cut_toward_zero(height * table[i], 65536)", "height * table[i] // 65536"),
+    ("height without its sign", "calls.py", "level = pluck_level(kind, columns, centre, half_width, height, table)",
+     "level = pluck_level(kind, columns, centre, half_width, abs(height), table)"),
     ("the ceiling itself is beyond", "refusals.py", "max(level) > CEILING", "max(level) >= CEILING"),
     ("down to -32768 x 2^28", "refusals.py", "min(level) < -CEILING", "min(level) < -32768 * 2**28"),
     ("force at 2^63 passes", "refusals.py", "return abs(value) > CEILING", "return value > CEILING"),
@@ -69,8 +69,74 @@ ONE_SIDED = (
      "r.beyond(max(next_value(grid, settings, older, newer, hit, point)[0], 0))"),
 )
 
+# A lent table: its rule, what a pluck does with it, and what becomes of it in lists.
+FALLS = "any(after < before for before, after in zip(table, table[1:]))"
+TABLE_TEST = "    tests = {14: lambda: r.bad_table(table)}\n"
+LENT_TABLE = (
+    ("table: first entry not looked at", "refusals.py", "table[0] != 0 or ", ""),
+    ("table: first entry may be 1", "refusals.py", "table[0] != 0", "table[0] > 1"),
+    ("table: last entry not looked at", "refusals.py", "table[1024] != 65536 or ", ""),
+    ("table: last entry may be less", "refusals.py", "table[1024] != 65536", "table[1024] > 65536"),
+    ("table: last entry may be more", "refusals.py", "table[1024] != 65536", "table[1024] < 65536"),
+    ("table: last entry any multiple of 65536", "refusals.py", "table[1024] != 65536", "table[1024] % 65536 != 0"),
+    ("table: must rise", "refusals.py", "after < before for", "after <= before for"),
+    ("table: falls by 1 let pass", "refusals.py", "after < before for", "after < before - 1 for"),
+    ("table: falls not looked at", "refusals.py", FALLS, "False"),
+    ("table: only entries above 65536 looked at", "refusals.py", FALLS, "max(table) > 65536"),
+    ("table: falls of the first half alone", "refusals.py", "zip(table, table[1:])", "zip(table[:512], table[1:513])"),
+    ("table: falls of the second half alone", "refusals.py", "zip(table, table[1:])", "zip(table[512:], table[513:])"),
+    ("table: fall to the last entry not looked at", "refusals.py", "zip(table, table[1:])", "zip(table[:1023], table[1:])"),
+    # A fall from entry 0 to entry 1 is none to look for: with entry 0 at 0 there is nothing below it.
+    ("table: fall from entry 1 to entry 2 not looked at", "refusals.py", "zip(table, table[1:])", "zip(table[2:], table[3:])"),
+    ("table: every other pair looked at", "refusals.py", "zip(table, table[1:])", "zip(table[::2], table[1::2])"),
+    ("table: entries two apart compared", "refusals.py", "zip(table, table[1:])", "zip(table, table[2:])"),
+    ("table: mirrored sum demanded", "refusals.py", "table[0] != 0 or",
+     "any(table[j] + table[1024 - j] != 65536 for j in range(1025)) or table[0] != 0 or"),
+    ("table: 1024 entries taken", "calls.py", TABLE_TEST,
+     "    table = [*table, 65536] if len(table) == 1024 else table\n" + TABLE_TEST),
+    ("table: 1026 entries taken", "refusals.py", "len(table) != 1025", "len(table) not in (1025, 1026)"),
+    ("table: longer ones taken", "refusals.py", "len(table) != 1025", "len(table) < 1025"),
+    ("table: longer ones cut", "calls.py", "r.bad_table(table)", "r.bad_table(table[:1025])"),
+    ("table: entries of 31 bits", "calls.py", "r.bad_table(table)", "r.bad_table([entry % 2**31 for entry in table])"),
+    ("table: always refused", "calls.py", "r.bad_table(table)", "True"),
+    ("table: refused by 11", "calls.py", "{14: lambda: r.bad_table", "{11: lambda: r.bad_table"),
+    *((f"table: 14 answers before {number}", "refusals.py", "in sorted(tests):",
+       f"in sorted(tests, key=lambda number: {number} - 0.5 if number == 14 else number):") for number in (1, 2, 6, 7, 8, 10)),
+    ("table: levels cleared by 14", "calls.py", "return refusal, *levels",
+     "return refusal, *([0] * len(level) if refusal == 14 else level for level in levels)"),
+    ("table: levels filled nonetheless by 14", "calls.py", "        return refusal, *levels\n",
+     "        if refusal == 14 and len(table) == 1025:\n"
+     "            levels = [pluck_level(kind, columns, centre, half_width, height, T)] * 2\n"
+     "        return refusal, *levels\n"),
+    ("table: older alone filled", "calls.py", "return 0, level, list(level)",
+     "return 0, level, levels[1] if further else list(level)"),
+    ("table: newer alone filled", "calls.py", "return 0, level, list(level)",
+     "return 0, levels[0] if further else level, list(level)"),
+    ("table: T in its place", "pluck.py", "height * table[i]", "height * T[i]"),
+    ("table: read from its end, by the mirrored sum", "pluck.py", "height * table[i]", "height * (65536 - table[1024 - i])"),
+    ("table: written to", "calls.py", TABLE_TEST, TABLE_TEST + "    table[1:2] = table[:1]\n"),
+    ("book not told of a pluck by a lent table", "book.py", "self.take_plucked(*calls.pluck_with(*arguments))", "pass"),
+    ("book plucks by T in place of a lent table", "book.py", "calls.pluck_with(*arguments)", "calls.pluck(*arguments[:-1])"),
+    ("lists tell the book of T in place of a lent table", "run.py", "getattr(book, name)(*arguments)",
+     "book.pluck(*arguments[:8])"),
+    ("no pluck by a lent table in lists", "run.py", "if self.draw.rarely(0.5):", "if False:"),
+    ("no pluck by a lent table alone", "run.py", "\"pluck\", \"pluck_with\", \"reading\"", "\"pluck\", \"reading\""),
+    ("no copy of T beside the built-in pluck", "run.py", "if arguments[-1] == BUILT_IN:", "if False:"),
+    ("copies of T not compared", "run.py", "if outcome[:3] != built_in:", "if False:"),
+    ("refusals alone of copies of T compared", "run.py", "if outcome[:3] != built_in:", "if outcome[0] != built_in[0]:"),
+    ("newer of copies of T not compared", "run.py", "if outcome[:3] != built_in:", "if outcome[:2] != built_in[:2]:"),
+    ("lent table not looked at afterwards", "library.py", "b.values(), c.values()", "b.values(), table"),
+    ("no broken tables drawn", "draws.py", "self.broken_table(table) if self.rarely(0.3) else table", "table"),
+    ("no copies of T drawn", "draws.py", "BUILT_IN if self.rarely(0.3) else self.choice(TABLES)", "self.choice(TABLES[1:])"),
+    ("mirror image: height not negated by a lent table", "mirror.py", "if name in PLUCKS or arguments[-3]:",
+     "if name != \"pluck_with\" and (name == \"pluck\" or arguments[-3]):"),
+    ("mirror image: lent table turned round", "mirror.py", "return *image, strength, *table",
+     "return *image, strength, *(entries[::-1] for entries in table)"),
+)
+
 EDITS = (
     *ONE_SIDED,
+    *LENT_TABLE,
     ("halves toward zero", "step.py", "(2 * abs(numerator) + denominator) //",
      "(2 * abs(numerator) + denominator - 1) //"),
     ("divided by D", "step.py", "round_half_away(value, divisor)", "round_half_away(value, D)"),
@@ -127,7 +193,8 @@ EDITS = (
     ("13 before the first step", "calls.py", "if r.some_beyond((following,)):", "if True:"),
     ("levels never touched", "calls.py", "older, newer = newer, following", "pass"),
     ("refusal of everything", "refusals.py", "return kind not in KINDS", "return True"),
-    ("pluck leaves older", "calls.py", "return 0, level, list(level)", "return 0, older, level"),
+    ("pluck leaves older", "calls.py", "return 0, level, list(level)", "return 0, levels[0], level"),
+    ("pluck leaves newer", "calls.py", "return 0, level, list(level)", "return 0, level, levels[1]"),
     ("entries of T rounded down", "pluck.py", "half = 2 ** (bits - 1)", "half = 0"),
     ("entry i rounded up", "pluck.py", "i = 1024 * (half_width - distance) // half_width",
      "i = -(-1024 * (half_width - distance) // half_width)"),
@@ -305,10 +372,10 @@ EDITS = (
      "if False:"),
     ("book of the mirror image told of the list", "run.py",
      "tell(self.image, name, mirror.of_arguments(name, arguments)", "tell(self.image, name, arguments"),
-    ("mirror image: hit not negated", "mirror.py", "if name == \"pluck\" or arguments[-3]:", "if name == \"pluck\":"),
-    ("mirror image: height not negated", "mirror.py", "if name == \"pluck\" or arguments[-3]:",
-     "if name != \"pluck\" and arguments[-3]:"),
-    ("mirror image: force negated without a hit", "mirror.py", "if name == \"pluck\" or arguments[-3]:", "if True:"),
+    ("mirror image: hit not negated", "mirror.py", "if name in PLUCKS or arguments[-3]:", "if name in PLUCKS:"),
+    ("mirror image: height not negated", "mirror.py", "if name in PLUCKS or arguments[-3]:",
+     "if name not in PLUCKS and arguments[-3]:"),
+    ("mirror image: force negated without a hit", "mirror.py", "if name in PLUCKS or arguments[-3]:", "if True:"),
     ("mirror image: newer alone negated", "mirror.py", "negated(older), negated(newer), *", "older, negated(newer), *"),
     ("mirror image: older alone negated", "mirror.py", "negated(older), negated(newer), *", "negated(older), newer, *"),
     ("mirror image: -2^63 in older taken", "mirror.py", "(*image[place], *image[place + 1], strength)",
@@ -352,7 +419,7 @@ EDITS = (
 )
 
 # The files that a library has no part in.
-BESIDE = ("book.py", "bounds.py", "library.py", "mirror.py", "ring.py", "run.py")
+BESIDE = ("book.py", "bounds.py", "draws.py", "library.py", "mirror.py", "ring.py", "run.py")
 
 
 def seen_by_calls():

@@ -17,7 +17,7 @@ BLOCKS = {3: ("block", (0, 1, 2, 3)), 7: ("block_in_place", (0, 1, 3))}
 def play(library, numbers):
     """None, or the record that does not hold."""
     take = lambda count: [next(numbers) for _ in range(count)]
-    lent = [[], [], [], []]
+    lent = [[], [], [], [], []]
     played = 0
     for opcode in numbers:
         played += 1
@@ -40,6 +40,10 @@ def play(library, numbers):
         elif opcode == 4:
             *arguments, refusal = take(7)
             found, lent[0], lent[1] = library.pluck(*arguments[:3], lent[0], lent[1], *arguments[3:])
+            holds = found == refusal
+        elif opcode == 8:
+            *arguments, refusal = take(7)
+            found, lent[0], lent[1], lent[4] = library.pluck_with(*arguments[:3], lent[0], lent[1], *arguments[3:], lent[4])
             holds = found == refusal
         elif opcode == 5:
             kind, columns, rows, pick_up, bits, refusal = take(6)
@@ -72,7 +76,7 @@ def main():
         print(fault or "every record holds")
         return 1 if fault else 0
     edits = must_fail.seen_by_calls()
-    files = [f"{sys.argv[2]}/{name}.txt" for name in ("calls", "sheets", "in_place")]
+    files = [f"{sys.argv[2]}/{name}.txt" for name in ("calls", "sheets", "in_place", "plucks")]
     survived = [edit[0] for edit in edits if not any(play_file(wrong_stand_in(edit), path) for path in files)]
     print(*(f"not found: {name}" for name in survived), sep="\n", end="\n" if survived else "")
     print(len(edits) - len(survived), "wrong stand-ins found by the vectors")

@@ -1,4 +1,4 @@
-"""A pluck: the table T and the rule that fills the levels.
+"""A pluck: the table T and the rule that fills the levels, by T or by a lent table.
 
 T is worked out in whole numbers, in units of 2^-bits.
 
@@ -67,15 +67,15 @@ def cut_toward_zero(numerator, denominator):
     return -magnitude if numerator < 0 else magnitude
 
 
-def pluck_level(kind, columns, centre, half_width, height):
-    """The level that an accepted pluck puts in both places."""
+def pluck_level(kind, columns, centre, half_width, height, table):
+    """The level that an accepted pluck puts in both places; "Points are filled by the same rule as before" by a lent table."""
     assert kind in LINE_KINDS
     level = [0] * columns
     for point in range(columns):
         distance = abs(point - centre)
         if distance <= half_width and not is_fixed(kind, columns, 1, point):
             # "a times entry i of the table T, divided by 65536 and cut toward zero,
-            # with i = 1024(w-d)/w rounded down".
+            # with i = 1024(w-d)/w rounded down"; or of the lent table "in place of T".
             i = 1024 * (half_width - distance) // half_width
-            level[point] = cut_toward_zero(height * T[i], 65536)
+            level[point] = cut_toward_zero(height * table[i], 65536)
     return level

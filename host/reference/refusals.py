@@ -100,3 +100,11 @@ def some_beyond(levels):  # 11, and 13 for the level after the next step
 
 def fixed_not_zero(grid, levels):  # 12
     return any(level[point] != 0 for level in levels for point in fixed_points(*grid))
+
+
+def bad_table(table):  # 14, "the table breaks a rule or has another length"
+    # "a lent table of 1025 numbers".
+    if len(table) != 1025:
+        return True
+    # "it must begin at 0, end at 65536 and never fall; the mirrored sum is not required of it".
+    return table[0] != 0 or table[1024] != 65536 or any(after < before for before, after in zip(table, table[1:]))

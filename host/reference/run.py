@@ -11,6 +11,7 @@ from instrument import D, KINDS, LINE_KINDS, moving
 from library import Overwritten, Reference
 from refusals import beyond
 from step import one_step
+from tables import BUILT_IN
 
 REFERENCE = Reference()
 # The share of sizes around 64 points and a few times as many.
@@ -53,8 +54,8 @@ def work_alone_is_wrong(arguments):
 
 def tell(book, name, arguments, outcome, *each_step):
     """A call of a list, told to a book; the outcome of a block is without work."""
-    if name == "pluck":
-        book.pluck(*arguments)
+    if name in mirror.PLUCKS:
+        getattr(book, name)(*arguments)
     else:
         *_, hit, point, force = arguments
         book.block(*arguments[:8], (point, force) if hit else None, *outcome[1:3], *each_step)
@@ -135,9 +136,10 @@ class Run:
         """What became of a call and its mirror image."""
         refusal = outcome[0]
         self.counts["mirrored calls"] += 1
-        self.counts["mirrored, refused"] += 1 <= refusal <= 12
-        if name == "pluck":
+        self.counts["mirrored, refused"] += refusal not in (0, 13)
+        if name in mirror.PLUCKS:
             self.counts["mirrored plucks"] += refusal == 0
+            self.counts["mirrored plucks by lent tables"] += refusal == 0 and name == "pluck_with"
             return
         steps, hit = outcome[1], arguments[-3]
         self.counts["mirrored hits"] += hit > 0 and steps > 0
@@ -200,6 +202,27 @@ class Run:
     def pluck_arguments(self, grid, older, newer):
         draw = self.draw
         return (*grid, older, newer, draw.point(grid, True), draw.half_width(grid[1]), draw.force())
+
+    def pluck_by_table(self, arguments):
+        """A pluck by a lent table, the last argument, and where that is a copy of T the built-in one on the same input; the outcome."""
+        outcome = self.call("pluck_with", *arguments)
+        if arguments[-1] == BUILT_IN:
+            built_in = self.call("pluck", *arguments[:-1])
+            if outcome[:3] != built_in:
+                raise Difference(shown("both plucks", arguments, built_in, outcome, ("built-in  ", "copy of T ")))
+            self.counts["copies of T"] += 1
+        return outcome
+
+    def pluck_beside(self, book, grid, older, newer):
+        """A pluck by T or by a lent table with its book; the outcome."""
+        arguments = self.pluck_arguments(grid, older, newer)
+        if self.draw.rarely(0.5):
+            name, arguments = "pluck_with", (*arguments, self.draw.table())
+            outcome = self.pluck_by_table(arguments)
+        else:
+            name, outcome = "pluck", self.call("pluck", *arguments)
+        self.tell_books(book, name, arguments, outcome)
+        return outcome
 
     def block_beside(self, book, grid, settings, older, newer):
         """A block with its book, every sample beside the book after as many steps; the outcome."""
@@ -265,10 +288,8 @@ class Run:
                 grid = draw.choice(same_size_grids((1, len(newer), 1)) or [grid])
                 settings = self.settings(grid[0])
                 used = [used[-1], (grid, settings)]
-            if draw.rarely(0.12):
-                arguments = self.pluck_arguments(grid, older, newer)
-                outcome = self.call("pluck", *arguments)
-                self.tell_books(book, "pluck", arguments, outcome)
+            if draw.rarely(0.18):
+                outcome = self.pluck_beside(book, grid, older, newer)
                 older, newer = outcome[1:3]
             else:
                 outcome = self.block_beside(book, grid, settings, older, newer)
@@ -306,8 +327,8 @@ class Run:
     def one_call(self):
         """A single call outside a list."""
         draw = self.draw
-        name = draw.choice(("block", "block", "pluck", "reading", "sheet", "sheet", "sheet"))
-        kind = draw.kind(LINE_KINDS if name == "pluck" else KINDS)
+        name = draw.choice(("block", "block", "pluck", "pluck_with", "reading", "sheet", "sheet", "sheet"))
+        kind = draw.kind(LINE_KINDS if name in mirror.PLUCKS else KINDS)
         grid = (kind, *draw.size(kind))
         if name == "sheet":
             record = draw.sheet(kind, grid[1])
@@ -320,6 +341,8 @@ class Run:
             self.both_blocks(self.block_arguments(grid, *self.start_of_block(grid)))
         elif name == "pluck":
             self.call("pluck", *self.pluck_arguments(grid, *draw.levels(grid)))
+        elif name == "pluck_with":
+            self.pluck_by_table((*self.pluck_arguments(grid, *draw.levels(grid)), draw.table()))
         else:
             self.call("reading", *grid, draw.level(grid), draw.point(grid))
 

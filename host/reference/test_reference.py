@@ -1,5 +1,5 @@
-"""Tests of the reference: the paper's examples, its rules for T, energy, distance and counts, each refusal, both
-blocks, mirror images; and of the lists and calls of run.py."""
+"""Tests of the reference: the paper's examples, its rules for T, lent tables, energy, distance and counts, each refusal,
+both blocks, mirror images; and of the lists and calls of run.py."""
 
 import math
 import multiprocessing
@@ -18,6 +18,7 @@ import pluck
 import run
 import sheet
 import step
+import tables
 from instrument import CEILING, D, KINDS, LINE_KINDS
 from library import Reference, stand_in, wrong_stand_in
 from sheet import Sheet
@@ -370,6 +371,224 @@ class Pluck(unittest.TestCase):
         self.assertEqual(older, [65536] + list(pluck.T[1022::-1]))
         _, mirrored, _ = calls.pluck(3, 1024, 1, [0] * 1024, [0] * 1024, 1023, 1023, 65536)
         self.assertEqual(mirrored, older[::-1])
+
+
+def breaks(table):
+    """The rules of a lent table that a table breaks: "begin at 0, end at 65536 and never fall", 1025 numbers."""
+    falls = sum(table[j] > table[j + 1] for j in range(len(table) - 1))
+    found = {"length": len(table) != 1025, "begin": table[:1] != [0], "end": table[-1:] != [65536], "fall": falls == 1,
+             "falls": falls > 1}
+    return {name for name, is_so in found.items() if is_so}
+
+
+class LentTable(unittest.TestCase):
+    """Request 7: "A pluck may take a lent table of 1025 numbers in place of T"."""
+
+    base = dict(kind=1, columns=5, rows=1, older=[9, -2**63, 7, 2**63 - 1, 5], newer=[1, 2, 3, 4, 5], centre=2, half_width=3,
+                height=1000)
+    # The numbers that a pluck meets, and what gives each; none of them is a table.
+    causes = ((1, dict(kind=0)), (1, dict(kind=5, columns=5, rows=5, older=[0] * 25, newer=[0] * 25, centre=12)),
+              (1, dict(kind=6)), (1, dict(kind=7)), (1, dict(kind=8)), (1, dict(kind=2**64 - 1)), (2, dict(columns=2)),
+              (2, dict(columns=1025)), (2, dict(rows=2)), (2, dict(rows=0)), (6, dict(older=[3] * 4)), (6, dict(newer=[3] * 6)),
+              (6, dict(older=[], newer=[])), (7, dict(centre=0)), (7, dict(centre=4)), (7, dict(centre=5)),
+              (8, dict(height=CEILING + 1)), (8, dict(height=-CEILING - 1)), (8, dict(height=-2**63)), (10, dict(half_width=0)),
+              (10, dict(half_width=5)), (10, dict(half_width=2**64 - 1)))
+
+    def filled(self, table, **change):
+        """The level that an accepted pluck by a table puts in both places."""
+        refusal, older, newer = calls.pluck_with(**{**self.base, **change}, table=list(table))
+        self.assertEqual((refusal, older), (0, newer))
+        self.assertIsNot(older, newer)
+        return older
+
+    def assert_refused(self, refusal, table, **change):
+        """"it returns and leaves what 1 to 12 do": both levels as they were lent, and the table."""
+        case, lent = {**self.base, **change}, list(table)
+        self.assertEqual(calls.pluck_with(**case, table=lent), (refusal, case["older"], case["newer"]), (change, breaks(table)))
+        self.assertEqual(lent, list(table))
+
+    def test_worked_case(self):
+        self.assertEqual(self.filled(pluck.T), [0, 749, 1000, 749, 0])
+        self.assertEqual(self.filled(tables.STRAIGHT), [0, 666, 1000, 666, 0])
+        self.assertEqual(self.filled(tables.STRAIGHT, height=-1000), [0, -666, -1000, -666, 0])
+
+    def test_by_hand(self):
+        """Distances 0 to 4 of half width 4 take entries 1024, 768, 512, 256 and 0; the ends of kind 3 move."""
+        line = dict(kind=3, centre=0, half_width=4)
+        table = [0] * 256 + [100] * 256 + [200] * 256 + [65535] * 256 + [65536]
+        self.assertEqual(self.filled(table, **line, height=65536), [65536, 65535, 200, 100, 0])
+        self.assertEqual(self.filled(table, **line, height=-700), [-700, -699, -2, -1, 0])
+        self.assertEqual(self.filled(tables.LATE, **line, height=CEILING), [CEILING, 0, 0, 0, 0])
+        self.assertEqual(self.filled(tables.EARLY, **line, height=-CEILING), [-CEILING] * 4 + [0])
+        self.assertEqual(self.filled(tables.EARLY, **line, height=0), [0] * 5)
+
+    def test_nearly_every_entry(self):
+        """With height 65536 and half width 1023 the points are the entries themselves."""
+        rest, line = [0] * 1024, dict(kind=3, columns=1024, half_width=1023, height=65536)
+        for table in tables.pool("every entry"):
+            level = self.filled(table, older=rest, newer=rest, centre=0, **line)
+            self.assertEqual(level, [65536, *table[1022::-1]])
+            self.assertEqual(self.filled(table, older=rest, newer=rest, centre=1023, **line), level[::-1])
+
+    def plucks(self, draw, count):
+        """The arguments of accepted plucks on small lines."""
+        draw.odds = 0.0
+        for _ in range(count):
+            grid = (draw.choice(LINE_KINDS), draw.randint(3, 20), 1)
+            yield dict(kind=grid[0], columns=grid[1], older=draw.level(grid), newer=draw.level(grid), centre=draw.point(grid, True),
+                       half_width=draw.half_width(grid[1]), height=draw.force())
+
+    def test_rule_against_fractions(self):
+        """"Points are filled by the same rule as before"."""
+        draw = draws.Draws("lent tables")
+        for case in self.plucks(draw, 400):
+            table, width = draw.choice(draws.TABLES), case["half_width"]
+            for point, value in enumerate(self.filled(table, **case)):
+                exact, distance = Fraction(0), abs(point - case["centre"])
+                if distance <= width and point in instrument.moving_set(case["kind"], case["columns"], 1):
+                    exact = Fraction(case["height"] * table[math.floor(Fraction(1024 * (width - distance), width))], 65536)
+                self.assertEqual(value, math.trunc(exact))
+
+    def test_shape(self):
+        """The centre gets the height, and away from it no point is higher than the one before."""
+        draw = draws.Draws("shapes")
+        for case in self.plucks(draw, 400):
+            level, centre = self.filled(draw.choice(draws.TABLES), **case), case["centre"]
+            self.assertEqual(level[centre], case["height"])
+            for side in (level[centre:], level[centre::-1]):
+                self.assertEqual(sorted(map(abs, side), reverse=True), list(map(abs, side)))
+                self.assertTrue(all(value * case["height"] >= 0 for value in side))
+
+    def test_copy_of_t(self):
+        """"A loaded copy of T must pluck exactly as the built-in one does", refused or not."""
+        for case in self.plucks(draws.Draws("copies of T"), 300):
+            self.assertEqual(self.filled(pluck.T, **case), calls.pluck(**{**self.base, **case})[1])
+        for refusal, change in self.causes:
+            self.assertEqual(calls.pluck(**{**self.base, **change})[0], refusal)
+            self.assert_refused(refusal, pluck.T, **change)
+
+    def test_mirrored_sum(self):
+        """"the mirrored sum is not required of it"; nor must it rise."""
+        has_sum = lambda table: all(table[j] + table[1024 - j] == 65536 for j in range(1025))
+        self.assertTrue(has_sum(pluck.T) and has_sum(tables.STRAIGHT))
+        for table in (tables.LATE, tables.EARLY, tables.stairs(3), [j * j // 16 for j in range(1025)],
+                      tables.changed(pluck.T, 1, 1), tables.changed(tables.LATE, 1023, 1), tables.jump(512)):
+            self.assertFalse(has_sum(table))
+            self.assertEqual(self.filled(table)[2], 1000)
+
+    def test_lengths(self):
+        """"or has another length", whatever else holds of the table."""
+        for table in tables.pool("lengths")[::3]:
+            for place in (1, 2, 300, 512, 1022, 1023):
+                for other in (tables.shorter(table, place), tables.longer(table, place)):
+                    self.assertEqual(breaks(other), {"length"})
+                    self.assert_refused(14, other)
+            for other in (tables.doubled(table), [0, *table], [*table, 65536]):
+                self.assertEqual(breaks(other), {"length"})
+                self.assert_refused(14, other)
+            for other in ([], [0], [65536], [0, 65536], [0, 5, 65536], table[:1024], table[1:], table[:-2], [*table, 0],
+                          [*table, 2**32 - 1], table + table):
+                self.assertIn("length", breaks(other))
+                self.assert_refused(14, other)
+
+    def test_beginning(self):
+        for table in tables.pool("beginnings"):
+            for least in (1, 2, 64, 32768, 65535, 65536):
+                other = tables.raised(table, least)
+                self.assertEqual((breaks(other), other[0]), ({"begin"}, least))
+                self.assert_refused(14, other)
+
+    def test_end(self):
+        for table in tables.pool("ends"):
+            for most in (0, 1, 32768, 65535):
+                self.assertEqual(breaks(tables.lowered(table, most)), {"end"})
+                self.assert_refused(14, tables.lowered(table, most))
+            for entry in (65537, 2 * 65536, 2**31, 2**31 + 65536, 2**32 - 1):
+                self.assertEqual(breaks(tables.ending(table, entry)), {"end"})
+                self.assert_refused(14, tables.ending(table, entry))
+
+    def test_one_fall(self):
+        """At every place where one can be alone, by 1, also where no entry is above 65536."""
+        for place in range(1, 1024):
+            for table in (tables.LATE, pluck.T):
+                other = tables.peak(table, place)
+                self.assertEqual(breaks(other), {"fall"})
+                self.assert_refused(14, other)
+            if place > 1:
+                other = tables.dip(tables.EARLY, place)
+                self.assertEqual((breaks(other), max(other)), ({"fall"}, 65536))
+                self.assert_refused(14, other)
+        for by in (2, 500, 65536):
+            self.assert_refused(14, tables.dip(tables.EARLY, 600, by))
+
+    def test_entry_above_the_end(self):
+        for place in (1, 2, 511, 512, 513, 1022, 1023):
+            for entry in (65537, 2 * 65536, 2**31 - 1, 2**31, 2**32 - 65536, 2**32 - 1):
+                for table in (tables.BUILT_IN, tables.LATE, tables.EARLY):
+                    self.assertEqual(breaks(tables.changed(table, place, entry)), {"fall"})
+                    self.assert_refused(14, tables.changed(table, place, entry))
+
+    def broken(self):
+        """One table of each break."""
+        late = tables.LATE
+        return ([], late[1:], [*late, 65536], tables.raised(late, 1), tables.lowered(late, 65535), tables.ending(late, 65537),
+                tables.peak(late, 512), tables.changed(late, 1023, 2**32 - 1))
+
+    def test_refused_by_14(self):
+        """With nothing else wrong, for every kind of a line and whatever the levels hold."""
+        for table in self.broken():
+            for change in ({}, dict(kind=2), dict(kind=3, centre=4), dict(kind=4, half_width=1), dict(height=0),
+                           dict(height=-CEILING), dict(older=[CEILING + 1] * 5, newer=[0] * 5)):
+                self.assert_refused(14, table, **change)
+
+    def test_order(self):
+        """"checked after 10": 1, 2, 6, 7, 8 and 10 answer before it."""
+        for refusal, change in self.causes:
+            for table in (*self.broken(), tables.LATE):
+                self.assert_refused(refusal, table, **change)
+
+    def test_pairs_of_refusals(self):
+        for low, first in self.causes:
+            for high, second in self.causes:
+                if low < high and not set(first) & set(second):
+                    for table in (tables.STRAIGHT, []):
+                        self.assert_refused(low, table, **{**second, **first})
+
+    def test_accepted(self):
+        """At the limits of the other numbers."""
+        for change in (dict(height=CEILING), dict(height=-CEILING), dict(half_width=1), dict(half_width=4), dict(centre=1),
+                       dict(centre=3), dict(kind=2, centre=4), dict(kind=3, centre=0), dict(kind=4),
+                       dict(columns=3, older=[5] * 3, newer=[5] * 3, centre=1, half_width=2),
+                       dict(columns=1024, older=[5] * 1024, newer=[5] * 1024, centre=1022, half_width=1023)):
+            case = {**self.base, **change}
+            self.assertEqual(self.filled(tables.STRAIGHT, **change)[case["centre"]], case["height"])
+
+
+class DrawnTables(unittest.TestCase):
+    """The tables of the comparison."""
+
+    def test_pool(self):
+        """All keep the rule; some have long equal stretches, others nearly none."""
+        self.assertTrue(all(breaks(table) == set() for table in draws.TABLES))
+        self.assertGreater(len({tuple(table) for table in draws.TABLES}), 40)
+        long = [table for table in draws.TABLES if len(set(table)) < 10]
+        self.assertGreater(len(long), 10)
+        self.assertGreater(sum(len(set(table)) > 900 for table in draws.TABLES), 10)
+
+    def test_draws(self):
+        """Often T, often another one that keeps the rule, often one that breaks one rule alone."""
+        draw, found, lengths = draws.Draws("tables"), {}, set()
+        for _ in range(3000):
+            table = draw.table()
+            self.assertTrue(all(0 <= entry < 2**32 for entry in table))
+            key = "T" if table == tables.BUILT_IN else frozenset(breaks(table))
+            found[key] = found.get(key, 0) + 1
+            lengths.add(len(table))
+        self.assertGreater(found["T"], 400)
+        self.assertGreater(found[frozenset()], 1000)
+        for rule in ("length", "begin", "end", "fall"):
+            self.assertGreater(found[frozenset({rule})], 60, rule)
+        self.assertLessEqual({0, 1, 3, 1024, 1025, 1026, 2050}, lengths)
 
 
 def as_float(x):
@@ -954,6 +1173,22 @@ class Book(unittest.TestCase):
         kept.pluck(3, 3, 1, zeros, zeros, 0, 1, 9)
         self.assertEqual((kept.n, kept.scale, kept.older, kept.newer), (0, 1, [9, 0, 0], [9, 0, 0]))
 
+    def test_pluck_by_a_lent_table(self):
+        """An accepted one puts its levels into the book, with n 0; one refused by 14 or before changes nothing."""
+        zeros = [0] * 5
+        kept = book.Book(zeros, zeros)
+        kept.block(1, 5, 1, 999, 0, 8, zeros, zeros, (2, 77), 3, 4)
+        before = dict(vars(kept))
+        for table, centre in ((tables.peak(tables.LATE, 512), 2), ([], 2), (tables.STRAIGHT, 0)):
+            kept.pluck_with(1, 5, 1, zeros, zeros, centre, 3, 1000, table)
+            self.assertEqual(vars(kept), before)
+        kept.pluck_with(1, 5, 1, zeros, zeros, 2, 3, 1000, tables.STRAIGHT)
+        level = [0, 666, 1000, 666, 0]
+        self.assertEqual((kept.n, kept.scale, kept.inexact, kept.older, kept.newer), (0, 1, 0, level, level))
+        self.assertEqual(kept.last, before["last"])
+        self.assertTrue(kept.within_bound(level))
+        self.assertFalse(kept.within_bound([0, 749, 1000, 749, 0]))
+
     def test_sum(self):
         """The counts since the book last took its levels: at its start, a pluck, a change of kind, grid or settings."""
         rest = [0] * 12
@@ -1015,6 +1250,10 @@ class Book(unittest.TestCase):
                     args = (*grid, older, newer, draw.point(grid, True), draw.half_width(grid[1]), draw.force())
                     kept.pluck(*args)
                     _, older, newer = calls.pluck(*args)
+                elif draw.rarely(0.1):
+                    args = (*grid, older, newer, draw.point(grid, True), draw.half_width(grid[1]), draw.force(), draw.table())
+                    kept.pluck_with(*args)
+                    _, older, newer = calls.pluck_with(*args)
                 else:
                     hit = draw.hit(grid)
                     answer, after_older, after_newer, _, _ = calls.block(
@@ -1058,6 +1297,18 @@ class Parted(Reference):
 
     def block_in_place(self, *arguments):
         return self.other(*super().block_in_place(*arguments))
+
+
+class OtherPluck(Reference):
+    """A reference whose pluck by a copy of T gives something else."""
+
+    def __init__(self, other):
+        super().__init__()
+        self.other = other
+
+    def pluck_with(self, *arguments):
+        outcome = super().pluck_with(*arguments)
+        return self.other(*outcome) if arguments[-1] == tables.BUILT_IN else outcome
 
 
 def play(library, lists=200, singles=0, odds=0.0, stop_at=None):
@@ -1111,7 +1362,7 @@ class Comparison(unittest.TestCase):
         blocks, in_place = (sum(counts[key] for key in counts if key[0] == name) for name in ("block", "block_in_place"))
         self.assertGreater(min(blocks, in_place), 400)
         self.assertTrue(100 < counts["both"] < min(blocks, in_place) / 2)
-        counts = play(Reference(), 0, 2000, 0.05)
+        counts = play(Reference(), 0, 2500, 0.05)
         blocks, in_place = (sum(counts[key] for key in counts if key[0] == name) for name in ("block", "block_in_place"))
         self.assertEqual((blocks, in_place), (counts["both"], counts["both"]))
         for what, least in (("both, 13 first", 20), ("both, 13 later", 10), ("both, 13 last point", 10),
@@ -1139,6 +1390,51 @@ class Comparison(unittest.TestCase):
         self.assertEqual(stand_in().block_in_place(*arguments, 1, 0, 0, 0), (0, 2, 2, [0, 1, 0], [0, 1, 0], [0] * 2))
         self.assertEqual(stand_in().block_in_place(*arguments, 3, 0, 0, 0), (9, 0, 0, *arguments[6:]))
 
+    def test_stand_in_of_a_pluck_by_a_lent_table(self):
+        arguments, level = (1, 5, 1, [9] * 5, [8] * 5, 2, 3, 1000), [0, 666, 1000, 666, 0]
+        self.assertEqual(stand_in().pluck_with(*arguments, tables.STRAIGHT), (0, level, level, tables.STRAIGHT))
+        for table in ([], [2**32 - 1] * 7, tables.ending(tables.LATE, 2**32 - 1)):
+            self.assertEqual(stand_in().pluck_with(*arguments, table), (14, [9] * 5, [8] * 5, table))
+
+    def test_draws_of_plucks(self):
+        """Plucks by lent tables in lists and alone, accepted and refused by 14, copies of T beside the built-in pluck."""
+        for lists, singles, odds in ((200, 0, 0.0), (0, 1500, 0.05)):
+            counts = play(Reference(), lists, singles, odds)
+            plucks, by_tables = (sum(counts[key] for key in counts if key[0] == name) for name in ("pluck", "pluck_with"))
+            self.assertGreater(min(plucks, by_tables), 80)
+            self.assertGreater(2 * by_tables, plucks)
+            self.assertGreater(counts["pluck_with", 0], 30)
+            self.assertGreater(counts["pluck_with", 14], 10)
+            self.assertGreater(counts["copies of T"], 15)
+        self.assertLessEqual({1, 2, 6, 7, 8, 10}, {key[1] for key in counts if key[0] == "pluck_with"})
+
+    def test_copy_of_t_that_does_not_agree(self):
+        """Where both sides agree on a pluck that by a copy of T is not as the built-in one, that is found."""
+        for other in (lambda refusal, *rest: (refusal and 7, *rest),
+                      lambda refusal, older, newer, table: (refusal, [0] * len(older), newer, table),
+                      lambda refusal, older, newer, table: (refusal, older, [0] * len(newer), table)):
+            for lists, singles, odds in ((300, 0, 0.1), (0, 600, 0.1)):
+                with mock.patch.object(run, "REFERENCE", OtherPluck(other)), self.assertRaisesRegex(run.Difference, "^both plucks"):
+                    play(OtherPluck(other), lists, singles, odds)
+
+    def test_table_that_is_written_to(self):
+        """A library that leaves a lent table otherwise than it was is found, also where the call is refused."""
+        for change in (lambda table: table.append(table.pop() - 1), lambda table: table.sort(), list.reverse):
+            def pluck_with(*arguments):
+                outcome = calls.pluck_with(*arguments)
+                if arguments[-1]:
+                    change(arguments[-1])
+                return outcome
+
+            writing = stand_in(mock.Mock(wraps=calls, pluck_with=pluck_with))
+            for lists, singles in ((300, 0), (0, 300)):
+                with self.assertRaisesRegex(run.Difference, "^pluck_with"):
+                    play(writing, lists, singles)
+
+    def test_book_that_is_not_told_of_a_lent_table(self):
+        with mock.patch.object(book.Book, "pluck_with"), self.assertRaisesRegex(run.Difference, "^distance beyond the bound"):
+            play(Reference())
+
     def test_another_count_is_found(self):
         for count in (lambda inexact: 0, lambda inexact: inexact + 1, lambda inexact: min(inexact, 9),
                       lambda inexact: int(inexact > 0)):
@@ -1161,7 +1457,9 @@ class UpAndDown(unittest.TestCase):
                  (13, 2, 3, [0, -5, 0], [0, -6, 7], [4, 0, -4], [-7, 8, 0, 9])),
                 ("block_in_place", (0, 1, 2, [0, 5, 0], [0, 6, -7], [7]), (0, 1, 2, [0, -5, 0], [0, -6, 7], [-7])),
                 ("block_in_place", (8, 0, 0, [0, 5], [6], [7, 9]), (8, 0, 0, [0, -5], [-6], [7, 9])),
-                ("pluck", (0, [0, 3, 1], [0, 3, 1]), (0, [0, -3, -1], [0, -3, -1])))
+                ("pluck", (0, [0, 3, 1], [0, 3, 1]), (0, [0, -3, -1], [0, -3, -1])),
+                ("pluck_with", (0, [0, 3, 1], [0, 3, 1], [0, 9]), (0, [0, -3, -1], [0, -3, -1], [0, 9])),
+                ("pluck_with", (14, [0, 3], [0, 4, 1], [5]), (14, [0, -3], [0, -4, -1], [5])))
 
     def pair(self, name, *arguments):
         """The outcomes of a call and of its mirror image, after a look that one is the mirror image of the other."""
@@ -1188,6 +1486,9 @@ class UpAndDown(unittest.TestCase):
         for centre in (0, 2):
             self.assertEqual(mirror.of_arguments("pluck", (4, 4, 1, *levels, centre, 3, -77)),
                              (4, 4, 1, *image, centre, 3, 77))
+            for table in (tables.LATE, [], [0, 2**32 - 1]):
+                self.assertEqual(mirror.of_arguments("pluck_with", (4, 4, 1, *levels, centre, 3, -77, table)),
+                                 (4, 4, 1, *image, centre, 3, 77, table))
 
     def test_arguments_without_negative(self):
         """-2^63 at a point of older or newer, as a force or a height; not in work, nor as the force without a hit."""
@@ -1202,6 +1503,8 @@ class UpAndDown(unittest.TestCase):
             self.assertEqual(mirror.of_arguments("block_in_place", run.without_work(block)) is not None, is_there)
             pluck = 1, 3, 1, older, newer, 1, 1, strength
             self.assertEqual(mirror.of_arguments("pluck", pluck) is not None, is_there and strength != low)
+            found = mirror.of_arguments("pluck_with", (*pluck, tables.LATE))
+            self.assertEqual(found is not None, is_there and strength != low)
 
     def test_outcome(self):
         for name, outcome, image in self.outcomes:
@@ -1264,6 +1567,17 @@ class UpAndDown(unittest.TestCase):
         above, below = [0, 1, 3, 1, 0], [0, -1, -3, -1, 0]
         self.assertEqual(self.pair("pluck", 1, 5, 1, [9] * 5, [8] * 5, 2, 2, 3), ((0, above, above), (0, below, below)))
 
+    def test_pluck_by_a_lent_table(self):
+        """"It covers plucks of negated height too": by the same table, refused by 14 or not."""
+        for table, height, above in ((tables.STRAIGHT, 1000, [0, 666, 1000, 666, 0]), (tables.STRAIGHT, 1, [0, 0, 1, 0, 0]),
+                                     (tables.LATE, CEILING, [0, 0, CEILING, 0, 0])):
+            below = [-value for value in above]
+            self.assertEqual(self.pair("pluck_with", 1, 5, 1, [9] * 5, [8] * 5, 2, 3, height, table),
+                             ((0, above, above, table), (0, below, below, table)))
+        table = tables.peak(tables.LATE, 9)
+        self.assertEqual(self.pair("pluck_with", 1, 5, 1, [9] * 5, [8] * 5, 2, 3, 7, table),
+                         ((14, [9] * 5, [8] * 5, table), (14, [-9] * 5, [-8] * 5, table)))
+
     def test_samples(self):
         """"This rests on the read-out rounding to nearest"; q, m and s 0, older as newer."""
         for value, sample in ((3, 0), (2**27 - 1, 0), (2**27, 1), (3 * 2**27, 2), (CEILING, 32767)):
@@ -1314,8 +1628,9 @@ class UpAndDown(unittest.TestCase):
         self.assertEqual((counts["mirrored lists"], 2 * counts["mirrored calls"]), (150, len(made)))
         self.assertEqual(sum(counts[key] for key in counts if isinstance(key, tuple)), len(made))
         for what in ("mirrored lists with hits", "mirrored, refused", "mirrored, 13 first", "mirrored, 13 later",
-                     "mirrored plucks", *(f"kind {kind}" for kind in KINDS)):
+                     "mirrored plucks", "mirrored plucks by lent tables", *(f"kind {kind}" for kind in KINDS)):
             self.assertGreater(counts[what], 3, what)
+        self.assertGreater(counts["mirrored plucks"], counts["mirrored plucks by lent tables"])
 
     @all_mirrored
     def test_random_lists_without_negative(self):

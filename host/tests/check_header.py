@@ -8,7 +8,7 @@ import re
 import subprocess
 import sys
 
-TYPES = {"u64": "uint64_t", "i64": "int64_t", "i16": "int16_t", "usize": "size_t", "f64": "double"}
+TYPES = {"u64": "uint64_t", "u32": "uint32_t", "i64": "int64_t", "i16": "int16_t", "usize": "size_t", "f64": "double"}
 
 
 def c_arguments(name, rattle):

@@ -1,4 +1,4 @@
-/* The header's calls: the paper's sheet, a pluck, a block with a hit, a reading, a fading string, a struck plate, blocks in place, refused
+/* The header's calls: the paper's sheet, plucks, a block with a hit, a reading, a fading string, a struck plate, blocks in place, refused
  * calls, and both blocks by the exported functions themselves, for writers of bindings. Prints what differs. Compiled as C99 and as
  * C++11. */
 #include "buvcsolta.h"
@@ -99,6 +99,41 @@ static void plucked_string(void)
     expect("inexact, some but no more than move", inexact > 0 && inexact <= PLACES * (COLUMNS - 2), 1);
 }
 
+/* A straight table, its entries 64 apart; then each way to break its rule alone. */
+static void plucked_by_a_table(void)
+{
+    static const int64_t wanted[5] = {0, 666, 1000, 666, 0}, before[5] = {5, 5, 5, 5, 5};
+    struct buvcsolta_instrument i = {BUVCSOLTA_STRING_FIXED, 5, 1, 0, 0, 0};
+    int64_t a[5], b[5];
+    struct buvcsolta_levels lent = {a, b, NULL, 5};
+    uint32_t table[BUVCSOLTA_TABLE_LENGTH + 1];
+    const struct {
+        size_t length, place;
+        uint32_t entry;
+        uint64_t answer;
+    } cases[] = {
+        {BUVCSOLTA_TABLE_LENGTH, 0, 0, BUVCSOLTA_NOTHING}, {BUVCSOLTA_TABLE_LENGTH, 9, 8 * 64, BUVCSOLTA_NOTHING},
+        {BUVCSOLTA_TABLE_LENGTH, 0, 1, BUVCSOLTA_BROKEN_TABLE}, {BUVCSOLTA_TABLE_LENGTH, 9, 8 * 64 - 1, BUVCSOLTA_BROKEN_TABLE},
+        {BUVCSOLTA_TABLE_LENGTH, 1023, BUVCSOLTA_TABLE_LAST + 1, BUVCSOLTA_BROKEN_TABLE},
+        {BUVCSOLTA_TABLE_LENGTH, 1024, BUVCSOLTA_TABLE_LAST - 1, BUVCSOLTA_BROKEN_TABLE},
+        {BUVCSOLTA_TABLE_LENGTH, 1024, BUVCSOLTA_TABLE_LAST + 1, BUVCSOLTA_BROKEN_TABLE},
+        {BUVCSOLTA_TABLE_LENGTH - 1, 1023, BUVCSOLTA_TABLE_LAST, BUVCSOLTA_BROKEN_TABLE},
+        {BUVCSOLTA_TABLE_LENGTH + 1, 1025, BUVCSOLTA_TABLE_LAST, BUVCSOLTA_BROKEN_TABLE},
+    };
+    for (size_t k = 0; k < sizeof cases / sizeof *cases; k++) {
+        int refused = cases[k].answer != BUVCSOLTA_NOTHING;
+        for (uint32_t j = 0; j <= BUVCSOLTA_TABLE_LENGTH; j++)
+            table[j] = 64 * j;
+        table[cases[k].place] = cases[k].entry;
+        memcpy(a, before, sizeof a);
+        memcpy(b, before, sizeof b);
+        expect_refusal("a pluck by a table", buvcsolta_instrument_pluck_with(&i, &lent, 2, 3, 1000, table, cases[k].length), cases[k].answer);
+        expect("older by a table", memcmp(a, refused ? before : wanted, sizeof a), 0);
+        expect("newer by a table", memcmp(b, refused ? before : wanted, sizeof b), 0);
+    }
+    expect_refusal("half width before the table", buvcsolta_pluck_with(1, 5, 1, a, 5, b, 5, 2, 0, 1000, table, 3), BUVCSOLTA_HALF_WIDTH);
+}
+
 /* A string that fades to 3 units below zero and stays there: its samples end in zeros. */
 static void fading_string(void)
 {
@@ -196,6 +231,7 @@ int main(void)
     listing_of_the_paper();
     listing_in_place();
     plucked_string();
+    plucked_by_a_table();
     fading_string();
     struck_plate();
     blocks_in_place();

@@ -53,6 +53,15 @@ static void call_pluck(void)
     refusal = buvcsolta_instrument_pluck(&instrument, &lent, 1, 1, 1000000);
 }
 
+static void call_pluck_with(void)
+{
+    static uint32_t table[BUVCSOLTA_TABLE_LENGTH];
+    struct buvcsolta_levels lent = levels();
+    table[BUVCSOLTA_TABLE_LENGTH - 1] = BUVCSOLTA_TABLE_LAST;
+    frame = __builtin_frame_address(0);
+    refusal = buvcsolta_instrument_pluck_with(&instrument, &lent, 1, 1, 1000000, table, BUVCSOLTA_TABLE_LENGTH);
+}
+
 static void call_reading(void)
 {
     struct buvcsolta_levels lent = levels();
@@ -109,7 +118,7 @@ static size_t most(const struct row *r)
             struct buvcsolta_instrument i = {kind, side, kind >= 5 ? side : 1, 10000, stiffness(kind), 3};
             instrument = i;
             bytes = needed(r->call);
-            if (refusal != BUVCSOLTA_NOTHING && !(r->call == call_pluck && kind >= 5)) {
+            if (refusal != BUVCSOLTA_NOTHING && !((r->call == call_pluck || r->call == call_pluck_with) && kind >= 5)) {
                 printf("kind %d, %d columns: %s\n", (int)kind, (int)side, buvcsolta_refusal_text(refusal));
                 exit(1);
             }
@@ -123,12 +132,13 @@ int main(int argc, char **argv)
     static const struct row rows[] = {
         {"block", call_block, 1, 6}, {"block of a plate", call_block, 7, 7},
         {"block in place", call_block_in_place, 1, 6}, {"block in place of a plate", call_block_in_place, 7, 7},
-        {"pluck", call_pluck, 1, 7}, {"reading", call_reading, 1, 7}, {"sheet", call_sheet, 1, 7},
+        {"pluck", call_pluck, 1, 7}, {"pluck by a lent table", call_pluck_with, 1, 7},
+        {"reading", call_reading, 1, 7}, {"sheet", call_sheet, 1, 7},
     };
     enum { ROWS = sizeof rows / sizeof *rows };
     int passed = 0;
     if (argc != ROWS + 1) {
-        fputs("usage: stack BLOCK PLATE IN_PLACE PLATE_IN_PLACE PLUCK READING SHEET, the bytes that each may need\n", stderr);
+        fputs("usage: stack BLOCK PLATE IN_PLACE PLATE_IN_PLACE PLUCK PLUCK_WITH READING SHEET, the bytes that each may need\n", stderr);
         return 2;
     }
     for (int k = 0; k < ROWS; k++)

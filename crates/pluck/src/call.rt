@@ -1,4 +1,4 @@
-// The two calls, by the table T and by a lent one: their checks, and both levels.
+// The call by the table T: its checks, and both levels. A call by a lent table shares them.
 ghost use mathlib.Core.Path.{_≡_};
 ghost use mathlib.Core.Bool.{_||_};
 ghost use lib.ListN.{length};
@@ -15,8 +15,6 @@ use crate::table::TABLE;
 use checks::pluck_refusal;
 use instruments::is_nothing;
 use kinds::straight_run;
-use pluck_table::LoadedTable;
-use pluck_table::load_table;
 use sizes::points_of;
 use slices::copy;
 use types::Grid;
@@ -30,8 +28,8 @@ fn wrong_levels(g: Grid, older: usize, newer: usize) -> bool
     (older != points) | (newer != points)
 }
 
-// What refuses a pluck of two levels of so many points.
-fn refusal_of(
+// What refuses a pluck of two levels of so many points, its table apart.
+pub(crate) fn refusal_of(
     g: Grid,
     older: usize,
     newer: usize,
@@ -46,7 +44,7 @@ fn refusal_of(
 }
 
 // A pluck that nothing refuses, by any table that keeps the rule of a shape, and the place of its last entry.
-fn carry_out(
+pub(crate) fn carry_out(
     g: Grid,
     table: &[u32],
     last: usize,
@@ -90,31 +88,5 @@ pub fn pluck(
     }
     let table = TABLE;
     carry_out(g, &table, 1024, older, newer, centre, half_width, height);
-    Refusal::Nothing
-}
-
-// The same by a lent table, which is looked at in each call. Ruled out: the table T in place of the lent one; a table that breaks a rule
-// used; 14 before 10.
-pub fn pluck_with(
-    g: Grid,
-    older: &mut [i64],
-    newer: &mut [i64],
-    centre: usize,
-    half_width: usize,
-    height: i64,
-    table: &[u32],
-) -> Refusal
-    ensures { λ r. ⌜ pluckLeft r (now (older .exit)) (now (newer .exit))
-        ≡ Calls.pluckWith g (now (older .entry)) (now (newer .entry)) centre «half_width» height (now (table .entry)) ⌝ }
-{
-    let refusal = refusal_of(g, older.len(), newer.len(), centre, half_width, height);
-    if !is_nothing(refusal) {
-        return refusal;
-    }
-    let loaded = load_table(table);
-    let LoadedTable::Sound { last } = loaded else {
-        return Refusal::BrokenTable;
-    };
-    carry_out(g, table, last, older, newer, centre, half_width, height);
     Refusal::Nothing
 }

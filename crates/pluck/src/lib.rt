@@ -1,7 +1,8 @@
 // Plucks: both levels of a line get the shape that their rule gives, by the table T or by a lent one.
 mod call;
+mod lent;
 mod shape;
 mod table;
 
 pub use call::pluck;
-pub use call::pluck_with;
+pub use lent::pluck_with;

@@ -1,14 +1,13 @@
 -- Laws of loading: what never falls, by its first entries; and a table is loaded exactly where it keeps the rule of a shape.
 use mathlib.Core.Path.{_≡_, refl, sym, ap, ap₂, _∙_, subst}
-use mathlib.Core.Bool.{Bool, true, false, not, _&&_, _||_, cond, true≢false}
+use mathlib.Core.Bool.{Bool, true, false, _&&_, cond, true≢false}
 use mathlib.Core.List.{List, [], _∷_}
 use Prim.Native.Nat.{ℕ, zero, suc, _+_, _-_, _≤_, _<_}
 use native.Mathlib.Nat.{le-of-suc-le-suc, not-suc-le-zero}
 use native.Mathlib.Omega.{arith}
 use borrow.Author.Tests.{eq-eqb, eqb-true, le-leb}
-use lib.Dec.{T, leb, eqb}
+use lib.Dec.{T, leb}
 use lib.ListN.{length, getD, take}
-use Rattle.pluck_table.specs.declared.LoadedTable.{LoadedTable}
 use Rattle.pluck_table.specs.declared.LoadedTable.the-variants.{Sound, Broken}
 use Rattle.pluck_table.specs.Table.{ShapeRule, table}
 use Rattle.pluck_table.specs.Loading.{neverFalls, keepsRule, loadedTable, loadedNumber, loadedLast, TablesLoaded}
@@ -49,7 +48,7 @@ more-rises t (suc k) l h =
 -- ---- the rule
 
 -- entries that never fall, one by one
-climbs : (xs : List ℕ) → ((k : ℕ) → suc k < length xs → getD xs k 0 ≤ getD xs (suc k) 0) → neverFalls xs ≡ true
+pub climbs : (xs : List ℕ) → ((k : ℕ) → suc k < length xs → getD xs k 0 ≤ getD xs (suc k) 0) → neverFalls xs ≡ true
 climbs [] r = refl
 climbs (x ∷ []) r = refl
 climbs (x ∷ y ∷ ys) r =
@@ -60,19 +59,6 @@ unfolding keepsRule
 keeps t r =
     ap₂ _&&_ (eq-eqb (length t) 1025 (r .long)) (ap₂ _&&_ (ap₂ _&&_ (eq-eqb (getD t 0 0) 0 (r .begins)) (eq-eqb (getD t 1024 0) 65536 (r .ends)))
     (climbs t (λ k h. r .rises k (omega (arith, h, r .long)))))
-
--- by the tests as the code makes them: the length, whether an end is wrong, the pairs of neighbours
-both : (x y : Bool) → (x && y) ≡ not (not x || not y)
-both true true = refl
-both true false = refl
-both false y = refl
-
-pub by-tests : (t : List ℕ) {long wrong rising : Bool} → eqb (length t) 1025 ≡ long
-    → (not (eqb (getD t 0 0) 0) || not (eqb (getD t 1024 0) 65536)) ≡ wrong → neverFalls t ≡ rising
-    → loadedTable t ≡ cond (long && (not wrong && rising)) (Sound 1024) Broken
-unfolding loadedTable keepsRule
-by-tests t l w r =
-    ap (λ (b : Bool). cond b (Sound 1024) Broken) (ap₂ _&&_ l (ap₂ _&&_ (both (eqb (getD t 0 0) 0) (eqb (getD t 1024 0) 65536) ∙ ap not w) r))
 
 -- T is loaded, and so is every table that keeps the rule
 pub loads : (t : List ℕ) → ShapeRule t → loadedTable t ≡ Sound 1024
@@ -109,6 +95,15 @@ kept t = go (keepsRule t) refl
 -- and its last place is 1024
 pub last-is : (t : List ℕ) (last : ℕ) → loadedTable t ≡ Sound last → last ≡ 1024
 last-is t last e = ap loadedLast (sym e ∙ loads t (kept t (ap loadedNumber e)))
+
+-- one that does not keep it is broken
+pub unkept : (t : List ℕ) → (ShapeRule t → ⊥) → loadedTable t ≡ Broken
+unfolding loadedTable
+unkept t breaks = go (keepsRule t) refl
+  where
+    go : (b : Bool) → keepsRule t ≡ b → cond b (Sound 1024) Broken ≡ Broken
+    go true k = absurd (breaks (keeps-rule t k))
+    go false k = refl
 
 pub tables-loaded : TablesLoaded
 tables-loaded = record { loads = loads; kept = kept }

@@ -29,7 +29,10 @@ pub fn load_table(table: &[u32]) -> LoadedTable
     if table.len() != 1025 {
         return LoadedTable::Broken;
     }
-    if (table[0] != 0) | (table[1024] != 65536) {
+    if table[0] != 0 {
+        return LoadedTable::Broken;
+    }
+    if table[1024] != 65536 {
         return LoadedTable::Broken;
     }
     if never_falls(table) {

@@ -167,12 +167,8 @@ unfolding sumOver tabulate someBelow countBelow only kindOf sizeIn stableIn fixe
     numerator roundAway nextAt nextLevel inexactAt inexactIn someBeyond sampleOf table keepsRule loadedTable pluckAt pluckLevel fixedNotZero
     blockRefusal pluckRefusal pluckWithRefusal play capped block pluckBy pluckWith unroundedAt unroundedStep unroundedSteps goesOn bookBlock
     bookPluck sumBlock sumPluck leaves bookCall sumCall calls
-lent-hold Lent.loaded = (refl, refl, refl, refl)
-lent-hold Lent.lengths = refl
-lent-hold Lent.ends = refl
-lent-hold Lent.falls = refl
-lent-hold Lent.sound = refl
 lent-hold Lent.ordered = refl
+lent-hold Lent.tables = refl
 lent-hold Lent.copyOfT = refl
 lent-hold Lent.straightLine = refl
 lent-hold Lent.lateRise = refl

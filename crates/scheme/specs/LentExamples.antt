@@ -1,47 +1,23 @@
--- A table for plucks by a lent table (request 7): what loading answers, each break alone, the order of refusals, the filling, list and book.
--- The numbers come by hand, or from the reference in another language under host/.
+-- A table for plucks by a lent table (request 7): the order of refusals, the filling, list and book. `LoadingExamples` of crate pluck_table
+-- has each break of a table's rule. The numbers come by hand, or from the reference in another language under host/.
 use mathlib.Core.Path.{_≡_}
-use mathlib.Core.List.{List, [], _∷_, _++_, map}
-use Prim.Native.Nat.{ℕ, zero, suc, _+_}
+use mathlib.Core.List.{List, [], _∷_, map}
+use Prim.Native.Nat.{ℕ}
 use lib.IntN.{ℤ, pos}
 use lib.ListN.{length}
 use Rattle.types.specs.declared.Refusal.the-variants.{Nothing, BrokenTable}
 use Rattle.types.specs.Numbers.{number}
-use Rattle.pluck_table.specs.declared.LoadedTable.the-variants.{Sound, Broken}
 use Rattle.pluck_table.specs.Table.{table}
-use Rattle.pluck_table.specs.Loading.{loadedTable, loadedNumber}
+use Rattle.pluck_table.specs.LoadingExamples.{straight, late, early, stepped}
 use Rattle.scheme.specs.Refusals.{pluckWithRefusal}
 use Rattle.scheme.specs.Calls.{AfterPluck, pluckLeft, overwritten, pluckWith}
 use Rattle.scheme.specs.Book.{stepOf, Call, pluckWithCall, pluckOutcome}
 use Rattle.scheme.specs.Examples.{grid, level, minus}
 use Rattle.scheme.specs.FurtherExamples.{five, above, voice, twoSteps, oneStep, after, fromHere, outcomesOf, threeOn}
 
--- n entries from x on, each d above the one before
-abbrev pub entries : (n x d : ℕ) → List ℕ
-entries zero x d = []
-entries (suc n) x d = x ∷ entries n (x + d) d
-
--- entry j is 64·j; 0 up to 1023; 65536 from 1 on
-abbrev pub straight : List ℕ
-straight = entries 1025 0 64
-
-abbrev late : List ℕ
-late = entries 1024 0 0 ++ 65536 ∷ []
-
-abbrev early : List ℕ
-early = 0 ∷ entries 1024 65536 0
-
--- n entries of 0, some others, as many of 65536 as there are places left for, then the last
-abbrev broken : (n : ℕ) → List ℕ → (m last : ℕ) → List ℕ
-broken n xs m last = entries n 0 0 ++ (xs ++ (entries m 65536 0 ++ last ∷ []))
-
 -- what a pluck of a line of five points by a lent table is refused by
 abbrev refusedBy : ℕ → (older newer : List ℤ) → ℕ → ℕ → ℤ → List ℕ → ℕ
 refusedBy k older newer c w a lent = number (pluckWithRefusal (grid k 5 1) (length older) (length newer) c w a lent)
-
--- by 14, or not
-abbrev tableRefusedBy : List ℕ → ℕ
-tableRefusedBy lent = refusedBy 1 five five 2 3 (pos 1000) lent
 
 -- a pluck of five points that hold 7 and 8
 abbrev sevens : List ℤ
@@ -58,23 +34,9 @@ abbrev ofFour : List ℕ → Call
 ofFour lent = pluckWithCall (grid 1 4 1) 2 3 (pos 9) lent
 
 pub data LentExample : Type 0 where
-  loaded lengths ends falls sound ordered copyOfT straightLine lateRise earlyRise turnedDown book bookOfRefused outcomes : LentExample
+  ordered tables copyOfT straightLine lateRise earlyRise turnedDown book bookOfRefused outcomes : LentExample
 
 abbrev pub lentShows : LentExample → Type 0
--- the paper's number and the value of each answer
-lentShows loaded = (loadedTable table ≡ Sound 1024) × (loadedTable straight ≡ Sound 1024) × (loadedTable [] ≡ Broken) ×
-    (map loadedNumber (Sound 1024 ∷ Broken ∷ []) ≡ 0 ∷ 14 ∷ [])
--- "or has another length": 0, 3, 1024 and 1026 entries that otherwise keep the rule, and 1025
-lentShows lengths = map tableRefusedBy ([] ∷ broken 1 [] 1 65536 ∷ broken 1 [] 1022 65536 ∷ broken 1 [] 1024 65536 ∷ broken 1 [] 1023 65536
-    ∷ entries 1024 0 64 ∷ entries 1026 0 64 ∷ []) ≡ 14 ∷ 14 ∷ 14 ∷ 14 ∷ 0 ∷ 14 ∷ 14 ∷ []
--- "begin at 0, end at 65536": each end alone, too high or too low
-lentShows ends = map tableRefusedBy ((1 ∷ entries 1024 65536 0) ∷ entries 1025 65536 0 ∷ broken 1024 [] 0 65535 ∷ broken 1024 [] 0 65537
-    ∷ entries 1025 0 0 ∷ []) ≡ 14 ∷ 14 ∷ 14 ∷ 14 ∷ 14 ∷ []
--- "never fall": by 1 from the second entry, from the middle, from the last but two and from the last but one; from far above 65536
-lentShows falls = map tableRefusedBy (broken 1 (1 ∷ 0 ∷ []) 1021 65536 ∷ broken 512 (300 ∷ 299 ∷ []) 510 65536 ∷
-    broken 1022 (65537 ∷ []) 1 65536 ∷ broken 1023 (65537 ∷ []) 0 65536 ∷ broken 512 (4294967295 ∷ []) 511 65536 ∷ []) ≡ 14 ∷ 14 ∷ 14 ∷ 14 ∷ 14 ∷ []
--- equal neighbours, a leap at either end, no mirrored sum
-lentShows sound = map tableRefusedBy (late ∷ early ∷ broken 512 (300 ∷ 300 ∷ []) 510 65536 ∷ broken 3 (1 ∷ []) 1020 65536 ∷ []) ≡ 0 ∷ 0 ∷ 0 ∷ 0 ∷ []
 -- "checked after 10": every other refusal of a pluck, with a broken table; then 14
 lentShows ordered =
     refusedBy 9 five five 2 3 (pos 1000) [] ∷ refusedBy 5 five five 2 3 (pos 1000) [] ∷
@@ -82,6 +44,10 @@ lentShows ordered =
     refusedBy 1 five five 0 3 (pos 1000) [] ∷ refusedBy 1 five five 2 3 (minus above) [] ∷
     refusedBy 1 five five 2 0 (pos 1000) (1 ∷ 2 ∷ 3 ∷ []) ∷ refusedBy 1 five five 2 5 (pos 1000) [] ∷
     refusedBy 1 five five 2 3 (pos 1000) (1 ∷ 2 ∷ 3 ∷ []) ∷ [] ≡ 1 ∷ 1 ∷ 2 ∷ 6 ∷ 7 ∷ 8 ∷ 10 ∷ 10 ∷ 14 ∷ []
+-- each break of the rule, then tables that keep it
+lentShows tables = map (refusedBy 1 five five 2 3 (pos 1000))
+    (stepped 1 [] 1022 65536 ∷ stepped 1 [] 1024 65536 ∷ stepped 0 (1 ∷ []) 1023 65536 ∷ stepped 1024 [] 0 65535 ∷ stepped 512 (300 ∷ 299 ∷ [])
+    510 65536 ∷ table ∷ straight ∷ late ∷ early ∷ []) ≡ 14 ∷ 14 ∷ 14 ∷ 14 ∷ 14 ∷ 0 ∷ 0 ∷ 0 ∷ 0 ∷ []
 -- entries 1024 and 682 of T, and of the straight table
 lentShows copyOfT = plucks 1 2 3 (pos 1000) table ≡ overwritten (level (0 ∷ 749 ∷ 1000 ∷ 749 ∷ 0 ∷ []))
 lentShows straightLine = plucks 1 2 3 (pos 1000) straight ≡ overwritten (level (0 ∷ 666 ∷ 1000 ∷ 666 ∷ 0 ∷ []))

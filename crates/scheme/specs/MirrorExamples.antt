@@ -11,13 +11,13 @@ use Rattle.types.specs.declared.Hit.{Hit}
 use Rattle.types.specs.declared.Hit.the-variants.{Absent, At}
 use Rattle.types.specs.declared.Refusal.{Refusal}
 use Rattle.types.specs.declared.Refusal.the-variants.{Nothing, NotMoving, TooStrong, PointBeyond, FixedNotZero, NextBeyond, BrokenTable}
+use Rattle.pluck_table.specs.LoadingExamples.{straight}
 use Rattle.scheme.specs.Instruments.{beyond}
 use Rattle.scheme.specs.Book.{Call, blockCall, inPlaceCall, pluckCall, pluckWithCall, blockOutcome, inPlaceOutcome, pluckOutcome}
 use Rattle.scheme.specs.Book.{Left, start, calls}
 use Rattle.scheme.specs.Mirror.{MirroredFrom}
 use Rattle.scheme.specs.Examples.{grid, instrument, level, minus, middle3}
 use Rattle.scheme.specs.FurtherExamples.{rest, nines, above}
-use Rattle.scheme.specs.LentExamples.{straight}
 
 -- two levels, a list of calls from there, and what each call leaves
 pub record Run : Type 0 where

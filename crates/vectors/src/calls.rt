@@ -3,6 +3,7 @@ use crate::floats::bits_of;
 use crate::floats::float_of;
 use crate::levels::on_level;
 use crate::levels::on_samples;
+use crate::levels::on_table;
 use crate::records::Numbers;
 use crate::records::PLACES;
 use crate::records::signed;
@@ -14,6 +15,7 @@ use engine::Sheet;
 use engine::block;
 use engine::block_in_place;
 use engine::pluck;
+use engine::pluck_with;
 use engine::reading;
 use engine::settings_for;
 use packing::hit_of;
@@ -76,6 +78,14 @@ fn pluck_agrees(n: Numbers, older: &mut [i64], newer: &mut [i64]) -> bool {
     refusal.number() == n.n7
 }
 
+// 8, and the numbers of 4
+fn pluck_with_agrees(n: Numbers, older: &mut [i64], newer: &mut [i64], table: &[u32]) -> bool {
+    let grid = grid_in(n);
+    let height = signed(n.n6);
+    let refusal = pluck_with(grid, older, newer, n.n4 as usize, n.n5 as usize, height, table);
+    refusal.number() == n.n7
+}
+
 // 5 kind columns rows pickup valuebits refusal
 fn reading_agrees(n: Numbers, newer: &[i64]) -> bool {
     let answer = reading(grid_in(n), newer, n.n4 as usize);
@@ -115,6 +125,7 @@ pub fn agrees(
     newer: &mut [i64],
     work: &mut [i64],
     samples: &mut [i16],
+    table: &mut [u32],
 ) -> bool {
     let target = n.target();
     match target {
@@ -122,11 +133,13 @@ pub fn agrees(
         1 => on_level(n, record, newer),
         2 => on_level(n, record, work),
         3 => on_samples(n, record, samples),
-        4 => block_agrees(n, older, newer, work, samples),
-        5 => pluck_agrees(n, older, newer),
-        6 => reading_agrees(n, newer),
-        7 => sheet_agrees(n),
-        8 => block_in_place_agrees(n, older, newer, samples),
+        4 => on_table(n, record, table),
+        5 => block_agrees(n, older, newer, work, samples),
+        6 => pluck_agrees(n, older, newer),
+        7 => reading_agrees(n, newer),
+        8 => sheet_agrees(n),
+        9 => block_in_place_agrees(n, older, newer, samples),
+        10 => pluck_with_agrees(n, older, newer, table),
         _ => true,
     }
 }

@@ -4,15 +4,16 @@ use crate::records::Numbers;
 use crate::records::PLACES;
 use crate::records::signed;
 
-// The most points of a level, and the most samples.
+// The most points of a level, the most samples, and the most entries of a table.
 pub const MOST: usize = 4100;
 
-// The lengths in which the four buffers are lent.
+// The lengths in which the five buffers are lent.
 pub struct Lent {
     pub older: usize,
     pub newer: usize,
     pub work: usize,
     pub samples: usize,
+    pub table: usize,
 }
 
 pub(crate) fn least(length: usize) -> usize
@@ -31,6 +32,7 @@ impl Lent {
             newer: 0,
             work: 0,
             samples: 0,
+            table: 0,
         }
     }
 
@@ -43,6 +45,7 @@ impl Lent {
             1 => self.newer = length,
             2 => self.work = length,
             3 => self.samples = length,
+            4 => self.table = length,
             _ => {}
         }
         self
@@ -58,11 +61,23 @@ fn sample(bits: u64) -> i16 {
     }
 }
 
+// A number as an entry of a table, 0 where it is none.
+fn entry(bits: u64) -> u32 {
+    match bits {
+        0..=4294967295 => bits as u32,
+        _ => 0,
+    }
+}
+
 fn level_of(is_lent: bool, given: i64, held: i64) -> i64 {
     if is_lent { given } else { held }
 }
 
 fn sample_of(is_lent: bool, given: i16, held: i16) -> i16 {
+    if is_lent { given } else { held }
+}
+
+fn entry_of(is_lent: bool, given: u32, held: u32) -> u32 {
     if is_lent { given } else { held }
 }
 
@@ -91,6 +106,21 @@ pub fn on_samples(n: Numbers, record: &[u64; PLACES], samples: &mut [i16]) -> bo
         let given = sample(record[k + 3]);
         let value = sample_of(is_lent, given, samples[k]);
         samples[k] = value;
+        is_met = is_met & (value == given);
+        k += 1;
+    }
+    is_met
+}
+
+pub fn on_table(n: Numbers, record: &[u64; PLACES], table: &mut [u32]) -> bool {
+    let is_lent = n.n0 == 1;
+    let end = least(table.len());
+    let mut is_met = table.len() as u64 == n.n2;
+    let mut k = 0;
+    while k < end {
+        let given = entry(record[k + 3]);
+        let value = entry_of(is_lent, given, table[k]);
+        table[k] = value;
         is_met = is_met & (value == given);
         k += 1;
     }

@@ -31,6 +31,7 @@ fn run(path: &[u8], text: &[u8]) {
     let mut newer = [0i64; MOST];
     let mut work = [0i64; MOST];
     let mut samples = [0i16; MOST];
+    let mut table = [0u32; MOST];
     let mut lent = Lent::new();
     let mut tally = Tally::new();
     let mut opcode: u64 = 1;
@@ -43,6 +44,7 @@ fn run(path: &[u8], text: &[u8]) {
         let n1 = least(lent.newer);
         let n2 = least(lent.work);
         let n3 = least(lent.samples);
+        let n4 = least(lent.table);
         let is_met = agrees(
             n,
             &record,
@@ -50,6 +52,7 @@ fn run(path: &[u8], text: &[u8]) {
             &mut newer[..n1],
             &mut work[..n2],
             &mut samples[..n3],
+            &mut table[..n4],
         );
         opcode = n.n0;
         tally = tally.record(path, opcode, is_met);

@@ -9,7 +9,7 @@ use std::num::wrapping_sub_u64;
 pub const PLACES: usize = 4104;
 
 // The opcode of a line that is no record.
-const MALFORMED: u64 = 8;
+const MALFORMED: u64 = 9;
 
 // The first numbers of a record, in two's complement where they are negative: all of them, but for a buffer's values.
 pub struct Numbers {
@@ -76,27 +76,28 @@ impl Numbers {
         self
     }
 
-    // What the record is on: 0 to 3 a buffer, 4 to 8 a call, 9 nothing.
+    // What the record is on: 0 to 4 a buffer, 5 to 10 a call, 11 nothing.
     pub fn target(self) -> u64 {
         let opcode = self.n0;
         match opcode {
             1 => self.n1,
             2 => self.n1,
-            3 => 4,
-            4 => 5,
-            5 => 6,
-            6 => 7,
-            7 => 8,
-            _ => 9,
+            3 => 5,
+            4 => 6,
+            5 => 7,
+            6 => 8,
+            7 => 9,
+            8 => 10,
+            _ => 11,
         }
     }
 
-    // The buffer that the record lends, 4 where it lends none.
+    // The buffer that the record lends, 5 where it lends none.
     pub fn lent(self) -> u64 {
         let opcode = self.n0;
         match opcode {
             1 => self.n1,
-            _ => 4,
+            _ => 5,
         }
     }
 
@@ -104,7 +105,7 @@ impl Numbers {
     fn size_on_buffer(self) -> u64 {
         let buffer = self.n1;
         match buffer {
-            0..=3 => wrapping_add_u64(3, self.n2),
+            0..=4 => wrapping_add_u64(3, self.n2),
             _ => 0,
         }
     }
@@ -121,6 +122,7 @@ impl Numbers {
             5 => 7,
             6 => 16,
             7 => 14,
+            8 => 8,
             _ => 0,
         }
     }

@@ -8,6 +8,7 @@ pub struct Tally {
     pub blocks: u64,
     pub blocks_in_place: u64,
     pub plucks: u64,
+    pub plucks_with: u64,
     pub readings: u64,
     pub sheets: u64,
     pub differences: u64,
@@ -34,6 +35,7 @@ impl Tally {
             blocks: 0,
             blocks_in_place: 0,
             plucks: 0,
+            plucks_with: 0,
             readings: 0,
             sheets: 0,
             differences: 0,
@@ -49,6 +51,7 @@ impl Tally {
             5 => self.readings = one_more(self.readings),
             6 => self.sheets = one_more(self.sheets),
             7 => self.blocks_in_place = one_more(self.blocks_in_place),
+            8 => self.plucks_with = one_more(self.plucks_with),
             _ => {}
         }
         self
@@ -91,6 +94,7 @@ impl Tally {
         say_count(self.blocks, b" blocks, ");
         say_count(self.blocks_in_place, b" blocks in place, ");
         say_count(self.plucks, b" plucks, ");
+        say_count(self.plucks_with, b" plucks by a lent table, ");
         say_count(self.readings, b" readings, ");
         say_count(self.sheets, b" sheets, ");
         say_count(self.levels, b" levels compared, ");

@@ -22,8 +22,8 @@ use Rattle.pluck_table.proofs.LoadingLaws.{kept, last-is}
 use Rattle.scheme.proofs.Laws.Refusals.{accepted-is}
 use Rattle.scheme.proofs.Laws.Calls.{with-done, with-refused}
 use Rattle.pluck.proofs.CallLaws.{refused-before, refused-by-table, refused-by-none}
-use Rattle.pluck.proofs.call.pluck_with.Statement.{statement}
-use Rattle.pluck.proofs.call.pluck_with.Tie as tie
+use Rattle.pluck.proofs.lent.pluck_with.Statement.{statement}
+use Rattle.pluck.proofs.lent.pluck_with.Tie as tie
 
 module _ (c : tie.After-refusal-of) where
   abbrev s : tie.Start
