@@ -1,10 +1,12 @@
-/* A second of a plucked string, written to a WAV file: pluck_wav FILE.wav
- * It is played in place, on two levels, for a board without room for a third; with one, buvcsolta_instrument_block takes less time. */
+/* A second of a plucked string, written to a WAV file: pluck_wav FILE.wav [straight]
+ * With `straight` it is plucked by a table of this program. It is played in place, on two levels, for a board without room for a third;
+ * with one, buvcsolta_instrument_block takes less time. */
 #include "buvcsolta.h"
 #include <stdio.h>
 #include <stdlib.h>
+#include <string.h>
 
-enum { RATE = 48000, POINTS = 101, BLOCK = 64, PICK_UP = 30, LOUD = 16000 };
+enum { RATE = 48000, POINTS = 101, BLOCK = 64, PICK_UP = 30, HALF_WIDTH = 25, LOUD = 16000 };
 
 static int64_t older[POINTS], newer[POINTS];
 
@@ -31,21 +33,33 @@ static void put_header(FILE *file, uint32_t samples)
     fputs("data", file), put(file, 2 * samples, 4);
 }
 
+/* A sharp plectrum: the string is drawn out in two straight lines. */
+static uint64_t pluck_straight(const struct buvcsolta_instrument *string, const struct buvcsolta_levels *levels, int64_t height)
+{
+    static uint32_t table[BUVCSOLTA_TABLE_LENGTH];
+    for (uint32_t j = 0; j < BUVCSOLTA_TABLE_LENGTH; j++)
+        table[j] = j * BUVCSOLTA_TABLE_LAST / (BUVCSOLTA_TABLE_LENGTH - 1);
+    return buvcsolta_instrument_pluck_with(string, levels, PICK_UP, HALF_WIDTH, height, table, BUVCSOLTA_TABLE_LENGTH);
+}
+
 int main(int argc, char **argv)
 {
     struct buvcsolta_instrument string = {BUVCSOLTA_STRING_FIXED, POINTS, 1, 0, 0, 0};
     struct buvcsolta_player_sheet sheet = {.rate = RATE, .length = 1.0, .speed = 220.0, .loss = 4.0};
     struct buvcsolta_levels levels = {older, newer, NULL, POINTS};
+    int64_t height = LOUD * BUVCSOLTA_UNITS_PER_SAMPLE;
     int16_t samples[BLOCK];
     size_t steps;
     uint64_t inexact;
-    FILE *file = argc == 2 ? fopen(argv[1], "wb") : NULL;
+    int straight = argc == 3 && strcmp(argv[2], "straight") == 0;
+    FILE *file = argc == 2 || straight ? fopen(argv[1], "wb") : NULL;
     if (!file) {
-        fputs("usage: pluck_wav FILE.wav\n", stderr);
+        fputs("usage: pluck_wav FILE.wav [straight]\n", stderr);
         return 1;
     }
     check(buvcsolta_instrument_sheet(&string, &sheet));
-    check(buvcsolta_instrument_pluck(&string, &levels, PICK_UP, 25, LOUD * BUVCSOLTA_UNITS_PER_SAMPLE));
+    check(straight ? pluck_straight(&string, &levels, height)
+                   : buvcsolta_instrument_pluck(&string, &levels, PICK_UP, HALF_WIDTH, height));
     put_header(file, RATE);
     for (int done = 0; done < RATE; done += BLOCK) {
         check(buvcsolta_instrument_block_in_place(&string, &levels, samples, BLOCK, PICK_UP, NULL, &steps, &inexact));

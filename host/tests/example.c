@@ -127,7 +127,8 @@ static void plucked_by_a_table(void)
         table[cases[k].place] = cases[k].entry;
         memcpy(a, before, sizeof a);
         memcpy(b, before, sizeof b);
-        expect_refusal("a pluck by a table", buvcsolta_instrument_pluck_with(&i, &lent, 2, 3, 1000, table, cases[k].length), cases[k].answer);
+        expect_refusal("a pluck by a table", buvcsolta_instrument_pluck_with(&i, &lent, 2, 3, 1000, table, cases[k].length),
+                       cases[k].answer);
         expect("older by a table", memcmp(a, refused ? before : wanted, sizeof a), 0);
         expect("newer by a table", memcmp(b, refused ? before : wanted, sizeof b), 0);
     }

@@ -54,7 +54,8 @@ pub(crate) fn carry_out(
     half_width: usize,
     height: i64,
 )
-    requires { ⌜ ShapeRule (now table) × (last ≡ 1024) × (pluckRefusal g (length (now older)) (length (now newer)) centre «half_width» height ≡ Nothing) ⌝ }
+    requires { ⌜ ShapeRule (now table) × (last ≡ 1024)
+        × (pluckRefusal g (length (now older)) (length (now newer)) centre «half_width» height ≡ Nothing) ⌝ }
     ensures { λ _. ⌜ (now (older .exit) ≡ pluckLevel (now (table .entry)) g centre «half_width» height)
         × (now (newer .exit) ≡ pluckLevel (now (table .entry)) g centre «half_width» height) ⌝ }
 {

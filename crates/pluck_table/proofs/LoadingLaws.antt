@@ -57,8 +57,8 @@ climbs (x ∷ y ∷ ys) r =
 pub keeps : (t : List ℕ) → ShapeRule t → keepsRule t ≡ true
 unfolding keepsRule
 keeps t r =
-    ap₂ _&&_ (eq-eqb (length t) 1025 (r .long)) (ap₂ _&&_ (ap₂ _&&_ (eq-eqb (getD t 0 0) 0 (r .begins)) (eq-eqb (getD t 1024 0) 65536 (r .ends)))
-    (climbs t (λ k h. r .rises k (omega (arith, h, r .long)))))
+    let ends = ap₂ _&&_ (eq-eqb (getD t 0 0) 0 (r .begins)) (eq-eqb (getD t 1024 0) 65536 (r .ends)) in
+    ap₂ _&&_ (eq-eqb (length t) 1025 (r .long)) (ap₂ _&&_ ends (climbs t (λ k h. r .rises k (omega (arith, h, r .long)))))
 
 -- T is loaded, and so is every table that keeps the rule
 pub loads : (t : List ℕ) → ShapeRule t → loadedTable t ≡ Sound 1024

@@ -34,7 +34,8 @@ pub data LoadingExample : Type 0 where
 
 abbrev pub loadingShows : LoadingExample → Type 0
 -- of each answer the paper's number and its value; T's equal neighbours are fine
-loadingShows answers = (map loadedNumber (Sound 1024 ∷ Broken ∷ []) ≡ 0 ∷ 14 ∷ []) × (map loadedLast (Sound 1024 ∷ Broken ∷ []) ≡ 1024 ∷ 0 ∷ [])
+loadingShows answers =
+    (map loadedNumber (Sound 1024 ∷ Broken ∷ []) ≡ 0 ∷ 14 ∷ []) × (map loadedLast (Sound 1024 ∷ Broken ∷ []) ≡ 1024 ∷ 0 ∷ [])
     × (loadedTable table ≡ Sound 1024) × (loadedTable straight ≡ Sound 1024) × (loadedTable [] ≡ Broken)
 -- "or has another length": 0, 3, 1024 and 1026 entries that otherwise keep the rule, and 1025; then straight ones of 1024 and 1026
 loadingShows lengths = numbers ([] ∷ stepped 1 [] 1 65536 ∷ stepped 1 [] 1022 65536 ∷ stepped 1 [] 1024 65536 ∷ stepped 1 [] 1023 65536
@@ -46,7 +47,8 @@ loadingShows ends = numbers ((1 ∷ entries 1024 65536 0) ∷ entries 1025 65536
 loadingShows falls = numbers (stepped 1 (1 ∷ 0 ∷ []) 1021 65536 ∷ stepped 512 (300 ∷ 299 ∷ []) 510 65536 ∷ stepped 1022 (65537 ∷ []) 1 65536
     ∷ stepped 1023 (65537 ∷ []) 0 65536 ∷ stepped 512 (4294967295 ∷ []) 511 65536 ∷ []) ≡ 14 ∷ 14 ∷ 14 ∷ 14 ∷ 14 ∷ []
 -- equal neighbours, a leap at either end, no mirrored sum
-loadingShows sound = numbers (late ∷ early ∷ stepped 512 (300 ∷ 300 ∷ []) 510 65536 ∷ stepped 3 (1 ∷ []) 1020 65536 ∷ []) ≡ 0 ∷ 0 ∷ 0 ∷ 0 ∷ []
+loadingShows sound =
+    numbers (late ∷ early ∷ stepped 512 (300 ∷ 300 ∷ []) 510 65536 ∷ stepped 3 (1 ∷ []) 1020 65536 ∷ []) ≡ 0 ∷ 0 ∷ 0 ∷ 0 ∷ []
 
 abbrev pub LoadingHold : Type 0
 LoadingHold = (x : LoadingExample) → loadingShows x

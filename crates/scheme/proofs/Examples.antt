@@ -66,9 +66,9 @@ examples-hold J = (refl, refl)
 pub further-hold : FurtherHold
 unfolding sum sumOver tabulate someBelow countBelow only kindOf sizeIn stableIn roundEdge fixedIn moving freeIn beside neighbours laplacian
     innerLaplacian numerator roundAway nextAt nextLevel inexactAt inexactIn someBeyond sampleOf floatOf table pluckAt pluckLevel
-    fixedNotZero blockRefusal pluckRefusal readingRefusal instrumentRefusal play capped block blockInPlace pluckBy pluck reading weight squares
-    later pairSum laplacianSum energy unroundedAt unroundedStep unroundedSteps goesOn bookBlock bookPluck sumBlock sumPluck leaves bookCall
-    sumCall calls ofBits div ofInt
+    fixedNotZero blockRefusal pluckRefusal readingRefusal instrumentRefusal play capped block blockInPlace pluckBy pluck reading weight
+    squares later pairSum laplacianSum energy unroundedAt unroundedStep unroundedSteps goesOn bookBlock bookPluck sumBlock sumPluck leaves
+    bookCall sumCall calls ofBits div ofInt
 further-hold freeEndTwice = refl
 further-hold halfFree = (refl, refl)
 further-hold barWithLoss = refl

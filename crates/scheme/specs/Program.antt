@@ -1,4 +1,5 @@
--- Demand 3 of a program, known by its calls of `block`, `block_in_place`, `pluck` and `pluck_with`: their arguments, their answers and what they left.
+-- Demand 3 of a program, known by its calls of `block`, `block_in_place`, `pluck` and `pluck_with`: their arguments, their answers and what
+-- they left.
 use mathlib.Core.Path.{_≡_}
 use mathlib.Core.List.{List, [], _∷_, map}
 use lib.IntN.{ℤ}

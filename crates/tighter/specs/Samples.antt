@@ -10,7 +10,8 @@ use Rattle.types.specs.declared.Hit.{Hit}
 use Rattle.scheme.specs.Lists.{point, square}
 use Rattle.scheme.specs.Step.{divisor}
 use Rattle.scheme.specs.Energy.{weight}
-use Rattle.scheme.specs.Book.{scale, bookBlock, Call, blockCall, inPlaceCall, pluckCall, pluckWithCall, Outcome, stepsOf, samplesOf, State, start}
+use Rattle.scheme.specs.Book.{scale, bookBlock, Call, blockCall, inPlaceCall, pluckCall, pluckWithCall, Outcome, stepsOf, samplesOf, State}
+use Rattle.scheme.specs.Book.{start}
 use Rattle.scheme.specs.Book.{EachCall}
 use Rattle.scheme.specs.Program.{Made, AllKept, EachMade}
 use Rattle.tighter.specs.Bounds.{Bound, limit, Row, demanded, numbers}

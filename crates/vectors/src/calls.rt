@@ -82,7 +82,15 @@ fn pluck_agrees(n: Numbers, older: &mut [i64], newer: &mut [i64]) -> bool {
 fn pluck_with_agrees(n: Numbers, older: &mut [i64], newer: &mut [i64], table: &[u32]) -> bool {
     let grid = grid_in(n);
     let height = signed(n.n6);
-    let refusal = pluck_with(grid, older, newer, n.n4 as usize, n.n5 as usize, height, table);
+    let refusal = pluck_with(
+        grid,
+        older,
+        newer,
+        n.n4 as usize,
+        n.n5 as usize,
+        height,
+        table,
+    );
     refusal.number() == n.n7
 }
 

@@ -31,8 +31,8 @@ returns c =
     let a = new .before .before .args in
     ap (λ (n : ℕ). pluckLeft n (called .last .1 .0) (called .last .1 .1 .0)) (c .number .ensures)
     ∙ ap pluckNumbers (called .ensures)
-    ∙ ap₂ (λ (g : Grid) (z : ℤ). pluckNumbers (Calls.pluckWith g (a .older .now) (a .newer .now) (a .centre) (a .half-width) z (a .table .now)))
-    (new .new .ensures) (search needs)
+    ∙ ap₂ (λ (g : Grid) (z : ℤ). pluckNumbers
+    (Calls.pluckWith g (a .older .now) (a .newer .now) (a .centre) (a .half-width) z (a .table .now))) (new .new .ensures) (search needs)
 
 pub buvcsolta-pluck-with-spec : {M : Type 1} → statement M
 buvcsolta-pluck-with-spec =

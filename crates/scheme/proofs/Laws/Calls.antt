@@ -1,5 +1,5 @@
--- Laws of block (on two levels too), pluck (by a lent table too) and reading, for every argument: by their cases, lengths kept, and what an accepted block
--- leaves passes 11 and 12.
+-- Laws of block (on two levels too), pluck (by a lent table too) and reading, for every argument: by their cases, lengths kept, and what an
+-- accepted block leaves passes 11 and 12.
 use mathlib.Core.Path.{_≡_, refl, sym, ap, _∙_, subst}
 use mathlib.Core.Bool.{Bool, true, false, not, _&&_, _||_, cond}
 use mathlib.Core.List.{List, [], _∷_}
@@ -30,7 +30,8 @@ use Rattle.scheme.specs.Refusals.{wrongLength, fixedNotZero, brokenTable
 use Rattle.scheme.specs.Refusals.{readingRefusal}
 use Rattle.scheme.specs.Calls.{accepted, AfterSteps, ended, oneMore, play, levelsAfter, inexactAfter, hitAfter, StandsBehind}
 use Rattle.scheme.specs.Calls.{StepsStandBehind, AfterBlock, capped, withWorkZero, blockRefused, block, overwritten, pluckRefused}
-use Rattle.scheme.specs.Calls.{reported, inPlaceLeft, withoutWork, blockInPlace, BlocksAgree, pluckBy, pluck, pluckWith, CopyPlucksAlike, reading}
+use Rattle.scheme.specs.Calls.{reported, inPlaceLeft, withoutWork, blockInPlace, BlocksAgree, pluckBy, pluck, pluckWith}
+use Rattle.scheme.specs.Calls.{CopyPlucksAlike, reading}
 use Rattle.scheme.specs.Claims.{LevelPasses}
 use Rattle.scheme.proofs.Laws.Bools.{cases}
 use Rattle.scheme.proofs.Laws.Lists.{none-below}

@@ -17,7 +17,8 @@ use Rattle.scheme.specs.Step.{nextLevel, inexactIn, someBeyond, sampleOf
 use Rattle.scheme.specs.Refusals.{wrongLength, blockRefusal}
 use Rattle.scheme.specs.Calls.{accepted, AfterSteps, oneMore, play, AfterBlock, reported, blockRefused, block, AfterInPlace}
 use Rattle.scheme.specs.Calls.{inPlaceLeft, blockInPlace}
-use Rattle.scheme.specs.Book.{Call, blockCall, inPlaceCall, pluckCall, pluckWithCall, Outcome, blockOutcome, inPlaceOutcome, Left, leaves}
+use Rattle.scheme.specs.Book.{Call, blockCall, inPlaceCall, pluckCall, pluckWithCall, Outcome, blockOutcome, inPlaceOutcome, Left}
+use Rattle.scheme.specs.Book.{leaves}
 use Rattle.scheme.specs.Mirror.{blank, heardLeft}
 use Rattle.scheme.proofs.Laws.Refusals.{accepted-is}
 use Rattle.scheme.proofs.Laws.Calls.{play-ends, play-goes, block-done, block-refused}

@@ -24,7 +24,8 @@ use Rattle.scheme.specs.Pluck.{pluckLevel}
 use Rattle.scheme.specs.Calls.{accepted, AfterBlock, withoutWork, blockInPlace, AfterPluck}
 use Rattle.scheme.specs.Energy.{weight, squares, energy}
 use Rattle.scheme.specs.Book.{Book, stepOf, fresh, scale, unroundedAt, unroundedStep, unroundedSteps, goesOn, bookBlock, bookPluck}
-use Rattle.scheme.specs.Book.{sumBlock, sumPluck, Call, blockCall, inPlaceCall, pluckCall, pluckWithCall, Outcome, blockOutcome, inPlaceOutcome}
+use Rattle.scheme.specs.Book.{sumBlock, sumPluck, Call, blockCall, inPlaceCall, pluckCall, pluckWithCall, Outcome, blockOutcome}
+use Rattle.scheme.specs.Book.{inPlaceOutcome}
 use Rattle.scheme.specs.Book.{pluckOutcome, stepsOf, inexactOf, refusalOf, Left, leftByBlock, leftByInPlace, leftByPluck, leaves}
 use Rattle.scheme.specs.Book.{bookCall, sumCall, State, start, stateAfter, called, calls}
 use Rattle.scheme.specs.Mirror.{negated, mirrorHit, mirrorCall, mirrorOutcome, mirrorLeft, mirrorBook, mirrorState, mirrorAfter}

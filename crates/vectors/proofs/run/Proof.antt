@@ -129,7 +129,8 @@ loop-again c =
     let l = back-to c in
     let i = turn l .loop in (
       back (i .older) (ys .1 .1 .0) (l .before .before .before .before .least .result) (i .inv .0) (o .older2 .given),
-      back (i .newer) (ys .1 .1 .1 .0) (l .before .before .before .least2 .result) (i .inv .1) (c .before .before .before .before .newer2 .given),
+      back (i .newer) (ys .1 .1 .1 .0) (l .before .before .before .least2 .result) (i .inv .1)
+          (c .before .before .before .before .newer2 .given),
       back (i .work) (ys .1 .1 .1 .1 .0) (l .before .before .least3 .result) (i .inv .2) (c .before .before .before .work2 .given),
       back (i .samples) (ys .1 .1 .1 .1 .1 .0) (l .before .least4 .result) (i .inv .3) (c .before .before .samples2 .given),
       back (i .table) (ys .1 .1 .1 .1 .1 .1 .0) (l .least5 .result) (i .inv .4) (c .before .table2 .given),
