@@ -60,7 +60,7 @@ keeps t r =
     let ends = ap₂ _&&_ (eq-eqb (getD t 0 0) 0 (r .begins)) (eq-eqb (getD t 1024 0) 65536 (r .ends)) in
     ap₂ _&&_ (eq-eqb (length t) 1025 (r .long)) (ap₂ _&&_ ends (climbs t (λ k h. r .rises k (omega (arith, h, r .long)))))
 
--- T is loaded, and so is every table that keeps the rule
+-- a table that keeps the rule is loaded
 pub loads : (t : List ℕ) → ShapeRule t → loadedTable t ≡ Sound 1024
 unfolding loadedTable
 loads t r = ap (λ (b : Bool). cond b (Sound 1024) Broken) (keeps t r)
@@ -106,7 +106,12 @@ unkept t breaks = go (keepsRule t) refl
     go false k = refl
 
 pub tables-loaded : TablesLoaded
-tables-loaded = record { loads = loads; kept = kept }
+tables-loaded = record {
+  loads = λ t r. ap loadedNumber (loads t r);
+  kept = kept;
+  last = λ t e. ap loadedLast (loads t (kept t e));
+}
 
+-- T is one
 pub table-loads : loadedTable table ≡ Sound 1024
 table-loads = loads table (table-rule .shape)

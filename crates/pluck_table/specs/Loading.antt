@@ -36,7 +36,8 @@ abbrev pub loadedLast : LoadedTable → ℕ
 loadedLast (Sound last) = last
 loadedLast Broken = 0
 
--- 14 lets a table pass exactly where it keeps the rule of a shape, entry by entry. Proved as `tables-loaded`.
+-- 14 lets a table pass exactly where it keeps the rule of a shape, entry by entry; its last place is then 1024. Proved as `tables-loaded`.
 pub record TablesLoaded : Type 0 where
-  pub loads : (t : List ℕ) → ShapeRule t → loadedTable t ≡ Sound 1024
+  pub loads : (t : List ℕ) → ShapeRule t → loadedNumber (loadedTable t) ≡ 0
   pub kept : (t : List ℕ) → loadedNumber (loadedTable t) ≡ 0 → ShapeRule t
+  pub last : (t : List ℕ) → loadedNumber (loadedTable t) ≡ 0 → loadedLast (loadedTable t) ≡ 1024
