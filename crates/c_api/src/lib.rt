@@ -66,7 +66,7 @@ pub extern "C" fn buvcsolta_pluck(
     refusal.number()
 }
 
-// A pluck by a lent table. Ruled out: the lent table not used; the centre taken for the half width.
+// A pluck by a lent table. Ruled out: the centre taken for the half width; columns and rows exchanged (`Grid::new`).
 #[no_mangle]
 pub extern "C" fn buvcsolta_pluck_with(
     kind: u64,
