@@ -38,7 +38,7 @@ static uint64_t pluck_straight(const struct buvcsolta_instrument *string, const 
 {
     static uint32_t table[BUVCSOLTA_TABLE_LENGTH];
     for (uint32_t j = 0; j < BUVCSOLTA_TABLE_LENGTH; j++)
-        table[j] = j * BUVCSOLTA_TABLE_LAST / (BUVCSOLTA_TABLE_LENGTH - 1);
+        table[j] = j * BUVCSOLTA_TABLE_END / (BUVCSOLTA_TABLE_LENGTH - 1);
     return buvcsolta_instrument_pluck_with(string, levels, PICK_UP, HALF_WIDTH, height, table, BUVCSOLTA_TABLE_LENGTH);
 }
 

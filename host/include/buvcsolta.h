@@ -41,9 +41,9 @@ extern "C" {
 #define BUVCSOLTA_UNITS_PER_SAMPLE (INT64_C(1) << 28)
 #define BUVCSOLTA_CEILING (INT64_C(32767) * BUVCSOLTA_UNITS_PER_SAMPLE)
 
-/* Of a table for buvcsolta_pluck_with: how many entries it has, and what the last of them is. */
+/* A table for buvcsolta_pluck_with: how many entries it has, and the number that it ends at. */
 #define BUVCSOLTA_TABLE_LENGTH 1025
-#define BUVCSOLTA_TABLE_LAST UINT32_C(65536)
+#define BUVCSOLTA_TABLE_END UINT32_C(65536)
 
 /* Kinds, and the columns x rows that each may have. */
 enum buvcsolta_kind {
@@ -76,7 +76,7 @@ enum buvcsolta_refusal {
     BUVCSOLTA_BROKEN_TABLE = 14    /* the lent table does not have 1025 entries, does not begin at 0 or end at 65536, or falls */
 };
 
-/* The exported functions. A level or sample buffer is a pointer and the number of its elements. */
+/* The exported functions. A level, sample buffer or table is a pointer and the number of its elements. */
 
 /* A block: as many steps as samples has places.
  *
@@ -118,8 +118,8 @@ uint64_t buvcsolta_pluck(uint64_t kind, size_t columns, size_t rows,
  *
  * table: 1025 entries from the rim to the centre: the first is 0, the last 65536, and none is below the one before it; equal ones are
  *        fine. A moving point at distance d from the centre, d at most half_width, gets height times entry
- *        1024 (half_width - d) / half_width, rounded down, over 65536, cut toward zero. The table is only read, and looked at in
- *        every call: 14 where it breaks a rule.
+ *        1024 (half_width - d) / half_width, rounded down, over 65536, cut toward zero. The table is only read. It is looked at in
+ *        every call that nothing else refuses: 14 where it breaks a rule or has another length.
  *
  * 0: both levels are overwritten, whatever they held. 1, 2, 6, 7, 8, 10 and 14: both are unchanged. */
 uint64_t buvcsolta_pluck_with(uint64_t kind, size_t columns, size_t rows,
@@ -211,7 +211,8 @@ static inline uint64_t buvcsolta_instrument_pluck(const struct buvcsolta_instrum
                            half_width, height);
 }
 
-/* A pluck by a table of your own, of BUVCSOLTA_TABLE_LENGTH entries. */
+/* A pluck by a table of your own; table_length is the number of entries that it really has, BUVCSOLTA_TABLE_LENGTH where it is right.
+ * The settings and work play no part. */
 static inline uint64_t buvcsolta_instrument_pluck_with(const struct buvcsolta_instrument *i, const struct buvcsolta_levels *levels,
                                                        size_t centre, size_t half_width, int64_t height, const uint32_t *table,
                                                        size_t table_length)

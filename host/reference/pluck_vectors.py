@@ -139,7 +139,7 @@ def largest_lines(records, draw):
 
 
 def wrong_lengths():
-    """14 by the length alone, as far as so few entries let it; some begin with a whole table that keeps the rule."""
+    """14 by the length: most break nothing else, some end elsewhere or fall besides, some begin with a whole table that keeps the rule."""
     yield from ([], [0], [TOP], [0, TOP], [0, 32768, TOP])
     yield from (BUILT_IN[:1024], BUILT_IN[1:], shorter(BUILT_IN, 512), shorter(LATE, 1), shorter(EARLY, 1023), LATE[2:])
     yield from (longer(BUILT_IN, 512), longer(LATE, 0), longer(EARLY, 1024), [*LATE, 0], [*LATE, LARGEST], [0, *BUILT_IN])
@@ -173,7 +173,7 @@ def falls():
 
 
 def broken(records):
-    """Each break alone, to an accepted pluck but for it; the levels stay whatever they are, and the table too."""
+    """Each break, to an accepted pluck but for it; the levels stay whatever they are, and the table too."""
     for number, table in enumerate((*wrong_lengths(), *wrong_ends(), *falls())):
         records.lend_table(table)
         records.lend([LOWEST, number, HIGHEST, 5, 6], [number, 2, 3, 4, -number])

@@ -1,4 +1,5 @@
-"""Whether host/include/buvcsolta.h declares what the library exports: names, arguments and their types, refusal numbers, constants.
+"""Whether host/include/buvcsolta.h declares what the library exports: names, arguments and their types, refusal
+numbers, kinds, units and ceiling. example.c uses the other constants.
 
     python3 check_header.py HEADER.h c_api/src/lib.rt c_api_in_place/src/lib.rt types/src/lib.rt LIBRARY.so
 """

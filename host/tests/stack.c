@@ -57,7 +57,7 @@ static void call_pluck_with(void)
 {
     static uint32_t table[BUVCSOLTA_TABLE_LENGTH];
     struct buvcsolta_levels lent = levels();
-    table[BUVCSOLTA_TABLE_LENGTH - 1] = BUVCSOLTA_TABLE_LAST;
+    table[BUVCSOLTA_TABLE_LENGTH - 1] = BUVCSOLTA_TABLE_END;
     frame = __builtin_frame_address(0);
     refusal = buvcsolta_instrument_pluck_with(&instrument, &lent, 1, 1, 1000000, table, BUVCSOLTA_TABLE_LENGTH);
 }

@@ -43,7 +43,7 @@ pub(crate) fn refusal_of(
     pluck_refusal(g, wrong, centre, half_width, height)
 }
 
-// A pluck that nothing refuses, by any table that keeps the rule of a shape, and the place of its last entry.
+// A pluck that nothing refuses, by any table that keeps the rule of a shape; last is the place of its last entry.
 pub(crate) fn carry_out(
     g: Grid,
     table: &[u32],

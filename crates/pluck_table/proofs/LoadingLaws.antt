@@ -48,17 +48,17 @@ more-rises t (suc k) l h =
 -- ---- the rule
 
 -- entries that never fall, one by one
-pub climbs : (xs : List ℕ) → ((k : ℕ) → suc k < length xs → getD xs k 0 ≤ getD xs (suc k) 0) → neverFalls xs ≡ true
-climbs [] r = refl
-climbs (x ∷ []) r = refl
-climbs (x ∷ y ∷ ys) r =
-    ap₂ _&&_ (le-leb x y (r zero (omega arith))) (climbs (y ∷ ys) (λ k h. r (suc k) (omega (arith, h))))
+pub not-falling : (xs : List ℕ) → ((k : ℕ) → suc k < length xs → getD xs k 0 ≤ getD xs (suc k) 0) → neverFalls xs ≡ true
+not-falling [] r = refl
+not-falling (x ∷ []) r = refl
+not-falling (x ∷ y ∷ ys) r =
+    ap₂ _&&_ (le-leb x y (r zero (omega arith))) (not-falling (y ∷ ys) (λ k h. r (suc k) (omega (arith, h))))
 
 pub keeps : (t : List ℕ) → ShapeRule t → keepsRule t ≡ true
 unfolding keepsRule
 keeps t r =
     let ends = ap₂ _&&_ (eq-eqb (getD t 0 0) 0 (r .begins)) (eq-eqb (getD t 1024 0) 65536 (r .ends)) in
-    ap₂ _&&_ (eq-eqb (length t) 1025 (r .long)) (ap₂ _&&_ ends (climbs t (λ k h. r .rises k (omega (arith, h, r .long)))))
+    ap₂ _&&_ (eq-eqb (length t) 1025 (r .long)) (ap₂ _&&_ ends (not-falling t (λ k h. r .rises k (omega (arith, h, r .long)))))
 
 -- a table that keeps the rule is loaded
 pub loads : (t : List ℕ) → ShapeRule t → loadedTable t ≡ Sound 1024

@@ -1,4 +1,4 @@
--- A table of examples for loading: what it answers, and each break of the rule alone. By hand.
+-- A table of examples for loading: what it answers, and tables that break the rule in one place. By hand.
 use mathlib.Core.Path.{_≡_}
 use mathlib.Core.List.{List, [], _∷_, _++_, map}
 use Prim.Native.Nat.{ℕ, zero, suc, _+_}
@@ -21,9 +21,9 @@ late = entries 1024 0 0 ++ 65536 ∷ []
 abbrev pub early : List ℕ
 early = 0 ∷ entries 1024 65536 0
 
--- n entries of 0, some others, m of 65536 and the last
-abbrev pub stepped : (n : ℕ) → List ℕ → (m last : ℕ) → List ℕ
-stepped n xs m last = entries n 0 0 ++ (xs ++ (entries m 65536 0 ++ last ∷ []))
+-- n entries of 0, some others, m of 65536 and the end
+abbrev pub joined : (n : ℕ) → List ℕ → (m end : ℕ) → List ℕ
+joined n xs m end = entries n 0 0 ++ (xs ++ (entries m 65536 0 ++ end ∷ []))
 
 -- the numbers of loading some tables
 abbrev numbers : List (List ℕ) → List ℕ
@@ -37,18 +37,19 @@ abbrev pub loadingShows : LoadingExample → Type 0
 loadingShows answers =
     (map loadedNumber (Sound 1024 ∷ Broken ∷ []) ≡ 0 ∷ 14 ∷ []) × (map loadedLast (Sound 1024 ∷ Broken ∷ []) ≡ 1024 ∷ 0 ∷ [])
     × (loadedTable table ≡ Sound 1024) × (loadedTable straight ≡ Sound 1024) × (loadedTable [] ≡ Broken)
--- "or has another length": 0, 3, 1024 and 1026 entries that otherwise keep the rule, and 1025; then straight ones of 1024 and 1026
-loadingShows lengths = numbers ([] ∷ stepped 1 [] 1 65536 ∷ stepped 1 [] 1022 65536 ∷ stepped 1 [] 1024 65536 ∷ stepped 1 [] 1023 65536
-    ∷ entries 1024 0 64 ∷ entries 1026 0 64 ∷ []) ≡ 14 ∷ 14 ∷ 14 ∷ 14 ∷ 0 ∷ 14 ∷ 14 ∷ []
+-- "or has another length": 3, 1024 and 1026 entries that keep the rule but for the length, and 1025; then none, and straight ones of 1024
+-- and 1026, which end elsewhere too
+loadingShows lengths = numbers (joined 1 [] 1 65536 ∷ joined 1 [] 1022 65536 ∷ joined 1 [] 1024 65536 ∷ joined 1 [] 1023 65536
+    ∷ [] ∷ entries 1024 0 64 ∷ entries 1026 0 64 ∷ []) ≡ 14 ∷ 14 ∷ 14 ∷ 0 ∷ 14 ∷ 14 ∷ 14 ∷ []
 -- "begin at 0, end at 65536": each end alone, too high or too low
-loadingShows ends = numbers ((1 ∷ entries 1024 65536 0) ∷ entries 1025 65536 0 ∷ stepped 1024 [] 0 65535 ∷ stepped 1024 [] 0 65537
+loadingShows ends = numbers ((1 ∷ entries 1024 65536 0) ∷ entries 1025 65536 0 ∷ joined 1024 [] 0 65535 ∷ joined 1024 [] 0 65537
     ∷ entries 1025 0 0 ∷ []) ≡ 14 ∷ 14 ∷ 14 ∷ 14 ∷ 14 ∷ []
 -- "never fall": by 1 from the second entry, from the middle, from the last but two and from the last but one; from far above 65536
-loadingShows falls = numbers (stepped 1 (1 ∷ 0 ∷ []) 1021 65536 ∷ stepped 512 (300 ∷ 299 ∷ []) 510 65536 ∷ stepped 1022 (65537 ∷ []) 1 65536
-    ∷ stepped 1023 (65537 ∷ []) 0 65536 ∷ stepped 512 (4294967295 ∷ []) 511 65536 ∷ []) ≡ 14 ∷ 14 ∷ 14 ∷ 14 ∷ 14 ∷ []
+loadingShows falls = numbers (joined 1 (1 ∷ 0 ∷ []) 1021 65536 ∷ joined 512 (300 ∷ 299 ∷ []) 510 65536 ∷ joined 1022 (65537 ∷ []) 1 65536
+    ∷ joined 1023 (65537 ∷ []) 0 65536 ∷ joined 512 (4294967295 ∷ []) 511 65536 ∷ []) ≡ 14 ∷ 14 ∷ 14 ∷ 14 ∷ 14 ∷ []
 -- equal neighbours, a leap at either end, no mirrored sum
 loadingShows sound =
-    numbers (late ∷ early ∷ stepped 512 (300 ∷ 300 ∷ []) 510 65536 ∷ stepped 3 (1 ∷ []) 1020 65536 ∷ []) ≡ 0 ∷ 0 ∷ 0 ∷ 0 ∷ []
+    numbers (late ∷ early ∷ joined 512 (300 ∷ 300 ∷ []) 510 65536 ∷ joined 3 (1 ∷ []) 1020 65536 ∷ []) ≡ 0 ∷ 0 ∷ 0 ∷ 0 ∷ []
 
 abbrev pub LoadingHold : Type 0
 LoadingHold = (x : LoadingExample) → loadingShows x

@@ -4,7 +4,7 @@ use mathlib.Core.List.{List, [], _∷_}
 use Prim.Native.Nat.{ℕ, suc, _+_, _-_, _≤_, _<_}
 use lib.ListN.{length, getD}
 
--- what the table of any pluck keeps: T's rule but for the mirrored sum, and on loading it is "not required" of a lent one
+-- what the table of any pluck keeps: T's rule but for the mirrored sum, which "is not required" of a lent table
 pub record ShapeRule (t : List ℕ) : Type 0 where
   pub long : length t ≡ 1025
   pub begins : getD t 0 0 ≡ 0

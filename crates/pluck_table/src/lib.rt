@@ -2,8 +2,8 @@
 ghost use mathlib.Core.Path.{_≡_};
 ghost use Rattle.pluck_table.specs.Loading.{neverFalls, loadedTable};
 
-// What loading a table answers: the place of its last entry, or that it breaks a rule. The definition `loadedNumber` tells the paper's
-// number of each.
+// What loading a table answers: the place of its last entry, or that it breaks a rule. The definitions `loadedNumber` and `loadedLast` tell
+// the paper's number and the value of each.
 pub enum LoadedTable {
     Sound { last: usize },
     Broken,

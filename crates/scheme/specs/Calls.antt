@@ -189,10 +189,10 @@ overwritten xs = pluckLeft Nothing xs xs
 abbrev pub pluckRefused : Refusal → (older newer : List ℤ) → AfterPluck
 pluckRefused r older newer = pluckLeft r older newer
 
--- by any table, where r refuses it or nothing does: "centre c, half width w, height a"
-unfoldable pub pluckBy : (table : List ℕ) → Refusal → Grid → (older newer : List ℤ) → ℕ → ℕ → ℤ → AfterPluck
-pluckBy table r g older newer c w a =
-    let done = overwritten (pluckLevel table g c w a) in
+-- by any table ts, where r refuses it or nothing does: "centre c, half width w, height a"
+unfoldable pub pluckBy : (ts : List ℕ) → Refusal → Grid → (older newer : List ℤ) → ℕ → ℕ → ℤ → AfterPluck
+pluckBy ts r g older newer c w a =
+    let done = overwritten (pluckLevel ts g c w a) in
     cond (accepted r) done (pluckRefused r older newer)
 
 -- by the table T

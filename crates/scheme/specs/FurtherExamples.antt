@@ -23,8 +23,7 @@ use Rattle.scheme.specs.Refusals.{wrongLength, instrumentRefusal, blockR
 use Rattle.scheme.specs.Calls.{AfterBlock, capped, reported, block, AfterInPlace, inPlaceLeft, blockInPlace, pluck, reading}
 use Rattle.scheme.specs.Energy.{energy}
 use Rattle.scheme.specs.Book.{stepOf, Call, blockCall, inPlaceCall, pluckCall, pluckWithCall, blockOutcome, inPlaceOutcome}
-use Rattle.scheme.specs.Book.{pluckOutcome}
-use Rattle.scheme.specs.Book.{Outcome, Left, AfterCalls, State, start, calls}
+use Rattle.scheme.specs.Book.{pluckOutcome, Outcome, Left, AfterCalls, State, start, calls}
 use Rattle.scheme.specs.Claims.{distance, bound, Near}
 use Rattle.scheme.specs.Examples.{grid, instrument, level, minus, next, middle3, middle9}
 

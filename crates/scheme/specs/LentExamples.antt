@@ -8,7 +8,7 @@ use lib.ListN.{length}
 use Rattle.types.specs.declared.Refusal.the-variants.{Nothing, BrokenTable}
 use Rattle.types.specs.Numbers.{number}
 use Rattle.pluck_table.specs.Table.{table}
-use Rattle.pluck_table.specs.LoadingExamples.{straight, late, early, stepped}
+use Rattle.pluck_table.specs.LoadingExamples.{straight, late, early, joined}
 use Rattle.scheme.specs.Refusals.{pluckWithRefusal}
 use Rattle.scheme.specs.Calls.{AfterPluck, pluckLeft, overwritten, pluckWith}
 use Rattle.scheme.specs.Book.{stepOf, Call, pluckWithCall, pluckOutcome}
@@ -46,8 +46,8 @@ lentShows ordered =
     refusedBy 1 five five 2 3 (pos 1000) (1 ∷ 2 ∷ 3 ∷ []) ∷ [] ≡ 1 ∷ 1 ∷ 2 ∷ 6 ∷ 7 ∷ 8 ∷ 10 ∷ 10 ∷ 14 ∷ []
 -- each break of the rule, then tables that keep it
 lentShows tables = map (refusedBy 1 five five 2 3 (pos 1000))
-    (stepped 1 [] 1022 65536 ∷ stepped 1 [] 1024 65536 ∷ stepped 0 (1 ∷ []) 1023 65536 ∷ stepped 1024 [] 0 65535 ∷
-    stepped 512 (300 ∷ 299 ∷ []) 510 65536 ∷ table ∷ straight ∷ late ∷ early ∷ []) ≡ 14 ∷ 14 ∷ 14 ∷ 14 ∷ 14 ∷ 0 ∷ 0 ∷ 0 ∷ 0 ∷ []
+    (joined 1 [] 1022 65536 ∷ joined 1 [] 1024 65536 ∷ joined 0 (1 ∷ []) 1023 65536 ∷ joined 1024 [] 0 65535 ∷
+    joined 512 (300 ∷ 299 ∷ []) 510 65536 ∷ table ∷ straight ∷ late ∷ early ∷ []) ≡ 14 ∷ 14 ∷ 14 ∷ 14 ∷ 14 ∷ 0 ∷ 0 ∷ 0 ∷ 0 ∷ []
 -- entries 1024 and 682 of T, and of the straight table
 lentShows copyOfT = plucks 1 2 3 (pos 1000) table ≡ overwritten (level (0 ∷ 749 ∷ 1000 ∷ 749 ∷ 0 ∷ []))
 lentShows straightLine = plucks 1 2 3 (pos 1000) straight ≡ overwritten (level (0 ∷ 666 ∷ 1000 ∷ 666 ∷ 0 ∷ []))

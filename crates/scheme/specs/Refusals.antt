@@ -1,4 +1,5 @@
 -- "Refusals from the input", "Refusals from the state": a test for each number, their order, and the checks of each call.
+use mathlib.Core.Path.{_≡_}
 use mathlib.Core.Bool.{Bool, true, false, not, _&&_, _||_, cond}
 use mathlib.Core.List.{List, [], _∷_, _++_}
 use Prim.Native.Nat.{ℕ, _-_}
@@ -181,7 +182,11 @@ readingRefusal g newer pick = lowest (readingChecks g newer pick)
 unfoldable pub instrumentRefusal : Instrument → Refusal
 instrumentRefusal i = lowest (instrumentChecks i)
 
--- each call's checks stand in the order of their numbers, so that `lowest` answers the lowest that applies
+-- what 14's check answers has the number that loading has. Proved as `number-of-loading`.
+abbrev pub NumberOfLoading : Type 0
+NumberOfLoading = (lent : List ℕ) → number (lowest (tableChecks lent)) ≡ loadedNumber (loadedTable lent)
+
+-- each call's checks stand in `order`, so that `lowest` answers the lowest that applies
 pub record ChecksInOrder : Type 0 where
   pub block : (i : Instrument) (older newer : List ℤ) (wrong : Bool) (pick : ℕ) (h : Hit)
       → T (standsIn order (blockChecks i older newer wrong pick h))

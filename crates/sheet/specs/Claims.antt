@@ -7,7 +7,7 @@ use Rattle.scheme.specs.Refusals.{standsIn, order, instrumentRefusal}
 use Rattle.sheet.specs.declared.Sheet.{Sheet}
 use Rattle.sheet.specs.Call.{sheetChecks, sheetCall}
 
--- the checks stand in the order of their numbers, so that `lowest` answers the lowest that applies
+-- the checks stand in `order`, so that `lowest` answers the lowest that applies
 abbrev pub SheetChecksInOrder : Type 0
 SheetChecksInOrder = (g : Grid) (s : Sheet) → T (standsIn order (sheetChecks g s))
 

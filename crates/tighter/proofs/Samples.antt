@@ -19,9 +19,7 @@ use Rattle.scheme.specs.Step.{sampleOf, divisor}
 use Rattle.scheme.specs.Refusals.{wrongLength, blockRefusal}
 use Rattle.scheme.specs.Calls.{accepted, AfterBlock, play, block, blockInPlace}
 use Rattle.scheme.specs.Book.{LastStep, stepOf, Book, fresh, scale, goesOn, bookBlock, Call, blockCall, inPlaceCall, pluckCall}
-use Rattle.scheme.specs.Book.{pluckWithCall}
-use Rattle.scheme.specs.Book.{leaves}
-use Rattle.scheme.specs.Book.{State, start, called, calls}
+use Rattle.scheme.specs.Book.{pluckWithCall, leaves, State, start, called, calls}
 use Rattle.scheme.specs.Program.{callsOf}
 use Rattle.scheme.proofs.Laws.Rounding.{sample-rule}
 use Rattle.scheme.proofs.Laws.Refusals.{accepted-is, block-passes}

@@ -10,7 +10,7 @@ use lib.ListN.{length}
 use Rattle.pluck_table.specs.Table.{ShapeRule}
 use Rattle.pluck_table.specs.Loading.{neverFalls}
 use Rattle.pluck_table.proofs.TableLaws.{rises}
-use Rattle.pluck_table.proofs.LoadingLaws.{climbs, loads, unkept}
+use Rattle.pluck_table.proofs.LoadingLaws.{not-falling, loads, unkept}
 use Rattle.pluck_table.proofs.load_table.Statement.{statement}
 use Rattle.pluck_table.proofs.load_table.Tie as tie
 
@@ -57,7 +57,7 @@ returns-5 : tie.Need-returns-5
 returns-5 c =
     let n = c .before in
     let t = lent (n .before) in
-    sym (unkept t (λ r. true≢false (sym (climbs t (λ k h. r .rises k (omega (arith, h, long (n .before))))) ∙
+    sym (unkept t (λ r. true≢false (sym (not-falling t (λ k h. r .rises k (omega (arith, h, long (n .before))))) ∙
     sym (n .never-falls .ensures) ∙ c .if4 .left)))
 
 pub load-table-spec : {M : Type 1} → statement M

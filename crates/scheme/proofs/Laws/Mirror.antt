@@ -26,10 +26,8 @@ use Rattle.scheme.specs.Instruments.{points, fixed, moving}
 use Rattle.scheme.specs.Step.{numerator, roundAway, forceOf, divisor, nextAt, nextLevel, inexactAt, inexactIn, someBeyond, sampleOf}
 use Rattle.scheme.specs.Pluck.{distanceFrom, pluckValue, pluckAt, pluckLevel}
 use Rattle.scheme.specs.Refusals.{lastPlucked, wrongLength, fixedNotZero, Check, _⇒_, lowest, gridChecks, instrumentChecks}
-use Rattle.scheme.specs.Refusals.{lengthChecks}
-use Rattle.scheme.specs.Refusals.{hitChecks, pickChecks, widthChecks, tableChecks, stateChecks, pluckChecks, blockRefusal}
-use Rattle.scheme.specs.Refusals.{pluckRefusal}
-use Rattle.scheme.specs.Refusals.{pluckWithRefusal}
+use Rattle.scheme.specs.Refusals.{lengthChecks, hitChecks, pickChecks, widthChecks, tableChecks, stateChecks, pluckChecks}
+use Rattle.scheme.specs.Refusals.{blockRefusal, pluckRefusal, pluckWithRefusal}
 use Rattle.scheme.specs.Calls.{accepted, AfterSteps, oneMore, play, AfterBlock, blockLeft, withWorkZero, blockRefused, block}
 use Rattle.scheme.specs.Calls.{AfterPluck, pluckLeft, overwritten, pluckRefused, pluckBy, pluck, pluckWith}
 use Rattle.scheme.specs.Mirror.{negated, mirrorHit, mirrorSamples}

@@ -19,12 +19,15 @@ use Rattle.types.specs.declared.Refusal.the-variants.{Nothing, UnknownKind, Wro
 use Rattle.types.specs.declared.Refusal.the-variants.{WrongLength, NotMoving, TooStrong, PickUp, HalfWidth, PointBeyond}
 use Rattle.types.specs.declared.Refusal.the-variants.{FixedNotZero, NextBeyond, BrokenTable}
 use Rattle.types.specs.Numbers.{D, ceiling, number}
+use Rattle.pluck_table.specs.declared.LoadedTable.{LoadedTable}
+use Rattle.pluck_table.specs.declared.LoadedTable.the-variants.{Sound, Broken}
+use Rattle.pluck_table.specs.Loading.{loadedTable, loadedNumber}
 use Rattle.scheme.specs.Lists.{point}
 use Rattle.scheme.specs.Instruments.{points, beyond, fixed, moving}
 use Rattle.scheme.specs.Step.{someBeyond}
 use Rattle.scheme.specs.Refusals.{wrongCoefficient, wrongLength, fixedNotZero, Check, _⇒_, lowest, instrumentChecks, blockChecks}
 use Rattle.scheme.specs.Refusals.{pluckChecks, readingChecks, instrumentRefusal, blockRefusal, pluckRefusal, readingRefusal}
-use Rattle.scheme.specs.Refusals.{ChecksInOrder}
+use Rattle.scheme.specs.Refusals.{NumberOfLoading, ChecksInOrder}
 use Rattle.scheme.specs.Calls.{accepted}
 use Rattle.scheme.specs.Claims.{LevelPasses}
 use Rattle.scheme.specs.Passing.{InstrumentPasses, BlockPasses, PluckPasses, ReadingPasses}
@@ -39,6 +42,14 @@ checks-in-order = record {
   pluckWith = λ g wrong c w a lent. tt;
   reading = λ g newer pick. tt;
 }
+
+-- 14's check, by what loading answers
+pub number-of-loading : NumberOfLoading
+number-of-loading lent = go (loadedTable lent)
+  where
+    go : (l : LoadedTable) → number (lowest (ltb 0 (loadedNumber l) ⇒ BrokenTable ∷ [])) ≡ loadedNumber l
+    go (Sound last) = refl
+    go Broken = refl
 
 -- ---- a list of checks
 

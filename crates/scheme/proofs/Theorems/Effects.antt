@@ -19,8 +19,7 @@ use Rattle.scheme.specs.Refusals.{wrongLength, blockRefusal, pluckRefusa
 use Rattle.scheme.specs.Calls.{accepted, AfterSteps, play, levelsAfter, inexactAfter, capped, AfterBlock, AfterPluck, block}
 use Rattle.scheme.specs.Calls.{blockInPlace, pluckBy, pluck, pluckWith}
 use Rattle.scheme.specs.Book.{fresh, bookBlock, bookPluck, sumBlock, sumPluck, Call, blockCall, inPlaceCall, pluckCall, pluckWithCall}
-use Rattle.scheme.specs.Book.{leaves}
-use Rattle.scheme.specs.Book.{bookCall, sumCall, State, stateAfter, called, calls, Outcome, EachCall}
+use Rattle.scheme.specs.Book.{leaves, bookCall, sumCall, State, stateAfter, called, calls, Outcome, EachCall}
 use Rattle.scheme.specs.Passing.{InstrumentPasses}
 use Rattle.scheme.proofs.Laws.Refusals.{accepted-is, instrument-passes, block-passes}
 use Rattle.scheme.proofs.Laws.Calls.{stands-behind, all-done, block-done, block-refused, by-done, by-refused}

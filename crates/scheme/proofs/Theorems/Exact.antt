@@ -20,8 +20,7 @@ use Rattle.scheme.specs.Step.{isMultiple, inexactAt, inexactIn}
 use Rattle.scheme.specs.Calls.{accepted, Levels, levelsAfter, inexactAfter, capped}
 use Rattle.scheme.specs.Book.{LastStep, noStep, stepOf, Book, fresh, scale, unroundedAt, unroundedStep, unroundedSteps, goesOn}
 use Rattle.scheme.specs.Book.{bookBlock, sumBlock, sumPluck, sumCall, Call, blockCall, inPlaceCall, pluckCall, pluckWithCall, Outcome}
-use Rattle.scheme.specs.Book.{stepsOf}
-use Rattle.scheme.specs.Book.{inexactOf, refusalOf, State, start, stateAfter, called, calls, EachCall}
+use Rattle.scheme.specs.Book.{stepsOf, inexactOf, refusalOf, State, start, stateAfter, called, calls, EachCall}
 use Rattle.scheme.specs.Program.{Made, afterAll, EachMade}
 use Rattle.scheme.specs.Exact.{bookScale, Unrounded, NoneInexact, ExactSince, ExactFromStart, ProgramExactSince}
 use Rattle.scheme.specs.Exact.{ProgramExactFromStart, NeverInexact}

@@ -25,9 +25,8 @@ use Rattle.scheme.specs.Calls.{accepted, AfterBlock, withoutWork, blockI
 use Rattle.scheme.specs.Energy.{weight, squares, energy}
 use Rattle.scheme.specs.Book.{Book, stepOf, fresh, scale, unroundedAt, unroundedStep, unroundedSteps, goesOn, bookBlock, bookPluck}
 use Rattle.scheme.specs.Book.{sumBlock, sumPluck, Call, blockCall, inPlaceCall, pluckCall, pluckWithCall, Outcome, blockOutcome}
-use Rattle.scheme.specs.Book.{inPlaceOutcome}
-use Rattle.scheme.specs.Book.{pluckOutcome, stepsOf, inexactOf, refusalOf, Left, leftByBlock, leftByInPlace, leftByPluck, leaves}
-use Rattle.scheme.specs.Book.{bookCall, sumCall, State, start, stateAfter, called, calls}
+use Rattle.scheme.specs.Book.{inPlaceOutcome, pluckOutcome, stepsOf, inexactOf, refusalOf, Left, leftByBlock, leftByInPlace}
+use Rattle.scheme.specs.Book.{leftByPluck, leaves, bookCall, sumCall, State, start, stateAfter, called, calls}
 use Rattle.scheme.specs.Mirror.{negated, mirrorHit, mirrorCall, mirrorOutcome, mirrorLeft, mirrorBook, mirrorState, mirrorAfter}
 use Rattle.scheme.specs.Mirror.{MirrorImage, MirrorMeasures}
 use Rattle.scheme.proofs.Laws.Lists.{map-tabulate}

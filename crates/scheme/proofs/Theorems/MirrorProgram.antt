@@ -5,8 +5,7 @@ use Prim.Native.Nat.{ℕ, zero, suc}
 use lib.IntN.{ℤ, negℤ}
 use lib.ListN.{take}
 use Rattle.scheme.specs.Book.{Book, Call, blockCall, inPlaceCall, pluckCall, pluckWithCall, Outcome, blockOutcome, inPlaceOutcome}
-use Rattle.scheme.specs.Book.{pluckOutcome}
-use Rattle.scheme.specs.Book.{Left, bookCall, sumCall, State, start, stateAfter, called, AfterCalls, calls}
+use Rattle.scheme.specs.Book.{pluckOutcome, Left, bookCall, sumCall, State, start, stateAfter, called, AfterCalls, calls}
 use Rattle.scheme.specs.Program.{callsOf}
 use Rattle.scheme.specs.Mirror.{negated, mirrorSamples, mirrorOutcome, mirrorLeft, mirrorState, mirrorAfter, blank, heard}
 use Rattle.scheme.specs.Mirror.{heardLeft, heardAfter, ProgramMirrorImage}
