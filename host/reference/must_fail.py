@@ -9,6 +9,7 @@ import shutil
 import subprocess
 import sys
 import tempfile
+from concurrent.futures import ThreadPoolExecutor
 
 HERE = pathlib.Path(__file__).resolve().parent
 
@@ -455,16 +456,18 @@ def tests_pass(folder, tests):
     return run.returncode == 0
 
 
+def survives(edit):
+    with tempfile.TemporaryDirectory() as folder:
+        wrong_copy(edit, folder)
+        return tests_pass(folder, tests_of(edit[1]))
+
+
 def main():
     for tests in ("test_reference.py", "test_ring.py", "test_bounds.py"):
         if not tests_pass(HERE, [tests]):
             raise SystemExit(f"{tests} fails without any edit")
-    survived = []
-    for edit in EDITS:
-        with tempfile.TemporaryDirectory() as folder:
-            wrong_copy(edit, folder)
-            if tests_pass(folder, tests_of(edit[1])):
-                survived.append(edit[0])
+    with ThreadPoolExecutor(os.cpu_count()) as pool:
+        survived = [edit[0] for edit, passed in zip(EDITS, pool.map(survives, EDITS)) if passed]
     for name in survived:
         print("survived:", name)
     print(len(EDITS) - len(survived), "wrong edits refused")
