@@ -10,8 +10,8 @@ use pluck_table::load_table;
 use types::Grid;
 use types::Refusal;
 
-// As `pluck`, by a lent table, which is looked at in each call that nothing else refuses. Ruled out: a broken table answered as carried out;
-// by the definition, T in place of the lent table, and 14 before 10.
+// As `pluck`, by a lent table, which is looked at in each call that nothing else refuses. Ruled out: a broken table answered as carried
+// out; by the definition, T in place of the lent table, and 14 before 10.
 pub fn pluck_with(
     g: Grid,
     older: &mut [i64],
