@@ -37,8 +37,8 @@ pub fn grid_refusal(g: Grid, last: u64) -> Refusal
     }
 }
 
-// 4
-fn wrong_coefficient(c: Settings) -> bool
+// 4. Ruled out: a setting of 65536 refused; a loss above 65536 let pass.
+pub fn wrong_coefficient(c: Settings) -> bool
     ensures { λ r. ⌜ r ≡ wrongCoefficient c ⌝ }
 {
     if Settings::D < c.q {

@@ -1,0 +1,2 @@
+-- What `make_plan` promises.
+pub mod Plans
