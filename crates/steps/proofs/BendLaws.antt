@@ -2,7 +2,6 @@
 use mathlib.Core.Path.{_≡_, refl, sym, ap, _∙_}
 use mathlib.Core.Bool.{Bool, true, false, not, _&&_, cond}
 use mathlib.Core.List.{List}
-use mathlib.Core.Logic.{inr}
 use Prim.Native.Nat.{ℕ, _+_, _-_, _*_, _≤_, _<_, zero-le}
 use native.Mathlib.Nat as N
 use native.Mathlib.Omega.{arith}
@@ -13,14 +12,13 @@ use lib.ListN.{length}
 use Rattle.integers.specs.Sum.{sumOver}
 use Rattle.bounded.proofs.Expr.{E, via, size}
 use Rattle.types.specs.declared.Grid.{Grid}
-use Rattle.types.specs.declared.Instrument.{Instrument}
 use Rattle.types.specs.Numbers.{ceiling}
 use Rattle.scheme.specs.Lists.{point}
 use Rattle.scheme.specs.Instruments.{Kind, bar, kind, points, column, row, atEdge, fixedIn, fixed, moving}
 use Rattle.scheme.specs.Step.{neighbours}
 use Rattle.scheme.proofs.Laws.Bools.{or-neither, neither-or}
 use Rattle.scheme.proofs.Laws.Neighbours.{line-inner}
-use Rattle.steps.specs.Plan.{AtMost, innerSum, Neighbouring}
+use Rattle.steps.specs.Plan.{AtMost, innerSum, Summed}
 use Rattle.steps.specs.Run.{OnLine, twoBeside, barSum}
 use Rattle.steps.proofs.KindLaws.{line-long}
 use Rattle.steps.proofs.BesideLaws.{beside#, sum-two}
@@ -77,11 +75,10 @@ module _ (g : Grid) (line : g .rows ≡ 1) (is-bar : kind g ≡ bar) (xs : List 
           sym (sum-two (point xs) (k - 1) (k + 1))
 
 -- a point of a bar: the sum of its neighbours, and that of the sums on either side
-pub bar-beside : (i : Instrument) → kind (i .grid) ≡ bar → (newer : List ℤ) → length newer ≡ points (i .grid)
-    → {from to : ℕ} → OnLine (i .grid) from to → (k : ℕ) → from ≤ k → k < to
-    → Neighbouring i newer k (barSum newer k) (barSum newer (k - 1) +ℤ barSum newer (k + 1))
-bar-beside i is-bar newer long on k first last =
-    let g = i .grid in
+pub bar-beside : (g : Grid) → kind g ≡ bar → (newer : List ℤ) → length newer ≡ points g
+    → {from to : ℕ} → OnLine g from to → (k : ℕ) → from ≤ k → k < to
+    → Summed g newer k (barSum newer k) (barSum newer (k - 1) +ℤ barSum newer (k + 1))
+bar-beside g is-bar newer long on k first last =
     let h : 0 < k = omega (arith, on .first) in
     let l : k + 1 < g .columns = omega (arith, on .last) in
     let e = line-inner g k (on .line) (omega arith) h l in
@@ -91,6 +88,6 @@ bar-beside i is-bar newer long on k first last =
       moves = on .each k first last;
       sum-is = bar-between newer k h (omega (arith, long, line-long g (on .line))) ∙ sum-two (point newer) (k - 1) (k + 1)
           ∙ ap (λ (js : List ℕ). sumOver js (point newer)) (sym e);
-      second-is = inr ((λ j. left j +ℤ right j) ∙ sum-two (innerSum g (point newer)) (k - 1) (k + 1)
-          ∙ ap (λ (js : List ℕ). sumOver js (innerSum g (point newer))) (sym e));
+      second-is = (λ j. left j +ℤ right j) ∙ sum-two (innerSum g (point newer)) (k - 1) (k + 1)
+          ∙ ap (λ (js : List ℕ). sumOver js (innerSum g (point newer))) (sym e);
     }

@@ -19,9 +19,11 @@ use Rattle.scheme.specs.Instruments.{bar, kind, points, inTable, moving}
 use Rattle.scheme.specs.Step.{neighbours}
 use Rattle.scheme.specs.Passing.{InstrumentPasses}
 use Rattle.scheme.proofs.Laws.Neighbours.{line-inner, line-first, line-last, grid-inner, grid-above, grid-below}
-use Rattle.steps.specs.Plan.{AtMost, countOf, Neighbouring}
+use Rattle.plans.specs.Plans.{countOf}
+use Rattle.plans.proofs.PlanLaws.{two-of, four-of}
+use Rattle.steps.specs.Plan.{AtMost, Neighbouring}
 use Rattle.steps.specs.Run.{Moves, OnLine, FreeEnd, clamp, twoBeside, fourBeside}
-use Rattle.steps.proofs.KindLaws.{Edge, two-of, four-of, line-long, wide, line-stiff, line-in, line-free, bar-inner}
+use Rattle.steps.proofs.KindLaws.{Edge, line-long, wide, line-stiff, line-in, line-free, bar-inner}
 use Rattle.steps.proofs.KindLaws.{grid-free, grid-in}
 use Rattle.steps.proofs.StretchLaws.{clamp-before, clamp-inside, clamp-after}
 
@@ -108,7 +110,7 @@ module _ (i : Instrument) (ok : InstrumentPasses i) where
   soft-beside newer k sum js mk soft e s = record {
     moves = mk;
     sum-is = s ∙ ap (λ (js : List ℕ). sumOver js (point newer)) (sym e);
-    second-is = inl (soft, refl);
+    b-is = inl (soft, refl);
   }
 
   -- ---- a line

@@ -20,7 +20,7 @@ use Rattle.scheme.specs.Step.{laplacian, biharmonic, numeratorOf, numerator, ro
 use Rattle.scheme.specs.Refusals.{tooStrong}
 use Rattle.scheme.proofs.Laws.Bools.{and-yes}
 use Rattle.scheme.proofs.Laws.Step.{moving-inside, next-moving}
-use Rattle.steps.specs.declared.plan.Plan.{Plan}
+use Rattle.plans.specs.declared.Plan.{Plan}
 use Rattle.steps.specs.declared.progress.Progress.{Progress}
 use Rattle.steps.specs.declared.stretch.Stretch.{Stretch}
 use Rattle.steps.specs.Plan.{Ready}

@@ -22,7 +22,7 @@ use Rattle.scheme.proofs.Laws.Bools.{and-both, or-neither}
 use Rattle.scheme.proofs.Laws.Kinds.{degree, within-is, sized}
 use Rattle.scheme.proofs.Laws.Step.{moving-inside}
 use Rattle.scheme.specs.Passing.{InstrumentPasses}
-use Rattle.steps.specs.Plan.{countOf}
+use Rattle.plans.specs.Plans.{countOf}
 
 -- ---- edges
 
@@ -175,20 +175,6 @@ moves-free g k m = not-true (fixed g k) (and-both (ltb k (points g)) (not (fixed
 -- on a line there are as many points as columns
 pub line-long : (g : Grid) → g .rows ≡ 1 → points g ≡ g .columns
 line-long g e = ap (λ (n : ℕ). g .columns * n) e ∙ N.mul-one (g .columns)
-
--- "two neighbours, or four"
-pub two-of : (g : Grid) → g .rows ≡ 1 → countOf g ≡ 2
-two-of g e = two (g .columns) (g .rows) e
-
-pub count-few : (g : Grid) → countOf g ≤ 4
-count-few g = go (eqb (g .rows) 1)
-  where
-    go : (t : Bool) → cond {A = ℕ} t 2 4 ≤ 4
-    go true = omega arith
-    go false = omega arith
-
-pub four-of : (g : Grid) → (g .rows ≡ 1 → ⊥) → countOf g ≡ 4
-four-of g n = ap (λ (t : Bool). cond {A = ℕ} t 2 4) (ne-eqb (g .rows) 1 n)
 
 module _ (g : Grid) (size : inTable g ≡ true) where
   pub wide : 3 ≤ g .columns

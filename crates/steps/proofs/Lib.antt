@@ -1,7 +1,6 @@
 pub mod Held
 pub mod CountLaws
 pub mod FillLaws
-pub mod RoundLaws
 pub mod KindLaws
 pub mod PlanLaws
 pub mod NumeratorLaws

@@ -16,7 +16,7 @@ use Rattle.types.specs.Numbers.{ceiling}
 use Rattle.scheme.specs.Lists.{point}
 use Rattle.scheme.specs.Instruments.{beyond, moving}
 use Rattle.scheme.specs.Step.{laplacian, biharmonic, numeratorOf, numerator, roundAway, forceOf, divisor, isMultiple, nextAt, inexactAt}
-use Rattle.steps.specs.declared.plan.Plan.{Plan}
+use Rattle.plans.specs.declared.Plan.{Plan}
 use Rattle.steps.specs.declared.progress.Progress.{Progress}
 use Rattle.steps.specs.Plan.{Ready}
 use Rattle.steps.specs.Run.{nextOf, Filled, Tested, Stepping, Placed}

@@ -1,23 +1,34 @@
--- The factors of a plan are small; its grid has three columns or more, and 64 rows or less.
+-- The factors of a plan, and that they are small; its grid has three columns or more, and 64 rows or less.
 use mathlib.Core.Path.{_≡_, refl, sym, ap, _∙_, subst}
 use Prim.Native.Nat.{ℕ, _+_, _*_, _/_, _^_, _≤_, _<_}
 use native.Mathlib.Nat as N
 use native.Mathlib.Omega.{arith}
-use lib.IntN.{ℤ, pos, natAbs, _*ℤ_}
+use lib.IntN.{ℤ, pos, natAbs, _-ℤ_, _*ℤ_}
 use mir.Syntax.{w64}
 use mir.Val.{toZ, ofZ}
 use Rattle.integers.proofs.Ring.{#_, _⊕_, _⊖_, _⊗_, _≈_, ring}
 use Rattle.integers.proofs.Order.{pos-inj}
 use Rattle.integers.proofs.Size.{size-mul, size-less}
 use Rattle.bounded.proofs.Num.{given}
+use Rattle.types.specs.declared.Instrument.{Instrument}
 use Rattle.types.specs.Numbers.{D, ceiling}
 use Rattle.scheme.specs.Instruments.{kind, points}
+use Rattle.scheme.specs.Passing.{InstrumentPasses}
 use Rattle.scheme.specs.Step.{divisor}
 use Rattle.scheme.proofs.Laws.Kinds.{degree-within, Sized, sized, stable-means}
 use Rattle.scheme.proofs.Laws.Refusals.{coefficients-small}
-use Rattle.steps.specs.declared.plan.Plan.{Plan}
-use Rattle.steps.specs.Plan.{countOf, Planned, Dividable}
+use Rattle.plans.specs.declared.Plan.{Plan}
+use Rattle.plans.specs.Plans.{countOf, factors, planOf}
+use Rattle.plans.proofs.PlanLaws.{plan-passed}
+use Rattle.steps.specs.Plan.{Planned}
 use Rattle.steps.proofs.KindLaws.{count-degree}
+
+-- the plan that is made of an instrument that passes
+pub made : (i : Instrument) → InstrumentPasses i → (p : Plan) → p ≡ planOf i → (p .instrument ≡ i) × Planned p
+made i ok p e =
+    let is = e ∙ plan-passed i (ok .coefficients) in
+    let own = ap (λ (x : Plan). x .instrument) is in
+    (own, record { passes = subst InstrumentPasses (sym own) ok; is = is ∙ ap factors (sym own) })
 
 module _ {p : Plan} (h : Planned p) where
   abbrev q : ℕ
@@ -32,29 +43,32 @@ module _ {p : Plan} (h : Planned p) where
   low : (q ≤ D) × (m ≤ D) × (p .instrument .settings .s ≤ D)
   low = coefficients-small (p .instrument .settings) (h .passes .coefficients)
 
+  pub own-is : p .own ≡ pos (2 * D) -ℤ pos c *ℤ pos q
+  own-is = ap (λ (x : Plan). x .own) (h .is)
+
+  pub near-is : p .near ≡ pos q
+  near-is = ap (λ (x : Plan). x .near) (h .is)
+
+  pub kept-is : p .kept ≡ pos D -ℤ pos (p .instrument .settings .s)
+  kept-is = ap (λ (x : Plan). x .kept) (h .is)
+
+  pub m-is : p .m ≡ pos m
+  m-is = ap (λ (x : Plan). x .m) (h .is)
+
   -- "Stable means", by the neighbours: all that the factors of newer have to hold
   stable : c * q + 2 * (c * c) * m ≤ 2 * D
   stable = subst (λ (n : ℕ). n * q + 2 * (n * n) * m ≤ 2 * D) (sym (count-degree (p .instrument .grid) (h .passes .size)))
       (stable-means (kind (p .instrument .grid)) q m (h .passes .stable))
 
   pub own-low : natAbs (p .own) ≤ 2 * D
-  own-low = subst (λ (z : ℤ). natAbs z ≤ 2 * D)
-      (sym (h .own-is ∙ ring 3 (λ x y z. x ⊖ y ⊖ z ≈ x ⊖ (y ⊕ z)) refl (pos (2 * D)) (pos (c * q)) (pos (c * c * m))))
-      (size-less (2 * D) (c * q + c * c * m) (omega (arith, stable, N.mul-assoc 2 (c * c) m)))
+  own-low = subst (λ (z : ℤ). natAbs z ≤ 2 * D) (sym own-is) (size-less (2 * D) (c * q) (omega (arith, stable)))
 
   pub few : (1 ≤ c) × (c ≤ 4)
   few = subst (λ (n : ℕ). (1 ≤ n) × (n ≤ 4)) (sym (count-degree (p .instrument .grid) (h .passes .size)))
       (degree-within (kind (p .instrument .grid)))
 
-  near-stable : (q + 2 * c * m) * c ≤ 2 * D
-  near-stable = omega (arith, stable, e)
-    where
-      e : (q + 2 * c * m) * c ≡ c * q + 2 * (c * c) * m
-      e = pos-inj (ring 3 (λ q c m. (q ⊕ # 2 ⊗ c ⊗ m) ⊗ c ≈ c ⊗ q ⊕ # 2 ⊗ (c ⊗ c) ⊗ m) refl (pos q) (pos c) (pos m))
-
-  pub near-low : natAbs (p .near) ≤ 2 * D
-  near-low = subst (λ (z : ℤ). natAbs z ≤ 2 * D) (sym (h .near-is))
-      (omega (arith, near-stable, N.mul-le-mul-left (q + 2 * c * m) (few .0), N.mul-one (q + 2 * c * m)))
+  pub near-low : natAbs (p .near) ≤ D
+  near-low = subst (λ (z : ℤ). natAbs z ≤ D) (sym near-is) (low .0)
 
   -- a factor n times a number of at most k·C, where n·k is at most B
   part : {z : ℤ} (n k B : ℕ) → z ≡ pos n → n * k ≤ B → (x : ℤ) → natAbs x ≤ k * ceiling → natAbs (z *ℤ x) ≤ B * ceiling
@@ -63,23 +77,26 @@ module _ {p : Plan} (h : Planned p) where
       (omega (arith, size-mul (pos n) x, N.mul-le-mul-left n l, N.mul-assoc n k ceiling, N.mul-le-mul-right ceiling b))
 
   pub near-part : (sum : ℤ) → natAbs sum ≤ c * ceiling → natAbs (p .near *ℤ sum) ≤ 2 * D * ceiling
-  near-part = part (q + 2 * c * m) c (2 * D) (h .near-is) near-stable
+  near-part = part q c (2 * D) near-is (omega (arith, stable, N.mul-comm q c))
 
-  pub stiff-part : (second : ℤ) → natAbs second ≤ c * c * ceiling → natAbs (p .m *ℤ second) ≤ D * ceiling
-  stiff-part = part m (c * c) D (h .m-is) (omega (arith, stable, N.mul-assoc 2 (c * c) m, N.mul-comm m (c * c)))
+  pub stiff-part : (b : ℤ) → natAbs b ≤ 4 * (c * c) * ceiling → natAbs (p .m *ℤ b) ≤ 4 * D * ceiling
+  stiff-part = part m (4 * (c * c)) (4 * D) m-is (omega (arith, stable, e))
+    where
+      e : m * (4 * (c * c)) ≡ 2 * (2 * (c * c) * m)
+      e = pos-inj (ring 2 (λ m c. m ⊗ (# 4 ⊗ (c ⊗ c)) ≈ # 2 ⊗ (# 2 ⊗ (c ⊗ c) ⊗ m)) refl (pos m) (pos c))
 
   pub m-low : natAbs (p .m) ≤ D
-  m-low = subst (λ (z : ℤ). natAbs z ≤ D) (sym (h .m-is)) (low .1)
+  m-low = subst (λ (z : ℤ). natAbs z ≤ D) (sym m-is) (low .1)
 
   -- m as code tests it: by its bits
   pub m-none : ofZ w64 (p .m) ≡ 0 → p .instrument .settings .m ≡ 0
-  m-none e = ap natAbs (sym (h .m-is) ∙ sym (given m-low tt .is) ∙ ap (toZ w64) e)
+  m-none e = ap natAbs (sym m-is ∙ sym (given m-low tt .is) ∙ ap (toZ w64) e)
 
   pub m-some : (ofZ w64 (p .m) ≡ 0 → ⊥) → p .instrument .settings .m ≡ 0 → ⊥
-  m-some f e = f (ap (ofZ w64) (h .m-is ∙ ap pos e))
+  m-some f e = f (ap (ofZ w64) (m-is ∙ ap pos e))
 
   pub kept-low : natAbs (p .kept) ≤ D
-  kept-low = subst (λ (z : ℤ). natAbs z ≤ D) (sym (h .kept-is)) (size-less D (p .instrument .settings .s) (low .2))
+  kept-low = subst (λ (z : ℤ). natAbs z ≤ D) (sym kept-is) (size-less D (p .instrument .settings .s) (low .2))
 
   -- ---- the divisor, and half of it
 
@@ -89,17 +106,17 @@ module _ {p : Plan} (h : Planned p) where
   pub divisor-some : 0 < d
   divisor-some = omega arith
 
-  pub half-small : p .half ≤ 2 ^ 16
-  half-small = omega (arith, h .half-is, low .2)
+  pub divisor-is : p .divisor ≡ d
+  divisor-is = ap (λ (x : Plan). x .divisor) (h .is)
 
-  pub loss-low : p .instrument .settings .s ≤ D
-  loss-low = low .2
+  pub half-is : p .half ≡ d / 2
+  half-is = ap (λ (x : Plan). x .half) (h .is)
+
+  pub limit-is : p .limit ≡ (ceiling + 1) * d
+  limit-is = ap (λ (x : Plan). x .limit) (h .is)
 
   pub divisor-low : d ≤ 2 ^ 31
   divisor-low = omega (arith, low .2)
-
-  pub dividable : (n : ℤ) → natAbs n ≤ 2 ^ 62 → (k : ℕ) → k ≡ d → Dividable n k (p .half)
-  dividable n l k e = (l, omega (arith, e), omega (arith, e, low .2), h .half-is ∙ ap (λ (x : ℕ). x / 2) (sym e))
 
   -- ---- the grid
 

@@ -17,12 +17,12 @@ use Rattle.types.specs.Numbers.{ceiling}
 use Rattle.scheme.specs.Lists.{point}
 use Rattle.scheme.specs.Instruments.{inTable, moving}
 use Rattle.scheme.specs.Step.{neighbours}
-use Rattle.steps.specs.declared.plan.Plan.{Plan}
+use Rattle.plans.specs.declared.Plan.{Plan}
 use Rattle.steps.specs.declared.plates.SumRows.{SumRows}
-use Rattle.steps.specs.Plan.{AtMost, innerSum, Ready, Neighbouring}
+use Rattle.steps.specs.Plan.{AtMost, innerSum, Ready, Summed}
 use Rattle.steps.specs.Run.{Filled, Moves, fourBeside}
 use Rattle.steps.specs.Plates.{TwoRows, InRow, Readable, secondAt}
-use Rattle.steps.proofs.KindLaws.{count-few}
+use Rattle.plans.proofs.PlanLaws.{count-few}
 use Rattle.steps.proofs.BesideLaws.{sum-four, around-neighbours}
 use Rattle.steps.proofs.PointLaws.{inner-low}
 
@@ -137,13 +137,13 @@ module _ {p : Plan} {f : ℤ} {older newer : List ℤ} (r : Ready p f older newe
         (λ j. left j +ℤ right j +ℤ above j +ℤ below-is j) ∙ sum-four S (at - 1) (at + 1) (at - g .columns) (at + g .columns) ∙
         ap (λ (js : List ℕ). sumOver js S) (sym (around-neighbours g size (w .grid) at mk))
 
-    pub plate-beside : Neighbouring i newer at (point sums (rows .here + c)) (secondAt sums rows c below)
+    pub plate-beside : Summed g newer at (point sums (rows .here + c)) (secondAt sums rows c below)
     plate-beside = record {
       moves = mk;
       sum-is = here-is ∙ sym (sum-around g (point newer) size (w .grid) at mk) ∙
           sum-four (point newer) (at - 1) (at + 1) (at - g .columns) (at + g .columns) ∙
           ap (λ (js : List ℕ). sumOver js (point newer)) (sym (around-neighbours g size (w .grid) at mk));
-      second-is = inr second-is;
+      second-is = second-is;
     }
 
     -- once the sum below stands for the one above

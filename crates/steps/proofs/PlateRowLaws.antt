@@ -21,7 +21,7 @@ use Rattle.scheme.proofs.Laws.Bools.{neither-or}
 use Rattle.kinds.specs.Runs.{run, runIn, innerRun, runOf}
 use Rattle.kinds.proofs.RunLaws.{run-is}
 use Rattle.levels.proofs.LevelLaws.{next-row}
-use Rattle.steps.specs.declared.plan.Plan.{Plan}
+use Rattle.plans.specs.declared.Plan.{Plan}
 use Rattle.steps.specs.declared.plates.SumRows.{SumRows}
 use Rattle.steps.specs.declared.progress.Progress.{Progress}
 use Rattle.steps.specs.Plan.{AtMost, innerSum}

@@ -22,7 +22,7 @@ use Rattle.scheme.specs.Claims.{LevelPasses}
 use Rattle.scheme.specs.Refusals.{notMoving, tooStrong}
 use Rattle.scheme.proofs.Laws.Refusals.{passes-still}
 use Rattle.scheme.proofs.Laws.Calls.{play-ends, play-goes, next-passes, capped-low, capped-add}
-use Rattle.steps.specs.declared.plan.Plan.{Plan}
+use Rattle.plans.specs.declared.Plan.{Plan}
 use Rattle.steps.specs.declared.play.Steps.{Steps}
 use Rattle.steps.specs.declared.progress.Progress.{Progress}
 use Rattle.steps.specs.Roles.{Room, Steppable, Stepped, SteppedIn, Played, turnedOf, olderOf, newerOf, outOf}

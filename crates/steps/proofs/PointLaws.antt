@@ -11,7 +11,7 @@ use mir.Syntax.{w64}
 use mir.Val.{toZ, ofZ}
 use Rattle.integers.specs.Sum.{sumOver}
 use Rattle.integers.proofs.Ring.{#_, _⊕_, _⊖_, _⊗_, _≈_, ring}
-use Rattle.integers.proofs.Size.{size-over}
+use Rattle.integers.proofs.Size.{size-add, size-minus, size-mul, size-over}
 use Rattle.integers.proofs.Sum.{over-ext, over-add, over-scale}
 use Rattle.types.specs.declared.Settings.{Settings}
 use Rattle.types.specs.declared.Grid.{Grid}
@@ -20,8 +20,9 @@ use Rattle.types.specs.Numbers.{D, ceiling}
 use Rattle.scheme.specs.Lists.{point}
 use Rattle.scheme.specs.Instruments.{inTable, moving}
 use Rattle.scheme.specs.Step.{neighbours, laplacian, innerLaplacian, biharmonic, numeratorOf, numerator, divisor}
-use Rattle.steps.specs.declared.plan.Plan.{Plan}
-use Rattle.steps.specs.Plan.{countOf, innerSum, bendingOf, Updatable, Ready, Neighbouring}
+use Rattle.plans.specs.declared.Plan.{Plan}
+use Rattle.plans.specs.Plans.{countOf}
+use Rattle.steps.specs.Plan.{innerSum, bendingOf, Summable, Updatable, Ready, Summed, Neighbouring}
 use Rattle.steps.specs.Run.{nextOver, nextBy}
 use Rattle.steps.proofs.Held.{held, held-below}
 use Rattle.steps.proofs.PlanLaws.{few, near-part, stiff-part}
@@ -62,7 +63,7 @@ module _ (g : Grid) (size : inTable g ≡ true) (a : ℕ → ℤ) (still : (k : 
           ap (λ (t : Bool). cond t (laplacian g a k) (pos 0)) e ∙ ring 1 (λ c. # 0 ≈ # 0 ⊕ (# 0 ⊖ c) ⊗ # 0) refl c ∙
           (λ j. cond (sym e j) (sumOver (neighbours g k) a) (pos 0) +ℤ (pos 0 -ℤ c) *ℤ sym (still k e) j)
 
-  bending-by-sums : (k : ℕ) → moving g k ≡ true
+  pub bending-by-sums : (k : ℕ) → moving g k ≡ true
       → biharmonic g a k ≡ bendingOf c (sumOver (neighbours g k) a) (sumOver (neighbours g k) S) (a k)
   unfolding laplacian
   bending-by-sums k mk =
@@ -89,18 +90,61 @@ module _ (g : Grid) (size : inTable g ≡ true) (a : ℕ → ℤ) (still : (k : 
       go true e = over-low B a low k e
       go false e = zero-le
 
--- ---- a point
+-- ---- a point whose neighbours' sums are added
 
 module _ {p : Plan} {f : ℤ} {older newer : List ℤ} {k : ℕ} {sum second : ℤ} (r : Ready p f older newer)
-    (n : Neighbouring (p .instrument) newer k sum second) where
+    (n : Summed (p .instrument .grid) newer k sum second) where
+  abbrev g : Grid
+  g = p .instrument .grid
+
+  abbrev count : ℕ
+  count = countOf g
+
+  in-table : inTable g ≡ true
+  in-table = r .planned .passes .size
+
+  second-low : natAbs second ≤ count * count * ceiling
+  second-low = subst (λ (z : ℤ). natAbs z ≤ count * count * ceiling) (sym (n .second-is))
+      (omega (
+        arith,
+        over-low g in-table (point newer) (r .newer-still) (count * ceiling) (innerSum g (point newer))
+            (inner-low g in-table (point newer) (r .newer-still) ceiling (r .newer-low)) k (n .moves),
+        N.mul-assoc count count ceiling,
+      ))
+
+  summed-low : natAbs sum ≤ count * ceiling
+  summed-low = subst (λ (z : ℤ). natAbs z ≤ count * ceiling) (sym (n .sum-is))
+      (over-low g in-table (point newer) (r .newer-still) ceiling (point newer) (r .newer-low) k (n .moves))
+
+  pub summable : Summable (pos count) second sum (point newer k)
+  summable = record {
+    c-low = few (r .planned) .1;
+    second-low = N.le-trans second-low (N.mul-le-mul-right ceiling (N.mul-le-mul (few (r .planned) .1) (few (r .planned) .1)));
+    sum-low = N.le-trans summed-low (N.mul-le-mul-right ceiling (few (r .planned) .1));
+    u-low = r .newer-low k;
+  }
+
+  -- L of L is what is made of them
+  pub bent : Neighbouring (p .instrument) newer k sum (bendingOf (pos count) sum second (point newer k))
+  bent = record {
+    moves = n .moves;
+    sum-is = n .sum-is;
+    b-is = inr (sym (bending-by-sums g in-table (point newer) (r .newer-still) k (n .moves) ∙
+        (λ j. bendingOf (pos count) (sym (n .sum-is) j) (sym (n .second-is) j) (point newer k))));
+  }
+
+-- ---- a point
+
+module _ {p : Plan} {f : ℤ} {older newer : List ℤ} {k : ℕ} {sum b : ℤ} (r : Ready p f older newer)
+    (n : Neighbouring (p .instrument) newer k sum b) where
   abbrev i : Instrument
   i = p .instrument
 
   abbrev s : Settings
   s = i .settings
 
-  abbrev count : ℕ
-  count = countOf (i .grid)
+  abbrev number : ℕ
+  number = countOf (i .grid)
 
   abbrev u : ℤ
   u = point newer k
@@ -108,58 +152,74 @@ module _ {p : Plan} {f : ℤ} {older newer : List ℤ} {k : ℕ} {sum second : �
   size : inTable (i .grid) ≡ true
   size = r .planned .passes .size
 
-  sum-low : natAbs sum ≤ count * ceiling
-  sum-low = subst (λ (z : ℤ). natAbs z ≤ count * ceiling) (sym (n .sum-is))
+  sum-low : natAbs sum ≤ number * ceiling
+  sum-low = subst (λ (z : ℤ). natAbs z ≤ number * ceiling) (sym (n .sum-is))
       (over-low (i .grid) size (point newer) (r .newer-still) ceiling (point newer) (r .newer-low) k (n .moves))
 
-  second-low : natAbs second ≤ count * count * ceiling
-  second-low = go (n .second-is)
-    where
-      go : ((s .m ≡ 0) × (second ≡ pos 0)) ⊎ (second ≡ sumOver (neighbours (i .grid) k) (innerSum (i .grid) (point newer)))
-          → natAbs second ≤ count * count * ceiling
-      go (inl e) = subst (λ (z : ℤ). natAbs z ≤ count * count * ceiling) (sym (e .1)) zero-le
-      go (inr e) = subst (λ (z : ℤ). natAbs z ≤ count * count * ceiling) (sym e)
-          (omega (
-            arith,
-            over-low (i .grid) size (point newer) (r .newer-still) (count * ceiling) (innerSum (i .grid) (point newer))
-                (inner-low (i .grid) size (point newer) (r .newer-still) ceiling (r .newer-low)) k (n .moves),
-            N.mul-assoc count count ceiling,
-          ))
+  abbrev a : ℕ → ℤ
+  a = point newer
 
-  pub updatable : Updatable p u sum second (point older k) f
+  abbrev x : ℤ
+  x = sumOver (neighbours (i .grid) k) a
+
+  abbrev xs : ℤ
+  xs = sumOver (neighbours (i .grid) k) (innerSum (i .grid) a)
+
+  -- |S − 2c·N + c²·u| where |S| is at most c²·C, |N| at most c·C and |u| at most C
+  bending-low : natAbs (biharmonic (i .grid) (point newer) k) ≤ 4 * (number * number) * ceiling
+  bending-low = subst (λ (z : ℤ). natAbs z ≤ 4 * (number * number) * ceiling)
+      (sym (bending-by-sums (i .grid) size (point newer) (r .newer-still) k (n .moves)))
+      (omega (
+        arith,
+        size-add (xs -ℤ pos 2 *ℤ pos number *ℤ x) (pos number *ℤ pos number *ℤ u),
+        size-minus xs (pos 2 *ℤ pos number *ℤ x),
+        size-mul (pos (2 * number)) x,
+        size-mul (pos (number * number)) u,
+        N.mul-le-mul-left (2 * number) (over-low (i .grid) size a (r .newer-still) ceiling a (r .newer-low) k (n .moves)),
+        N.mul-le-mul-left (number * number) (r .newer-low k),
+        over-low (i .grid) size a (r .newer-still) (number * ceiling) (innerSum (i .grid) a)
+            (inner-low (i .grid) size a (r .newer-still) ceiling (r .newer-low)) k (n .moves),
+        N.mul-assoc number number ceiling,
+        N.mul-assoc 2 number (number * ceiling),
+        N.mul-assoc 4 (number * number) ceiling,
+      ))
+
+  b-low : natAbs b ≤ 4 * (number * number) * ceiling
+  b-low = go (n .b-is)
+    where
+      go : ((s .m ≡ 0) × (b ≡ pos 0)) ⊎ (b ≡ biharmonic (i .grid) (point newer) k) → natAbs b ≤ 4 * (number * number) * ceiling
+      go (inl e) = subst (λ (z : ℤ). natAbs z ≤ 4 * (number * number) * ceiling) (sym (e .1)) zero-le
+      go (inr e) = subst (λ (z : ℤ). natAbs z ≤ 4 * (number * number) * ceiling) (sym e) bending-low
+
+  pub updatable : Updatable p u sum b (point older k) f
   updatable = record {
     u-low = r .newer-low k;
     sum-low = N.le-trans sum-low (N.mul-le-mul-right ceiling (few (r .planned) .1));
-    second-low = N.le-trans second-low (N.mul-le-mul-right ceiling (N.mul-le-mul (few (r .planned) .1) (few (r .planned) .1)));
+    b-low = N.le-trans b-low (N.mul-le-mul-right ceiling (N.mul-le-mul-left 4 (N.mul-le-mul (few (r .planned) .1) (few (r .planned) .1))));
     older-low = r .older-low k;
     f-low = r .f-low;
     near-part = near-part (r .planned) sum sum-low;
-    stiff-part = stiff-part (r .planned) second second-low;
+    stiff-part = stiff-part (r .planned) b b-low;
   }
 
   -- ---- what is made of it
 
   abbrev l : ℤ
-  l = sum -ℤ pos count *ℤ u
-
-  abbrev b : ℤ
-  b = bendingOf (pos count) sum second u
+  l = sum -ℤ pos number *ℤ u
 
   laplacian-is : laplacian (i .grid) (point newer) k ≡ l
-  laplacian-is = by-sum (i .grid) size (point newer) (r .newer-still) k (n .moves) ∙ ap (λ (z : ℤ). z -ℤ pos count *ℤ u) (sym (n .sum-is))
+  laplacian-is = by-sum (i .grid) size (point newer) (r .newer-still) k (n .moves) ∙ ap (λ (z : ℤ). z -ℤ pos number *ℤ u) (sym (n .sum-is))
 
   -- L of L, as far as the stiffness counts
   stiff : pos (s .m) *ℤ biharmonic (i .grid) (point newer) k ≡ pos (s .m) *ℤ b
-  stiff = go (n .second-is)
+  stiff = go (n .b-is)
     where
-      go : ((s .m ≡ 0) × (second ≡ pos 0)) ⊎ (second ≡ sumOver (neighbours (i .grid) k) (innerSum (i .grid) (point newer)))
+      go : ((s .m ≡ 0) × (b ≡ pos 0)) ⊎ (b ≡ biharmonic (i .grid) (point newer) k)
           → pos (s .m) *ℤ biharmonic (i .grid) (point newer) k ≡ pos (s .m) *ℤ b
       go (inl e) =
           ap (λ (m : ℕ). pos m *ℤ biharmonic (i .grid) (point newer) k) (e .0) ∙ zero-*ℤ (biharmonic (i .grid) (point newer) k) ∙
           sym (ap (λ (m : ℕ). pos m *ℤ b) (e .0) ∙ zero-*ℤ b)
-      go (inr e) = ap (λ (z : ℤ). pos (s .m) *ℤ z)
-          (bending-by-sums (i .grid) size (point newer) (r .newer-still) k (n .moves) ∙
-          (λ j. bendingOf (pos count) (sym (n .sum-is) j) (sym e j) u))
+      go (inr e) = ap (λ (z : ℤ). pos (s .m) *ℤ z) (sym e)
 
   pub numerator-is : numeratorOf s u l b (point older k) f ≡ numerator i (point newer) (point older) (λ j. f) k
   unfolding numerator
@@ -172,17 +232,17 @@ module _ {p : Plan} {f : ℤ} {older newer : List ℤ} {k : ℕ} {sum second : �
 
 -- ---- the same, each number as the machine has it
 
-module _ {p : Plan} {f : ℤ} {older newer : List ℤ} {k : ℕ} {sum second : ℤ} (r : Ready p f older newer)
-    (n : Neighbouring (p .instrument) newer k sum second) where
+module _ {p : Plan} {f : ℤ} {older newer : List ℤ} {k : ℕ} {sum b : ℤ} (r : Ready p f older newer)
+    (n : Neighbouring (p .instrument) newer k sum b) where
   pub force-held : toZ w64 (ofZ w64 f) ≡ f
   force-held = held (r .f-low)
 
   pub ready-held : Ready p (toZ w64 (ofZ w64 f)) older newer
   ready-held = subst (λ (z : ℤ). Ready p z older newer) (sym force-held) r
 
-  pub beside-held : Neighbouring (p .instrument) newer k (toZ w64 (ofZ w64 sum)) (toZ w64 (ofZ w64 second))
+  pub beside-held : Neighbouring (p .instrument) newer k (toZ w64 (ofZ w64 sum)) (toZ w64 (ofZ w64 b))
   beside-held =
       let u = updatable r n in
       let x : toZ w64 (ofZ w64 sum) ≡ sum = held-below (4 * ceiling) tt (u .sum-low) in
-      let y : toZ w64 (ofZ w64 second) ≡ second = held-below (16 * ceiling) tt (u .second-low) in
+      let y : toZ w64 (ofZ w64 b) ≡ b = held-below (64 * ceiling) tt (u .b-low) in
       coe 1 0 (j. Neighbouring (p .instrument) newer k (x j) (y j)) n

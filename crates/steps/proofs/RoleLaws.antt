@@ -11,7 +11,7 @@ use lib.ListN.{length}
 use Rattle.types.specs.declared.Instrument.{Instrument}
 use Rattle.types.specs.declared.Hit.{Hit}
 use Rattle.scheme.specs.Instruments.{points}
-use Rattle.steps.specs.declared.plan.Plan.{Plan}
+use Rattle.plans.specs.declared.Plan.{Plan}
 use Rattle.steps.specs.declared.progress.Progress.{Progress}
 use Rattle.steps.specs.Roles.{Steppable, Stepped, SteppedInPlace, SteppedIn, SameLevels, piece, turnedOf, olderOf, newerOf, outOf}
 use Rattle.steps.specs.Pass.{Passable, Passed}

@@ -25,7 +25,7 @@ use Rattle.kinds.specs.declared.runs.Run.{Run}
 use Rattle.kinds.specs.Runs.{inRun, runOf}
 use Rattle.kinds.proofs.RunLaws.{run-bounds, moving-run}
 use Rattle.levels.proofs.LevelLaws.{next-row, row-inside}
-use Rattle.steps.specs.declared.plan.Plan.{Plan}
+use Rattle.plans.specs.declared.Plan.{Plan}
 use Rattle.steps.specs.declared.progress.Progress.{Progress}
 use Rattle.steps.specs.Plan.{Ready}
 use Rattle.steps.specs.Run.{Next, nextOf, Ran, Counted, Moves}

@@ -20,7 +20,7 @@ use Rattle.scheme.specs.Calls.{AfterBlock, AfterInPlace, accepted, play, block,
 use Rattle.scheme.proofs.Laws.Refusals.{right-length, block-passes}
 use Rattle.slices.proofs.SliceLaws.{zeros}
 use Rattle.scheme.proofs.Laws.Calls.{stands-behind, block-refused, block-done, in-place-refused, in-place-done}
-use Rattle.steps.specs.declared.plan.Plan.{Plan}
+use Rattle.plans.specs.declared.Plan.{Plan}
 use Rattle.steps.specs.declared.play.Steps.{Steps}
 use Rattle.steps.specs.Plan.{Planned}
 use Rattle.steps.specs.Roles.{Room, Steppable, Begins, Played, olderOf, newerOf}

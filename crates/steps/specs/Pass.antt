@@ -8,7 +8,7 @@ use lib.ListN.{length}
 use Rattle.types.specs.declared.Instrument.{Instrument}
 use Rattle.types.specs.declared.Hit.{Hit}
 use Rattle.scheme.specs.Instruments.{points}
-use Rattle.steps.specs.declared.plan.Plan.{Plan}
+use Rattle.plans.specs.declared.Plan.{Plan}
 use Rattle.steps.specs.declared.progress.Progress.{Progress}
 use Rattle.steps.specs.Run.{Stepping}
 use Rattle.steps.specs.Roles.{Steppable, Stepped, piece}

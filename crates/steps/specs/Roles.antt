@@ -17,7 +17,7 @@ use Rattle.scheme.specs.Step.{nextLevel, inexactIn, someBeyond}
 use Rattle.scheme.specs.Refusals.{notMoving, tooStrong}
 use Rattle.scheme.specs.Calls.{AfterSteps, capped}
 use Rattle.scheme.specs.Claims.{LevelPasses}
-use Rattle.steps.specs.declared.plan.Plan.{Plan}
+use Rattle.plans.specs.declared.Plan.{Plan}
 use Rattle.steps.specs.declared.play.Steps.{Steps}
 use Rattle.steps.specs.declared.progress.Progress.{Progress}
 use Rattle.steps.specs.Plan.{Planned}

@@ -14,7 +14,7 @@ use Rattle.types.specs.declared.Hit.the-variants.{Absent, At}
 use Rattle.scheme.specs.Lists.{point, countBelow}
 use Rattle.scheme.specs.Instruments.{beyond, points, atEdge, moving}
 use Rattle.scheme.specs.Step.{neighbours, numerator, roundAway, divisor, forceOf, nextAt, isMultiple, inexactAt}
-use Rattle.steps.specs.declared.plan.Plan.{Plan}
+use Rattle.plans.specs.declared.Plan.{Plan}
 use Rattle.steps.specs.declared.progress.Progress.{Progress}
 use Rattle.steps.specs.declared.stretch.Stretch.{Stretch}
 

@@ -13,7 +13,6 @@ ghost use Rattle.steps.specs.Edges.{EdgesOf};
 use crate::pieces::base_of;
 use crate::pieces::piece_end;
 use crate::pieces::put_piece;
-use crate::plan::Plan;
 use crate::plates::plate_level;
 use crate::plates::struck_level;
 use crate::points::points_run;
@@ -22,6 +21,7 @@ use crate::stretch::Stretch;
 use crate::stretch::force_at;
 use crate::stretch::stretch_end;
 use crate::within::is_row_within;
+use plans::Plan;
 use types::Hit;
 
 // The moving points of a row.

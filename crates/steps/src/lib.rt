@@ -4,7 +4,6 @@ mod edges;
 mod level;
 mod neighbours;
 mod pieces;
-mod plan;
 mod plates;
 mod play;
 mod points;

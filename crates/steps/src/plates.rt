@@ -8,23 +8,22 @@ ghost use Rattle.types.specs.declared.Hit.the-variants.{Absent};
 ghost use Rattle.types.specs.Numbers.{ceiling};
 ghost use Rattle.scheme.specs.Lists.{point};
 ghost use Rattle.scheme.specs.Instruments.{plate, kind};
-ghost use Rattle.scheme.specs.Step.{divisor};
 ghost use Rattle.scheme.specs.Refusals.{tooStrong};
-ghost use Rattle.steps.specs.Plan.{AtMost, Planned, Ready};
+ghost use Rattle.steps.specs.Plan.{AtMost, Ready};
 ghost use Rattle.steps.specs.Run.{Filled, Advanced, Stepping, Placed, fourBeside, hitIn};
 ghost use Rattle.steps.specs.Pass.{Passable, Passed};
 ghost use Rattle.steps.specs.Plates.{TwoRows, InRow, Readable, secondAt};
+use crate::arithmetic::bending;
 use crate::neighbours::around;
 use crate::pieces::base_of;
 use crate::pieces::put_piece;
-use crate::plan::Plan;
 use crate::points::next_point;
 use crate::progress::Progress;
 use crate::stretch::Stretch;
 use crate::stretch::as_written;
 use crate::stretch::force_at;
+use plans::Plan;
 use types::Hit;
-use types::Settings;
 
 // Where the sums of two rows stand: of column c of the row that begins at point `start` at place here + c; at other + c that of the row
 // above it until column c is done, then that of the row below it. `last` tells that the row below is the ring's.
@@ -71,15 +70,6 @@ fn second_at(sums: &[i64], rows: SumRows, c: usize, below: i64) -> i64
     sums[here - 1] + sums[here + 1] + sums[above] + below
 }
 
-// The divisor, as a sum of which the compiler knows that it is not 0: no loop tests it then.
-fn positive_divisor(plan: Plan) -> u64
-    requires { ⌜ Planned plan ⌝ }
-    ensures { λ r. ⌜ r ≡ divisor (plan .instrument .settings) ⌝ }
-{
-    let s = plan.instrument.settings.s as u32;
-    Settings::D + s as u64
-}
-
 // A point of a row. Once it is done, the sum below it stands for the one above it.
 fn plate_point(
     plan: Plan,
@@ -102,17 +92,8 @@ fn plate_point(
     let second = second_at(sums, rows, c, below);
     let sum = sums[rows.here + c];
     sums[rows.other + c] = below;
-    next_point(
-        plan,
-        positive_divisor(plan),
-        older,
-        newer,
-        at,
-        sum,
-        second,
-        s,
-        out,
-    )
+    let b = bending(4, second, sum, newer[at]);
+    next_point(plan, older, newer, at, sum, b, s, out)
 }
 
 // Points of a row, one force on all of them.

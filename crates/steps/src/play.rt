@@ -7,11 +7,11 @@ ghost use Rattle.scheme.specs.Calls as Calls;
 ghost use Rattle.scheme.specs.Calls.{hitAfter};
 ghost use Rattle.steps.specs.Edges.{EdgesOf};
 ghost use Rattle.steps.specs.Roles.{Begins, Played, SameLevels, olderOf, newerOf};
-use crate::plan::Plan;
 use crate::roles::sample_in_roles;
 use crate::roles::step_in_roles;
 use crate::roles::turned;
 use counts::capped_sum;
+use plans::Plan;
 use types::Hit;
 
 // The hit acts in the first step alone.

@@ -1,59 +1,58 @@
 // The next values of a stretch of moving points, put into a slice that is neither older nor newer.
 // At the first that lies beyond the ceiling each function stops.
 ghost use mathlib.Core.Path.{_≡_};
-ghost use Prim.Native.Nat.{_+_, _-_, _^_, _≤_, _<_};
-ghost use lib.IntN.{natAbs};
+ghost use Prim.Native.Nat.{_+_, _-_, _≤_, _<_};
 ghost use lib.ListN.{length};
 ghost use Rattle.steps.specs.Plan.{Ready, SoftGrid, Neighbouring};
 ghost use Rattle.scheme.specs.Instruments.{bar, kind};
 ghost use Rattle.scheme.specs.Step.{divisor};
 ghost use Rattle.steps.specs.Run.{nextOver, nextBy, Advanced, Placed, Moves, OnLine, FreeEnd};
-use crate::arithmetic::is_within;
+use crate::arithmetic::bending;
+use crate::arithmetic::is_below_limit;
 use crate::arithmetic::numerator;
-use crate::arithmetic::round_away;
 use crate::neighbours::around;
 use crate::neighbours::beside;
 use crate::neighbours::sum_at;
-use crate::plan::Plan;
 use crate::progress::Progress;
 use crate::stretch::Stretch;
 use crate::stretch::part;
+use plans::Plan;
+use rounding::round_by;
 
-// The numerator at a point: sum is that of its neighbours, second that of their sums.
+// The numerator at a point: sum is that of its neighbours, b is L of L.
 pub(crate) fn numerator_at(
     plan: Plan,
     older: &[i64],
     newer: &[i64],
     at: usize,
     sum: i64,
-    second: i64,
+    b: i64,
     force: i64,
 ) -> i64
-    requires { ⌜ Ready plan force (now older) (now newer) × Neighbouring (plan .instrument) (now newer) at sum second ⌝ }
-    ensures { λ r. ⌜ (nextOver r (divisor (plan .instrument .settings))
-        ≡ nextBy (plan .instrument) force (now (older .entry)) (now (newer .entry)) at) × (natAbs r ≤ 2 ^ 62) ⌝ }
+    requires { ⌜ Ready plan force (now older) (now newer) × Neighbouring (plan .instrument) (now newer) at sum b ⌝ }
+    ensures { λ r. ⌜ nextOver r (divisor (plan .instrument .settings))
+        ≡ nextBy (plan .instrument) force (now (older .entry)) (now (newer .entry)) at ⌝ }
 {
-    numerator(plan, newer[at], sum, second, older[at], force)
+    numerator(plan, newer[at], sum, b, older[at], force)
 }
 
-// One point: its next value, d being the divisor.
+// One point: its next value.
 pub(crate) fn next_point(
     plan: Plan,
-    d: u64,
     older: &[i64],
     newer: &[i64],
     at: usize,
     sum: i64,
-    second: i64,
+    b: i64,
     s: Stretch,
     out: &mut [i64],
 ) -> Progress
-    requires { ⌜ Ready plan (s .force) (now older) (now newer) × Neighbouring (plan .instrument) (now newer) at sum second ⌝ }
-    requires { ⌜ Placed s (length (now out)) × (s .from ≤ at) × (at < s .to) × (d ≡ divisor (plan .instrument .settings)) ⌝ }
+    requires { ⌜ Ready plan (s .force) (now older) (now newer) × Neighbouring (plan .instrument) (now newer) at sum b ⌝ }
+    requires { ⌜ Placed s (length (now out)) × (s .from ≤ at) × (at < s .to) ⌝ }
     ensures { λ r. ⌜ Advanced plan s (now (older .entry)) (now (newer .entry)) (now (out .entry)) (now (out .exit)) at (at + 1) r ⌝ }
 {
-    let n = numerator_at(plan, older, newer, at, sum, second, s.force);
-    if !is_within(plan, n) {
+    let n = numerator_at(plan, older, newer, at, sum, b, s.force);
+    if !is_below_limit(plan, n) {
         return Progress {
             within: false,
             inexact: 0,
@@ -65,7 +64,7 @@ pub(crate) fn next_point(
             inexact: 0,
         };
     }
-    let rounded = round_away(n, d, plan.half);
+    let rounded = round_by(n, plan.divisor, plan.half);
     let whole = rounded.whole;
     out[at - s.base] = whole;
     let inexact = if rounded.remainder == 0 { 0 } else { 1 };
@@ -85,7 +84,7 @@ fn line_run(plan: Plan, older: &[i64], newer: &[i64], s: Stretch, out: &mut [i64
     let mut at = s.from;
     while at < s.to {
         let sum = beside(newer, at);
-        let p = next_point(plan, plan.divisor, older, newer, at, sum, 0, s, out);
+        let p = next_point(plan, older, newer, at, sum, 0, s, out);
         if !p.within {
             return p;
         }
@@ -110,17 +109,8 @@ fn bar_run(plan: Plan, older: &[i64], newer: &[i64], s: Stretch, out: &mut [i64]
     let mut here = sum_at(newer, at);
     while at < s.to {
         let right = sum_at(newer, at + 1);
-        let p = next_point(
-            plan,
-            plan.divisor,
-            older,
-            newer,
-            at,
-            here,
-            left + right,
-            s,
-            out,
-        );
+        let b = bending(2, left + right, here, newer[at]);
+        let p = next_point(plan, older, newer, at, here, b, s, out);
         if !p.within {
             return p;
         }
@@ -167,7 +157,7 @@ fn free_end(
         };
     }
     let x = newer[near];
-    next_point(plan, plan.divisor, older, newer, s.from, x + x, 0, s, out)
+    next_point(plan, older, newer, s.from, x + x, 0, s, out)
 }
 
 // Moving points of a line: its first, if it is one of them, the inner ones, its last.
@@ -207,7 +197,7 @@ fn grid_run(plan: Plan, older: &[i64], newer: &[i64], s: Stretch, out: &mut [i64
     let mut at = s.from;
     while at < s.to {
         let sum = around(newer, at, columns);
-        let p = next_point(plan, plan.divisor, older, newer, at, sum, 0, s, out);
+        let p = next_point(plan, older, newer, at, sum, 0, s, out);
         if !p.within {
             return p;
         }

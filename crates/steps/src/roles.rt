@@ -13,8 +13,8 @@ ghost use Rattle.steps.specs.Roles.{Steppable, SteppedInPlace, SteppedIn
 use crate::arithmetic::sample;
 use crate::level::next_level;
 use crate::pieces::PIECE;
-use crate::plan::Plan;
 use crate::progress::Progress;
+use plans::Plan;
 use slices::copy;
 use types::Hit;
 

@@ -11,11 +11,11 @@ ghost use Rattle.steps.specs.Roles.{Played, SameLevels, olderOf, newerOf
 ghost use Rattle.steps.specs.Turns.{Opens, Turned, TurnedInPlace};
 use crate::edges::row_edges;
 use crate::pieces::PIECE;
-use crate::plan::make_plan;
 use crate::play::Steps;
 use crate::play::play;
 use block_checks::block_refusal;
 use instruments::is_nothing;
+use plans::make_plan;
 use slices::clear;
 use types::Hit;
 use types::Instrument;

@@ -8,13 +8,13 @@ ghost use Rattle.scheme.specs.Step.{nextAt};
 ghost use Rattle.scheme.specs.Refusals.{tooStrong};
 ghost use Rattle.steps.specs.Plan.{Ready, Neighbouring};
 ghost use Rattle.steps.specs.Run.{nextOf, Tested, Moves, OnLine, FreeEnd};
-use crate::arithmetic::is_within;
+use crate::arithmetic::is_below_limit;
 use crate::neighbours::around;
 use crate::neighbours::beside;
-use crate::plan::Plan;
 use crate::points::numerator_at;
 use crate::stretch::clamped;
 use crate::stretch::force_at;
+use plans::Plan;
 use types::Hit;
 
 // One point: sum is that of its neighbours.
@@ -24,7 +24,7 @@ fn is_point_within(plan: Plan, older: &[i64], newer: &[i64], at: usize, sum: i64
     ensures { λ r. ⌜ r ≡ not (beyond (nextAt (plan .instrument) hit (now (older .entry)) (now (newer .entry)) at)) ⌝ }
 {
     let force = force_at(hit, at);
-    is_within(plan, numerator_at(plan, older, newer, at, sum, 0, force))
+    is_below_limit(plan, numerator_at(plan, older, newer, at, sum, 0, force))
 }
 
 // Inner points of a line.

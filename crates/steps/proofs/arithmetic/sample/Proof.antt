@@ -1,46 +1,31 @@
--- `sample` meets its contract: rounded over 2²⁸, and what comes out fits in 16 bits.
-use mathlib.Core.Path.{_≡_, refl, sym, ap, _∙_, subst}
-use Prim.Native.Nat.{_^_}
-use native.Mathlib.Omega.{arith}
+-- `sample` meets its contract: what is read out of a value within the ceiling fits in 16 bits.
+use mathlib.Core.Path.{_≡_, sym, ap, _∙_, subst}
 use lib.IntN.{ℤ}
+use borrow.Author.Needs.{needs}
 use mir.Syntax.{w16, w64}
 use mir.Val.{SFits, toZ, ofZ}
-use Rattle.bounded.proofs.Num.{fits16, back16}
-use Rattle.bounded.proofs.Expr.{E, at, is, said}
-use Rattle.types.specs.Numbers.{ceiling}
+use Rattle.bounded.proofs.Num.{back, fits16, back16}
 use Rattle.scheme.specs.Step.{sampleOf}
 use Rattle.scheme.proofs.Laws.Rounding.{sample-rule}
-use Rattle.steps.specs.Plan.{Dividable}
-use Rattle.steps.proofs.Held.{held-below}
+use Rattle.steps.proofs.Held.{held}
 use Rattle.steps.proofs.arithmetic.sample.Statement.{statement}
 use Rattle.steps.proofs.arithmetic.sample.Tie as tie
 
--- the value as it was passed
-abbrev v# : tie.Start → E
-v# s = at (s .args .v) ceiling (s .pre)
+read : (c : tie.After-read-out) → toZ w64 (ofZ w64 (c .read-out .result)) ≡ sampleOf (c .before .args .v)
+read c = back (c .read-out .result) (c .read-out .ok) ∙ c .read-out .ensures ∙ ap sampleOf (held (c .before .pre))
 
-rounded : (c : tie.After-round-away) → toZ w64 (ofZ w64 (c .round-away .result .whole)) ≡ sampleOf (c .before .args .v)
-unfolding sampleOf
-rounded c =
-    let v = c .before .args .v in
-    let told = c .round-away .ensures .0 ∙ ap sampleOf (is (v# (c .before)) tt) in
-    ap (λ (z : ℤ). toZ w64 (ofZ w64 z)) told ∙ held-below 32767 tt (sample-rule .fits v (c .before .pre))
-
-round-away-requires : tie.Need-round-away-requires
-round-away-requires c κs =
-    said (λ (z : ℤ). Dividable z (2 ^ 28) (2 ^ 27)) (v# c) tt (omega (arith, c .pre), omega arith, omega arith, refl)
+read-out-requires : tie.Need-read-out-requires
+read-out-requires c κs = search needs
 
 cast-result : tie.Need-cast-result
 cast-result c =
-    let a = c .before .before in
-    let v = a .before .args .v in
-    subst (SFits w16) (sym (rounded a)) (fits16 (sampleOf v) (sample-rule .fits v (a .before .pre)) tt)
+    let v = c .before .args .v in
+    subst (SFits w16) (sym (read c)) (fits16 (sampleOf v) (sample-rule .fits v (c .before .pre)) tt)
 
 returns : tie.Need-returns
 returns c =
-    let a = c .before .before in
-    let v = a .before .args .v in
-    ap (λ (z : ℤ). toZ w16 (ofZ w16 z)) (rounded a) ∙ back16 (sampleOf v) (sample-rule .fits v (a .before .pre)) tt
+    let v = c .before .args .v in
+    ap (λ (z : ℤ). toZ w16 (ofZ w16 z)) (read c) ∙ back16 (sampleOf v) (sample-rule .fits v (c .before .pre)) tt
 
 pub sample-spec : {M : Type 1} → statement M
-sample-spec = tie.close (tie.spec round-away-requires cast-result returns)
+sample-spec = tie.close (tie.spec read-out-requires cast-result returns)

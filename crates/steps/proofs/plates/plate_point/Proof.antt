@@ -1,11 +1,11 @@
--- `plate_point` meets its contract: the point has the sum of its neighbours, and that of their sums.
+-- `plate_point` meets its contract: the point has the sum of its neighbours, and L of L by that of their sums.
 use mathlib.Core.Path.{_≡_, sym, ap, _∙_, subst}
 use mathlib.Core.Bool.{false, not}
 use mathlib.Core.List.{List}
 use Prim.Native.Nat.{ℕ, _+_, _-_, _*_, _≤_, _<_}
 use native.Mathlib.Omega.{arith}
 use borrow.Author.Needs.{needs}
-use lib.IntN.{ℤ}
+use lib.IntN.{ℤ, pos}
 use lib.ListN.{length, set}
 use mir.Syntax.{w64}
 use mir.Val.{Fits, toZ, ofZ}
@@ -13,11 +13,15 @@ use Rattle.bounded.proofs.Num.{back}
 use Rattle.types.specs.declared.Grid.{Grid}
 use Rattle.types.specs.Numbers.{ceiling}
 use Rattle.scheme.specs.Lists.{point}
-use Rattle.steps.specs.Plan.{Ready, Neighbouring}
+use Rattle.scheme.proofs.Laws.Step.{moving-inside}
+use Rattle.plans.specs.Plans.{countOf}
+use Rattle.plans.proofs.PlanLaws.{four-of}
+use Rattle.steps.specs.Plan.{bendingOf, Summable, Ready, Summed, Neighbouring}
 use Rattle.steps.specs.Plates.{TwoRows, InRow, Readable, secondAt}
-use Rattle.steps.proofs.Held.{held-below}
+use Rattle.steps.proofs.Held.{held, held-below}
 use Rattle.steps.proofs.KindLaws.{wide}
 use Rattle.steps.proofs.BesideLaws.{around-below}
+use Rattle.steps.proofs.PointLaws.{summable, bent}
 use Rattle.steps.proofs.PlateLaws.{below, readable, plate-beside, two-next}
 use Rattle.steps.proofs.plates.plate_point.Statement.{statement}
 use Rattle.steps.proofs.plates.plate_point.Tie as tie
@@ -77,21 +81,37 @@ module _ (s : tie.Start) where
 under-is : (c : tie.After-sum-below) → toZ w64 (ofZ w64 (c .sum-below .result)) ≡ under (c .before .before)
 under-is c = back (c .sum-below .result) (c .sum-below .ok) ∙ c .sum-below .ensures
 
--- the sums, as they were stored
-beside : (c : tie.After-second-at) → let s = c .before .before .before .before in
-    Neighbouring (s .args .plan .instrument) (s .args .newer .now) (k s)
-    (toZ w64 (ofZ w64 (point (sums s) (s .args .rows .here + (k s - s .args .rows .start)))))
-    (toZ w64 (ofZ w64 (c .second-at .result)))
-beside c =
-    let b = c .before .before in
-    let s = b .before .before in
-    let column = k s - s .args .rows .start in
-    let second = back (c .second-at .result) (c .second-at .ok) ∙ c .second-at .ensures
-    ∙ ap (secondAt (sums s) (s .args .rows) column) (under-is b) in
-    let z : ℤ = point (sums s) (s .args .rows .here + column) in
-    let sum : toZ w64 (ofZ w64 z) ≡ z = held-below (4 * ceiling) tt (two s .low (s .args .rows .here + column)) in
-    coe 1 0 (j. Neighbouring (s .args .plan .instrument) (s .args .newer .now) (k s) (sum j) (second j))
-    (plate-beside (ready s) (two s) (row s) (first s) (last s))
+-- once the sum of the sums is there
+module _ (c : tie.After-second-at) where
+  abbrev start : tie.Start
+  start = c .before .before .before .before
+
+  abbrev column : ℕ
+  column = k start - start .args .rows .start
+
+  abbrev sum : ℤ
+  sum = point (sums start) (start .args .rows .here + column)
+
+  abbrev second : ℤ
+  second = secondAt (sums start) (start .args .rows) column (under start)
+
+  summed : Summed (g start) (start .args .newer .now) (k start) sum second
+  summed = plate-beside (ready start) (two start) (row start) (first start) (last start)
+
+  -- as they were stored: four neighbours, the sums, and the point's own value
+  four : pos 4 ≡ pos (countOf (g start))
+  four = ap pos (sym (four-of (g start) (row start .grid)))
+
+  second-is : toZ w64 (ofZ w64 (c .second-at .result)) ≡ second
+  second-is =
+      back (c .second-at .result) (c .second-at .ok) ∙ c .second-at .ensures ∙
+      ap (secondAt (sums start) (start .args .rows) column) (under-is (c .before .before))
+
+  sum-is : toZ w64 (ofZ w64 sum) ≡ sum
+  sum-is = held-below (4 * ceiling) tt (two start .low (start .args .rows .here + column))
+
+  u-is : toZ w64 (ofZ w64 (point (start .args .newer .now) (k start))) ≡ point (start .args .newer .now) (k start)
+  u-is = held (ready start .newer-low (k start))
 
 sub-c : tie.Need-sub-c
 sub-c c = let s = c .before in omega (arith, first s, row s .first)
@@ -124,14 +144,35 @@ mul-below c = bytes-fit (c .before .before .before .before .before .before .befo
 slice-set-from-below : tie.Need-slice-set-from-below
 slice-set-from-below c = read (c .before .before .before .before .before .before .before) .other
 
-positive-divisor-requires : tie.Need-positive-divisor-requires
-positive-divisor-requires c κs = ready (c .before .before .before .before .before .before .before) .planned
+-- the point is in newer
+inside : (s : tie.Start) → k s < length (s .args .newer .now)
+inside s = omega (arith, ready s .newer-long, moving-inside (g s) (k s) (row s .moves .each (k s) (first s) (last s)))
+
+mul-bending : tie.Need-mul-bending
+mul-bending c = let h = inside (c .before .before .before .before .before .before .before) in search needs
+
+shared-slice-copy-out-bending : tie.Need-shared-slice-copy-out-bending
+shared-slice-copy-out-bending c = inside (c .before .before .before .before .before .before .before)
+
+bending-requires : tie.Need-bending-requires
+bending-requires c κs =
+    let b = c .before .before .before .before in
+    coe 1 0 (j. Summable (four b j) (second-is b j) (sum-is b j) (u-is b j)) (summable (ready (start b)) (summed b))
 
 next-point-requires : tie.Need-next-point-requires
 next-point-requires c κs =
-    let b = c .before .before .before .before .before in
-    let s = b .before .before .before .before in
-    ((ready s, beside b), (s .pre .0 .1, first s, last s, c .before .positive-divisor .ensures))
+    let e = c .before in
+    let b = e .before .before .before .before .before in
+    let s = start b in
+    let bent-is = back (e .bending .result) (e .bending .ok) ∙ e .bending .ensures ∙
+    (λ j. bendingOf (four b j) (sum-is b j) (second-is b j) (u-is b j)) in (
+      (
+        ready s,
+        coe 1 0 (j. Neighbouring (s .args .plan .instrument) (s .args .newer .now) (k s) (sum-is b j) (bent-is j))
+            (bent (ready s) (summed b)),
+      ),
+      (s .pre .0 .1, first s, last s),
+    )
 
 same-length : tie.Need-same-length
 same-length c = search needs
@@ -141,7 +182,7 @@ same-length-2 c = search needs
 
 returns : tie.Need-returns
 returns c =
-    let b = c .before .before .before .before .before .before .before .before .before in
+    let b = c .before .before .before .before .before .before .before .before .before .before in
     let s = b .before .before in (
       c .before .next-point .ensures,
       subst (λ (x : ℤ). TwoRows (g s) (s .args .newer .now) (set (sums s) (place s) x) (s .args .rows) (k s + 1)) (sym (under-is b))
@@ -161,7 +202,9 @@ plate-point-spec =
     add-below
     mul-below
     slice-set-from-below
-    positive-divisor-requires
+    mul-bending
+    shared-slice-copy-out-bending
+    bending-requires
     next-point-requires
     same-length
     same-length-2

@@ -1,20 +1,25 @@
--- `bar_run` meets its contract: each point has the sum of its neighbours, and those on either side.
-use mathlib.Core.Path.{_≡_, ap, _∙_}
+-- `bar_run` meets its contract: each point has the sum of its neighbours, and L of L by those on either side.
+use mathlib.Core.Path.{_≡_, sym, ap, _∙_}
 use Prim.Native.Nat.{ℕ, _+_, _-_, _≤_, _<_}
 use native.Mathlib.Omega.{arith}
 use borrow.Author.Needs.{needs}
 use borrow.Author.Tests.{not-true, not-false}
-use lib.IntN.{ℤ}
+use lib.IntN.{ℤ, pos, _+ℤ_}
 use lib.ListN.{length}
 use mir.Syntax.{w64}
 use mir.Val.{toZ, ofZ}
 use Rattle.bounded.proofs.Num.{back}
 use Rattle.bounded.proofs.Expr.{E, _⊞_, fits, is, red}
 use Rattle.scheme.specs.Instruments.{bar, kind}
-use Rattle.steps.specs.Plan.{Ready, Neighbouring}
+use Rattle.plans.specs.Plans.{countOf}
+use Rattle.plans.proofs.PlanLaws.{two-of}
+use Rattle.scheme.specs.Lists.{point}
+use Rattle.steps.specs.Plan.{bendingOf, Summable, Ready, Summed, Neighbouring}
 use Rattle.steps.specs.Run.{Next, nextBy, OnLine, barSum}
 use Rattle.steps.proofs.PlanLaws.{few-points}
 use Rattle.steps.proofs.KindLaws.{line-long}
+use Rattle.steps.proofs.Held.{held}
+use Rattle.steps.proofs.PointLaws.{summable, bent}
 use Rattle.steps.proofs.BendLaws.{bar#, bar-beside}
 use Rattle.steps.proofs.FillLaws.{placed-after, Running, running-start, running-on, running-most, running-stops, running-done}
 use Rattle.steps.proofs.points.bar_run.Statement.{statement}
@@ -94,15 +99,20 @@ module _ (c : tie.After-sum-at3 Inv-loop μ-loop) where
       bar# (s .args .newer .now) (ready s .newer-low) (k turn - 1) (turn .before .before .loop .inv .1)
       ⊞ bar# (s .args .newer .now) (ready s .newer-low) (k turn + 1) right-is
 
-  beside : Neighbouring (s .args .plan .instrument) (s .args .newer .now) (k turn) (toZ w64 (turn .before .before .loop .here)) (red outer#)
-  beside =
-      let i = s .args .plan .instrument in
-      coe 1 0 (j. Neighbouring i (s .args .newer .now) (k turn) (turn .before .before .loop .inv .2 j) (is outer# tt j))
-      (bar-beside i (is-bar s) (s .args .newer .now) (ready s .newer-long) (on s) (k turn) (first turn) (last turn))
+  summed : Summed (s .args .plan .instrument .grid) (s .args .newer .now) (k turn) (S s (k turn)) (S s (k turn - 1) +ℤ S s (k turn + 1))
+  summed = bar-beside (s .args .plan .instrument .grid) (is-bar s) (s .args .newer .now) (ready s .newer-long) (on s) (k turn)
+      (first turn) (last turn)
+
+  -- two neighbours, and the point's own value, as the machine has them
+  two : pos 2 ≡ pos (countOf (s .args .plan .instrument .grid))
+  two = ap pos (sym (two-of (s .args .plan .instrument .grid) (on s .line)))
+
+  u-is : toZ w64 (ofZ w64 (point (s .args .newer .now) (k turn))) ≡ point (s .args .newer .now) (k turn)
+  u-is = held (ready s .newer-low (k turn))
 
 -- once the point is done
 abbrev right : tie.After-out Inv-loop μ-loop → tie.After-sum-at3 Inv-loop μ-loop
-right c = c .before .before .before
+right c = c .before .before .before .before .before
 
 sub-sum-at : tie.Need-sub-sum-at Inv-loop μ-loop
 sub-sum-at c = on c .first
@@ -129,15 +139,33 @@ add-sum-at c = let h = inside c in search needs
 sum-at-requires-3 : tie.Need-sum-at-requires-3 Inv-loop μ-loop
 sum-at-requires-3 c κs = (inside c, ready (start c) .newer-low)
 
-add-next-point : tie.Need-add-next-point Inv-loop μ-loop
-add-next-point c = fits (outer# c) tt
+add-bending : tie.Need-add-bending Inv-loop μ-loop
+add-bending c = fits (outer# c) tt
+
+mul-bending : tie.Need-mul-bending Inv-loop μ-loop
+mul-bending c = let h = inside (turn c) in search needs
+
+shared-slice-copy-out-bending : tie.Need-shared-slice-copy-out-bending Inv-loop μ-loop
+shared-slice-copy-out-bending c = omega (arith, inside (turn c))
+
+bending-requires : tie.Need-bending-requires Inv-loop μ-loop
+bending-requires c κs =
+    let r = c .before in
+    coe 1 0 (j. Summable (two r j) (is (outer# r) tt j) (turn r .before .before .loop .inv .2 j) (u-is r j))
+    (summable (ready (s r)) (summed r))
 
 next-point-requires : tie.Need-next-point-requires Inv-loop μ-loop
 next-point-requires c κs =
-    let r = c .before in
+    let b = c .before in
+    let r = b .before .before in
     let t = turn r in
-    let s = start t in
-    ((ready s, beside r), (placed-after (s .pre .0 .1) (inv t .ran .long), first t, last t, ready s .planned .divisor-is))
+    let i = s r .args .plan .instrument in
+    let here = t .before .before .loop .inv .2 in
+    let bent-is = back (b .bending .result) (b .bending .ok) ∙ b .bending .ensures ∙
+    (λ j. bendingOf (two r j) (here j) (is (outer# r) tt j) (u-is r j)) in (
+      (ready (s r), coe 1 0 (j. Neighbouring i (s r .args .newer .now) (k t) (here j) (bent-is j)) (bent (ready (s r)) (summed r))),
+      (placed-after (s r .pre .0 .1) (inv t .ran .long), first t, last t),
+    )
 
 same-length : tie.Need-same-length Inv-loop μ-loop
 same-length c = search needs
@@ -195,7 +223,10 @@ bar-run-spec =
     loop-holds
     add-sum-at
     sum-at-requires-3
-    add-next-point
+    add-bending
+    mul-bending
+    shared-slice-copy-out-bending
+    bending-requires
     next-point-requires
     same-length
     returns

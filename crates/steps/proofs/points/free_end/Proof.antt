@@ -50,7 +50,7 @@ next-point-requires : tie.Need-next-point-requires
 next-point-requires c κs =
     let e = c .before .before in
     let s = e .before .before in
-    ((ready s, beside s (some e)), (s .pre .0 .1, omega arith, some e, ready s .planned .divisor-is))
+    ((ready s, beside s (some e)), (s .pre .0 .1, omega arith, some e))
 
 same-length : tie.Need-same-length
 same-length c = search needs

@@ -103,7 +103,7 @@ next-point-requires c κs =
     let b = c .before in
     let t = b .before in
     let s = start t in
-    ((ready s, beside b), (placed-after (s .pre .0 .1) (inv t .ran .long), first t, last t, ready s .planned .divisor-is))
+    ((ready s, beside b), (placed-after (s .pre .0 .1) (inv t .ran .long), first t, last t))
 
 same-length : tie.Need-same-length Inv-loop μ-loop
 same-length c = search needs

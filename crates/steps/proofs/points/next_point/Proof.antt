@@ -1,15 +1,18 @@
 -- `next_point` meets its contract: the value that its numerator is rounded to is the scheme's.
-use mathlib.Core.Path.{_≡_, sym, ap, _∙_, subst}
+use mathlib.Core.Path.{_≡_, refl, sym, ap, _∙_}
 use mathlib.Core.Bool.{Bool, true, false, cond, not, Bool·not-not}
-use Prim.Native.Nat.{ℕ, _+_, _-_, _^_, _≤_}
+use Prim.Native.Nat.{ℕ, _+_, _-_, _/_}
 use native.Mathlib.Omega.{arith}
 use borrow.Author.Needs.{needs}
 use borrow.Author.Tests.{ltb-false, not-true, not-false}
-use lib.IntN.{ℤ, natAbs}
+use lib.IntN.{ℤ}
 use lib.ListN.{set}
 use mir.Syntax.{w64}
 use mir.Val.{toZ, ofZ}
 use Rattle.bounded.proofs.Num.{back}
+use Rattle.rounding.specs.declared.Rounded.{Rounded}
+use Rattle.rounding.specs.Rounding.{roundedBy}
+use Rattle.rounding.proofs.RoundLaws.{rounded-is}
 use Rattle.types.specs.Numbers.{ceiling}
 use Rattle.scheme.specs.Instruments.{beyond}
 use Rattle.scheme.specs.Step.{roundAway, remainderOf, divisor, isMultiple}
@@ -18,7 +21,7 @@ use Rattle.steps.specs.Plan.{Ready, Neighbouring}
 use Rattle.steps.specs.Run.{Next, nextOver, nextBy, Ran}
 use Rattle.steps.proofs.Held.{held}
 use Rattle.steps.proofs.FillLaws.{passed, point-beyond, point-written, point-tested}
-use Rattle.steps.proofs.PlanLaws.{divisor-low, dividable}
+use Rattle.steps.proofs.PlanLaws.{divisor-is, half-is, divisor-low}
 use Rattle.steps.proofs.PointLaws.{force-held, ready-held, beside-held}
 use Rattle.steps.proofs.points.next_point.Statement.{statement}
 use Rattle.steps.proofs.points.next_point.Tie as tie
@@ -28,7 +31,7 @@ module _ (s : tie.Start) where
   ready : Ready (s .args .plan) (s .args .s .force) (s .args .older .now) (s .args .newer .now)
   ready = s .pre .0 .0
 
-  beside : Neighbouring (s .args .plan .instrument) (s .args .newer .now) (s .args .at) (s .args .sum) (s .args .second)
+  beside : Neighbouring (s .args .plan .instrument) (s .args .newer .now) (s .args .at) (s .args .sum) (s .args .b)
   beside = s .pre .0 .1
 
   abbrev next : ℕ → Next
@@ -52,7 +55,7 @@ module _ (c : tie.After-numerator-at) where
   made : nextOver stored d ≡ next start (start .args .at)
   made =
       let a = start .args in
-      ap (λ (n : ℤ). nextOver n d) stored-is ∙ c .numerator-at .ensures .0 ∙
+      ap (λ (n : ℤ). nextOver n d) stored-is ∙ c .numerator-at .ensures ∙
       ap (λ (z : ℤ). nextBy (a .plan .instrument) z (a .older .now) (a .newer .now) (a .at)) (force-held (ready start) (beside start))
 
   rounded : roundAway stored d ≡ next start (start .args .at) .value
@@ -61,23 +64,20 @@ module _ (c : tie.After-numerator-at) where
   counted : cond {A = ℕ} (not (isMultiple stored d)) 1 0 ≡ cond (next start (start .args .at) .inexact) 1 0
   counted = ap (λ (x : Next). cond {A = ℕ} (x .inexact) 1 0) made
 
-  numerator-low : natAbs stored ≤ 2 ^ 62
-  numerator-low = subst (λ (z : ℤ). natAbs z ≤ 2 ^ 62) (sym stored-is) (c .numerator-at .ensures .1)
-
 -- whether it lies beyond the ceiling
-module _ (c : tie.After-is-within) where
+module _ (c : tie.After-is-below-limit) where
   abbrev s : tie.Start
   s = start (c .before)
 
-  beyond-is : beyond (next s (s .args .at) .value) ≡ not (c .is-within .result)
+  beyond-is : beyond (next s (s .args .at) .value) ≡ not (c .is-below-limit .result)
   beyond-is =
-      ap beyond (sym (rounded (c .before))) ∙ sym (Bool·not-not _) ∙ ap not (sym (c .is-within .ensures))
+      ap beyond (sym (rounded (c .before))) ∙ sym (Bool·not-not _) ∙ ap not (sym (c .is-below-limit .ensures))
 
 numerator-at-requires : tie.Need-numerator-at-requires
 numerator-at-requires c κs = let s = c .before in (ready-held (ready s) (beside s), beside-held (ready s) (beside s))
 
-is-within-requires : tie.Need-is-within-requires
-is-within-requires c κs = (ready (start c) .planned, numerator-low c)
+is-below-limit-requires : tie.Need-is-below-limit-requires
+is-below-limit-requires c κs = ready (start c) .planned
 
 returns : tie.Need-returns
 returns c = point-beyond _ _ (beyond-is (c .before) ∙ c .if1 .taken)
@@ -87,14 +87,12 @@ returns-2 c =
     let e = c .before .before in
     point-tested _ _ (not-true _ (c .if2 .taken)) (beyond-is (e .before) ∙ e .if1 .left)
 
-round-away-requires : tie.Need-round-away-requires
-round-away-requires c κs =
-    let n = c .before .before .before .before in
-    dividable (ready (start n) .planned) (stored n) (numerator-low n) (start n .args .d) (start n .pre .1 .3)
+round-by-requires : tie.Need-round-by-requires
+round-by-requires c κs = search needs
 
 -- once it is rounded
-module _ (c : tie.After-round-away) where
-  abbrev within : tie.After-is-within
+module _ (c : tie.After-round-by) where
+  abbrev within : tie.After-is-below-limit
   within = c .before .before .before .before
 
   abbrev there : tie.Start
@@ -103,17 +101,23 @@ module _ (c : tie.After-round-away) where
   abbrev n : ℤ
   n = stored (within .before)
 
-  whole-is : toZ w64 (ofZ w64 (c .round-away .result .whole)) ≡ next there (there .args .at) .value
-  whole-is =
-      let told = c .round-away .ensures .0 ∙ ap (roundAway n) (there .pre .1 .3) ∙ rounded (within .before) in
-      let low = ltb-false ceiling _ (beyond-is within ∙ c .before .before .before .if1 .left) in
-      ap (λ (z : ℤ). toZ w64 (ofZ w64 z)) told ∙ held low
+  -- it is rounded over the divisor
+  over : c .round-by .result ≡ record { whole = roundAway n (d (within .before)); remainder = remainderOf n (d (within .before)) }
+  over =
+      let h = ready there .planned in
+      let d = d (within .before) in
+      c .round-by .ensures ∙ (λ j. roundedBy n (divisor-is h j) (half-is h j)) ∙ rounded-is n d (d / 2) (omega arith) refl
 
-  remainder-is : c .round-away .result .remainder ≡ remainderOf n (d (within .before))
-  remainder-is = c .round-away .ensures .1 ∙ ap (remainderOf n) (there .pre .1 .3)
+  whole-is : toZ w64 (ofZ w64 (c .round-by .result .whole)) ≡ next there (there .args .at) .value
+  whole-is =
+      let low = ltb-false ceiling _ (beyond-is within ∙ c .before .before .before .if1 .left) in
+      ap (λ (z : ℤ). toZ w64 (ofZ w64 z)) (ap (λ (x : Rounded). x .whole) over ∙ rounded (within .before)) ∙ held low
+
+  remainder-is : c .round-by .result .remainder ≡ remainderOf n (d (within .before))
+  remainder-is = ap (λ (x : Rounded). x .remainder) over
 
   -- as it was stored
-  remainder-held : toZ w64 (ofZ w64 (c .round-away .result .remainder)) ≡ remainderOf n (d (within .before))
+  remainder-held : toZ w64 (ofZ w64 (c .round-by .result .remainder)) ≡ remainderOf n (d (within .before))
   remainder-held =
       let small = remainder-rule n (d (within .before)) (omega arith) .small in
       ap (λ (z : ℤ). toZ w64 (ofZ w64 z)) remainder-is ∙ held (omega (arith, small, divisor-low (ready there .planned)))
@@ -121,7 +125,7 @@ module _ (c : tie.After-round-away) where
   -- written, and counted
   written : (t : Bool) → isMultiple n (d (within .before)) ≡ t
       → Ran (next there) (there .args .s .write) (there .args .s .base) (there .args .out .now)
-      (set (there .args .out .now) (there .args .at - there .args .s .base) (toZ w64 (ofZ w64 (c .round-away .result .whole))))
+      (set (there .args .out .now) (there .args .at - there .args .s .base) (toZ w64 (ofZ w64 (c .round-by .result .whole))))
       (there .args .at) (there .args .at + 1) (passed (cond (not t) 1 0))
   written t e =
       point-written _ _ _ _ (not-false _ (c .before .if2 .left)) (omega (arith, there .pre .1)) (omega (arith, there .pre .1)) whole-is
@@ -134,7 +138,7 @@ sub-whole c = let s = there (c .before .before) in omega (arith, s .pre .1)
 mul-whole : tie.Need-mul-whole
 mul-whole c =
     let s = there (c .before .before) in
-    let out-good = s .good .1 .1 .1 .1 .1 .1 .1 .1 .0 in
+    let out-good = s .good .1 .1 .1 .1 .1 .1 .1 .0 in
     let placed = s .pre .1 in
     search needs
 
@@ -162,10 +166,10 @@ next-point-spec =
     tie.close
     (tie.spec
     numerator-at-requires
-    is-within-requires
+    is-below-limit-requires
     returns
     returns-2
-    round-away-requires
+    round-by-requires
     sub-whole
     mul-whole
     slice-set-from-whole

@@ -1,9 +1,9 @@
 -- `numerator_at` meets its contract: the numerator is the scheme's.
-use mathlib.Core.Path.{_≡_, sym, ap, _∙_, subst}
-use Prim.Native.Nat.{_*_, _^_, _≤_, _<_}
+use mathlib.Core.Path.{_≡_, ap, _∙_}
+use Prim.Native.Nat.{_*_, _<_}
 use native.Mathlib.Omega.{arith}
 use borrow.Author.Needs.{needs}
-use lib.IntN.{ℤ, pos, natAbs, _-ℤ_, _*ℤ_}
+use lib.IntN.{ℤ, pos, _-ℤ_, _*ℤ_}
 use lib.ListN.{length}
 use mir.Syntax.{w64}
 use mir.Val.{toZ, ofZ}
@@ -12,10 +12,10 @@ use Rattle.types.specs.Numbers.{ceiling}
 use Rattle.scheme.specs.Lists.{point}
 use Rattle.scheme.specs.Step.{numeratorOf, divisor}
 use Rattle.scheme.proofs.Laws.Step.{moving-inside}
-use Rattle.steps.specs.Plan.{countOf, bendingOf, Updatable, Ready, Neighbouring}
+use Rattle.plans.specs.Plans.{countOf}
+use Rattle.steps.specs.Plan.{Updatable, Ready, Neighbouring}
 use Rattle.steps.specs.Run.{nextOver}
 use Rattle.steps.proofs.Held.{held, held-below}
-use Rattle.steps.proofs.NumeratorLaws.{numerator-below}
 use Rattle.steps.proofs.PointLaws.{updatable, next-is}
 use Rattle.steps.proofs.points.numerator_at.Statement.{statement}
 use Rattle.steps.proofs.points.numerator_at.Tie as tie
@@ -25,7 +25,7 @@ module _ (s : tie.Start) where
   ready : Ready (s .args .plan) (s .args .force) (s .args .older .now) (s .args .newer .now)
   ready = s .pre .0
 
-  beside : Neighbouring (s .args .plan .instrument) (s .args .newer .now) (s .args .at) (s .args .sum) (s .args .second)
+  beside : Neighbouring (s .args .plan .instrument) (s .args .newer .now) (s .args .at) (s .args .sum) (s .args .b)
   beside = s .pre .1
 
   -- the point is in both levels
@@ -45,7 +45,7 @@ module _ (s : tie.Start) where
   abbrev f : ℤ
   f = s .args .force
 
-  given : Updatable (s .args .plan) u (s .args .sum) (s .args .second) p f
+  given : Updatable (s .args .plan) u (s .args .sum) (s .args .b) p f
   given = updatable ready beside
 
   u-is : toZ w64 (ofZ w64 u) ≡ u
@@ -54,8 +54,8 @@ module _ (s : tie.Start) where
   sum-is : toZ w64 (ofZ w64 (s .args .sum)) ≡ s .args .sum
   sum-is = held-below (4 * ceiling) tt (given .sum-low)
 
-  second-is : toZ w64 (ofZ w64 (s .args .second)) ≡ s .args .second
-  second-is = held-below (16 * ceiling) tt (given .second-low)
+  b-is : toZ w64 (ofZ w64 (s .args .b)) ≡ s .args .b
+  b-is = held-below (64 * ceiling) tt (given .b-low)
 
   p-is : toZ w64 (ofZ w64 p) ≡ p
   p-is = held (given .older-low)
@@ -68,8 +68,7 @@ module _ (s : tie.Start) where
 
   abbrev numerator-there : ℤ
   numerator-there =
-      numeratorOf (s .args .plan .instrument .settings) u (s .args .sum -ℤ count *ℤ u)
-      (bendingOf count (s .args .sum) (s .args .second) u) p f
+      numeratorOf (s .args .plan .instrument .settings) u (s .args .sum -ℤ count *ℤ u) (s .args .b) p f
 
 -- the numerator, as it was stored
 module _ (c : tie.After-numerator) where
@@ -80,8 +79,8 @@ module _ (c : tie.After-numerator) where
   numerator-is =
       let s = start in
       c .numerator .ensures ∙
-      (λ j. numeratorOf (s .args .plan .instrument .settings) (u-is s j) (sum-is s j -ℤ count s *ℤ u-is s j)
-      (bendingOf (count s) (sum-is s j) (second-is s j) (u-is s j)) (p-is s j) (f-is s j))
+      (λ j. numeratorOf (s .args .plan .instrument .settings) (u-is s j) (sum-is s j -ℤ count s *ℤ u-is s j) (b-is s j) (p-is s j)
+      (f-is s j))
 
 mul-numerator : tie.Need-mul-numerator
 mul-numerator c = let h = in-newer c in search needs
@@ -99,16 +98,14 @@ numerator-requires : tie.Need-numerator-requires
 numerator-requires c κs =
     let s = c .before .before in (
       ready s .planned,
-      coe 1 0 (j. Updatable (s .args .plan) (u-is s j) (sum-is s j) (second-is s j) (p-is s j) (f-is s j)) (given s),
+      coe 1 0 (j. Updatable (s .args .plan) (u-is s j) (sum-is s j) (b-is s j) (p-is s j) (f-is s j)) (given s),
     )
 
 returns : tie.Need-returns
 returns c =
     let s = start c in
-    let is = back (c .numerator .result) (c .numerator .ok) ∙ numerator-is c in (
-      ap (λ (n : ℤ). nextOver n (divisor (s .args .plan .instrument .settings))) is ∙ next-is (ready s) (beside s),
-      subst (λ (z : ℤ). natAbs z ≤ 2 ^ 62) (sym is) (numerator-below (ready s .planned) (given s)),
-    )
+    ap (λ (n : ℤ). nextOver n (divisor (s .args .plan .instrument .settings)))
+    (back (c .numerator .result) (c .numerator .ok) ∙ numerator-is c) ∙ next-is (ready s) (beside s)
 
 pub numerator-at-spec : {M : Type 1} → statement M
 numerator-at-spec =

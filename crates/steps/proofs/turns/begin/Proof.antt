@@ -5,11 +5,21 @@ use borrow.Author.Needs.{needs}
 use Rattle.types.specs.declared.Refusal.the-variants.{Nothing}
 use Rattle.scheme.specs.Refusals.{blockRefusal}
 use Rattle.scheme.proofs.Laws.Refusals.{instrument-passes, block-passes}
-use Rattle.steps.specs.declared.plan.Plan.{Plan}
-use Rattle.steps.proofs.PlanLaws.{few-rows}
+use Rattle.plans.specs.declared.Plan.{Plan}
+use Rattle.steps.specs.Plan.{Planned}
+use Rattle.steps.proofs.PlanLaws.{made, few-rows}
 use Rattle.steps.proofs.TurnLaws.{pick-inside, first-steppable, own-steps, opened}
 use Rattle.steps.proofs.turns.begin.Statement.{statement}
 use Rattle.steps.proofs.turns.begin.Tie as tie
+
+-- the plan is the instrument's
+told : (c : tie.After-make-plan) → (c .make-plan .result .instrument ≡ c .before .args .i) × Planned (c .make-plan .result)
+told c =
+    let a = c .before .args in
+    made (a .i)
+    (instrument-passes (a .i)
+    (block-passes (a .i) (a .older .now) (a .newer .now) false (a .pick) (a .hit) (c .before .pre .0) .instrument))
+    (c .make-plan .result) (c .make-plan .ensures)
 
 -- where the steps begin: how the call began, and the plan
 module _ (c : tie.After-play-arg4) where
@@ -31,10 +41,7 @@ module _ (c : tie.After-play-arg4) where
   passes = start .pre .0
 
 make-plan-requires : tie.Need-make-plan-requires
-make-plan-requires c κs =
-    let a = c .args in
-    instrument-passes (a .i)
-    (block-passes (a .i) (a .older .now) (a .newer .now) false (a .pick) (a .hit) (c .pre .0) .instrument)
+make-plan-requires c κs = search needs
 
 slice-aggregate-row-edges : tie.Need-slice-aggregate-row-edges
 slice-aggregate-row-edges c = search needs
@@ -44,7 +51,7 @@ slice-aggregate-row-edges-2 c = search needs
 
 row-edges-requires : tie.Need-row-edges-requires
 row-edges-requires c κs =
-    let plan = c .before .before .make-plan .ensures .1 in
+    let plan = told (c .before .before) .1 in
     let few = few-rows plan in
     (plan .passes .size, few, few)
 
@@ -54,12 +61,12 @@ clear-requires c κs = search needs
 play-requires : tie.Need-play-requires
 play-requires c κs =
     let a = start c .args in
-    let m = planned c .make-plan in (
+    let m = told (planned c) in (
       (
-        first-steppable (a .i) (a .older .now) (a .newer .now) (a .pick) (a .hit) (passes c) (plan c) (m .ensures .0)
-            (m .ensures .1) (a .work .now) _
+        first-steppable (a .i) (a .older .now) (a .newer .now) (a .pick) (a .hit) (passes c) (plan c) (m .0)
+            (m .1) (a .work .now) _
             (c .before .before .before .before .before .before .before .clear .ensures) (start c .pre .1),
-        pick-inside (a .i) (a .older .now) (a .newer .now) (a .pick) (a .hit) (passes c) (plan c) (m .ensures .0),
+        pick-inside (a .i) (a .older .now) (a .newer .now) (a .pick) (a .hit) (passes c) (plan c) (m .0),
       ),
       edged c .row-edges .ensures,
     )
@@ -82,7 +89,7 @@ returns c =
     let b = q .before in
     let a = start b .args in
     let p = q .play .ensures in (
-      own-steps (a .i) (a .older .now) (a .newer .now) (a .pick) (a .hit) (passes b) (plan b) (planned b .make-plan .ensures .0)
+      own-steps (a .i) (a .older .now) (a .newer .now) (a .pick) (a .hit) (passes b) (plan b) (told (planned b) .0)
           (a .samples .now) (opened (start b .pre .1) _ _ _ _ _ _ _ (p .0)),
       p .1,
     )

@@ -1,7 +1,7 @@
 -- `is_point_within` meets its contract: by the numerator with the hit's force.
 use mathlib.Core.Path.{_≡_, sym, ap, _∙_, subst}
 use mathlib.Core.Bool.{not}
-use Prim.Native.Nat.{_^_, _≤_}
+use Prim.Native.Nat.{_≤_}
 use lib.IntN.{ℤ, natAbs}
 use mir.Syntax.{w64}
 use mir.Val.{toZ, ofZ}
@@ -34,20 +34,19 @@ numerator-at-requires c κs =
 stored-is : (c : tie.After-numerator-at) → toZ w64 (ofZ w64 (c .numerator-at .result)) ≡ c .numerator-at .result
 stored-is c = back (c .numerator-at .result) (c .numerator-at .ok)
 
-is-within-requires : tie.Need-is-within-requires
-is-within-requires c κs =
-    (c .before .before .pre .0 .planned, subst (λ (z : ℤ). natAbs z ≤ 2 ^ 62) (sym (stored-is c)) (c .numerator-at .ensures .1))
+is-below-limit-requires : tie.Need-is-below-limit-requires
+is-below-limit-requires c κs = c .before .before .pre .0 .planned
 
 returns : tie.Need-returns
 returns c =
     let n = c .before in
     let s = n .before .before in
     let a = s .args in
-    let made = n .numerator-at .ensures .0 ∙
+    let made = n .numerator-at .ensures ∙
     next-value (a .plan .instrument) (a .hit) (a .older .now) (a .newer .now) _ (a .at) (s .pre .2 .moves) (sym (force-is (n .before))) in
-    c .is-within .ensures ∙
+    c .is-below-limit .ensures ∙
     ap (λ (z : ℤ). not (beyond (roundAway z (divisor (a .plan .instrument .settings))))) (stored-is n) ∙
     ap (λ (x : Next). not (beyond (x .value))) made
 
 pub is-point-within-spec : {M : Type 1} → statement M
-is-point-within-spec = tie.close (tie.spec force-at-requires numerator-at-requires is-within-requires returns)
+is-point-within-spec = tie.close (tie.spec force-at-requires numerator-at-requires is-below-limit-requires returns)

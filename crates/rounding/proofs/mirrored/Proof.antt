@@ -6,10 +6,10 @@ use lib.IntN.{ℤ}
 use mir.Syntax.{w64}
 use mir.Val.{toZ, ofZ}
 use Rattle.bounded.proofs.Num.{back}
-use Rattle.steps.specs.Plan.{signOf}
-use Rattle.steps.proofs.RoundLaws.{mirror-bits}
-use Rattle.steps.proofs.arithmetic.mirrored.Statement.{statement}
-use Rattle.steps.proofs.arithmetic.mirrored.Tie as tie
+use Rattle.rounding.specs.Rounding.{signOf}
+use Rattle.rounding.proofs.RoundLaws.{mirror-bits}
+use Rattle.rounding.proofs.mirrored.Statement.{statement}
+use Rattle.rounding.proofs.mirrored.Tie as tie
 
 -- the sign of the number itself
 sign-is : (c : tie.After-sign) → c .sign .result ≡ signOf (c .before .args .n)

@@ -8,15 +8,15 @@ use mir.Syntax.{w64}
 use mir.Val.{toZ, ofZ}
 use Rattle.bounded.proofs.Num.{back}
 use Rattle.bounded.proofs.Expr.{E, at, via, _⊟_, fits, is}
-use Rattle.steps.specs.Plan.{signOf, mirrorOf}
-use Rattle.steps.proofs.RoundLaws.{sign-size, mirror-size, mirror-signed}
-use Rattle.steps.proofs.arithmetic.signed.Statement.{statement}
-use Rattle.steps.proofs.arithmetic.signed.Tie as tie
+use Rattle.rounding.specs.Rounding.{signOf, mirrorOf}
+use Rattle.rounding.proofs.RoundLaws.{sign-size, mirror-size, mirror-signed}
+use Rattle.rounding.proofs.signed.Statement.{statement}
+use Rattle.rounding.proofs.signed.Tie as tie
 
 -- the numbers as they were passed
 module _ (s : tie.Start) where
   abbrev x# : E
-  x# = at (s .args .x) (2 ^ 62 + 2 ^ 30) (s .pre)
+  x# = at (s .args .x) (2 ^ 62 + 2 ^ 31) (s .pre)
 
   n-is : toZ w64 (ofZ w64 (s .args .n)) ≡ s .args .n
   n-is = back (s .args .n) (s .fits .n .sfits)
@@ -35,7 +35,7 @@ module _ (c : tie.After-sign) where
 
   abbrev signed# : E
   signed# =
-      via {B = 2 ^ 62 + 2 ^ 31}
+      via {B = 2 ^ 62 + 2 ^ 32}
       (record { is = mirrored-is; size = le-trans (mirror-size (start .args .n) (start .args .x)) (omega (arith, start .pre)) })
       ⊟ via {B = 1} (record { is = sign-is; size = sign-size (start .args .n) })
 
