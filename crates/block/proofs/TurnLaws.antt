@@ -2,6 +2,7 @@
 use mathlib.Core.Path.{_≡_, sym, ap, _∙_}
 use mathlib.Core.Bool.{Bool, true, false, cond}
 use mathlib.Core.List.{List}
+use Prim.Native.Nat.{ℕ, _%_}
 use lib.IntN.{ℤ, pos}
 use lib.ListN.{length, replicate}
 use Rattle.types.specs.declared.BlockAnswer.{BlockAnswer}
@@ -24,7 +25,7 @@ module _ {r : Refusal} {b : AfterBlock} {t : InTurn} {older newer work samples :
   pub left-refused : t .begun ≡ false → blockLeft told older newer work samples ≡ b
   left-refused e =
       let kept = q .refused e in
-      let roles = roles-at (t .phase) older newer work 0 (kept .0) in
+      let roles = roles-at (t .phase) older newer work 0 (q .phase-is ∙ ap (λ (n : ℕ). n % 3) (kept .0)) in
       let first = sym (roles .older-is) ∙ q .older-is in
       let second = sym (roles .newer-is) ∙ q .newer-is in
       λ k. blockLeft (answer k) (first k) (second k) (kept .1 k) (q .samples-are k)

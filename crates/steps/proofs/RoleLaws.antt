@@ -1,11 +1,11 @@
 -- The roles of the slices.
 use mathlib.Core.Path.{_≡_, refl, sym, ap, _∙_, subst}
-use mathlib.Core.Bool.{Bool, true, false, true≢false}
+use mathlib.Core.Bool.{Bool, true, false, not, true≢false}
 use mathlib.Core.List.{List}
 use mathlib.Core.Logic.{⊎-elim}
-use Prim.Native.Nat.{ℕ, zero, suc, _≤_, _<_}
-use native.Mathlib.Decide.{decLt}
+use Prim.Native.Nat.{ℕ, zero, suc, _+_, _%_, _≤_, _<_}
 use native.Mathlib.Omega.{arith}
+use lib.Dec.{eqb}
 use lib.IntN.{ℤ}
 use lib.ListN.{length}
 use Rattle.types.specs.declared.Instrument.{Instrument}
@@ -13,7 +13,7 @@ use Rattle.types.specs.declared.Hit.{Hit}
 use Rattle.scheme.specs.Instruments.{points}
 use Rattle.plans.specs.declared.Plan.{Plan}
 use Rattle.steps.specs.declared.progress.Progress.{Progress}
-use Rattle.steps.specs.Roles.{Steppable, Stepped, SteppedInPlace, SteppedIn, SameLevels, piece, turnedOf, olderOf, newerOf, outOf}
+use Rattle.steps.specs.Roles.{Steppable, Stepped, SteppedInPlace, SteppedIn, piece, turnedOf, phaseAfter, olderOf, newerOf, outOf}
 use Rattle.steps.specs.Pass.{Passable, Passed}
 
 -- ---- a phase that is none of 0 to 3
@@ -182,26 +182,58 @@ turned-room P (suc (suc zero)) a b c x y = x (omega arith)
 turned-room P (suc (suc (suc zero))) a b c x y = y
 turned-room P (suc (suc (suc (suc k)))) a b c x y = y
 
+-- ---- the phase after n steps
+
 -- as many levels as before
-pub turned-levels : {first : ℕ} (p : ℕ) → SameLevels first p → SameLevels first (turnedOf p)
-turned-levels p s = record { three = λ l. below p (s .three l); two = λ l. above p (s .two l) }
+pub phase-two : (first n : ℕ) → 3 ≤ phaseAfter first n → 3 ≤ first
+unfolding phaseAfter
+phase-two first zero l = l
+phase-two first (suc n) l = phase-two first n (from (phaseAfter first n) l)
   where
-    below : (p : ℕ) → p < 3 → turnedOf p < 3
-    below zero l = omega arith
-    below (suc zero) l = omega arith
-    below (suc (suc zero)) l = omega arith
-    below (suc (suc (suc k))) l = absurd (omega arith)
+    from : (p : ℕ) → 3 ≤ turnedOf p → 3 ≤ p
+    from zero l = absurd (omega arith)
+    from (suc zero) l = absurd (omega arith)
+    from (suc (suc zero)) l = absurd (omega arith)
+    from (suc (suc (suc k))) l = omega arith
 
-    above : (p : ℕ) → 3 ≤ p → 3 ≤ turnedOf p
-    above zero l = absurd (omega arith)
-    above (suc zero) l = absurd (omega arith)
-    above (suc (suc zero)) l = absurd (omega arith)
-    above (suc (suc (suc zero))) l = omega arith
-    above (suc (suc (suc (suc k)))) l = omega arith
+pub phase-start : (first : ℕ) → first ≡ phaseAfter first 0
+unfolding phaseAfter
+phase-start first = refl
 
-pub levels-two : {p q : ℕ} → SameLevels p q → 3 ≤ q → 3 ≤ p
-levels-two {p} s l = go (decLt p 3)
+pub phase-next : (first n m : ℕ) → suc n ≡ m → turnedOf (phaseAfter first n) ≡ phaseAfter first m
+unfolding phaseAfter
+phase-next first n m e = ap (phaseAfter first) e
+
+-- of three levels it is the number of steps modulo 3
+pub phase-three : (n : ℕ) → phaseAfter 0 n ≡ n % 3
+unfolding phaseAfter
+phase-three zero = refl
+phase-three (suc n) = ap turnedOf (phase-three n) ∙ go (n % 3) refl
   where
-    go : Dec (p < 3) → 3 ≤ p
-    go (yes h) = absurd (omega (arith, s .three h, l))
-    go (no h) = omega (arith, h)
+    go : (m : ℕ) → m ≡ n % 3 → turnedOf m ≡ suc n % 3
+    go zero e = omega (arith, e)
+    go (suc zero) e = omega (arith, e)
+    go (suc (suc zero)) e = omega (arith, e)
+    go (suc (suc (suc k))) e = absurd (omega (arith, e))
+
+-- of two levels each stands in the other's slice after an odd number of steps
+phase-odd : (n : ℕ) → phaseAfter 3 n ≡ 3 + n % 2
+unfolding phaseAfter
+phase-odd zero = refl
+phase-odd (suc n) = ap turnedOf (phase-odd n) ∙ go (n % 2) refl
+  where
+    go : (m : ℕ) → m ≡ n % 2 → turnedOf (3 + m) ≡ 3 + suc n % 2
+    go zero e = omega (arith, e)
+    go (suc zero) e = omega (arith, e)
+    go (suc (suc k)) e = absurd (omega (arith, e))
+
+pub phase-many : (n : ℕ) → 3 ≤ phaseAfter 3 n
+phase-many n = omega (arith, phase-odd n)
+
+pub phase-exchanged : (n : ℕ) → not (eqb (phaseAfter 3 n) 3) ≡ eqb (n % 2) 1
+phase-exchanged n = ap (λ (p : ℕ). not (eqb p 3)) (phase-odd n) ∙ go (n % 2) refl
+  where
+    go : (m : ℕ) → m ≡ n % 2 → not (eqb (3 + m) 3) ≡ eqb m 1
+    go zero e = refl
+    go (suc zero) e = refl
+    go (suc (suc k)) e = absurd (omega (arith, e))

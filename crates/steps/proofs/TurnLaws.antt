@@ -2,7 +2,7 @@
 use mathlib.Core.Path.{_≡_, refl, sym, ap, _∙_, subst}
 use mathlib.Core.Bool.{Bool, true, false, cond, not, true≢false}
 use mathlib.Core.List.{List}
-use Prim.Native.Nat.{ℕ, zero, suc, _≤_, _<_}
+use Prim.Native.Nat.{ℕ, zero, suc, _%_, _≤_, _<_}
 use native.Mathlib.Omega.{arith}
 use borrow.Author.Tests.{ne-eqb}
 use lib.Dec.{ltb, eqb}
@@ -23,9 +23,10 @@ use Rattle.scheme.proofs.Laws.Calls.{stands-behind, block-refused, block-done, 
 use Rattle.plans.specs.declared.Plan.{Plan}
 use Rattle.steps.specs.declared.play.Steps.{Steps}
 use Rattle.steps.specs.Plan.{Planned}
-use Rattle.steps.specs.Roles.{Room, Steppable, Begins, Played, olderOf, newerOf}
+use Rattle.steps.specs.Roles.{Room, Steppable, Begins, Played, phaseAfter, olderOf, newerOf}
 use Rattle.steps.specs.Turns.{Opens, three, two, Turned, TurnedInPlace}
 use Rattle.steps.proofs.PlayLaws.{room-of}
+use Rattle.steps.proofs.RoleLaws.{phase-three, phase-many, phase-exchanged}
 
 -- what nothing refuses is refused for nothing else that was lent, and work has the grid's length
 pub rest-right : (i : Instrument) (older newer : List ℤ) (wrong : Bool) (pick : ℕ) (h : Hit)
@@ -117,13 +118,13 @@ module _ (i : Instrument) (older newer work samples : List ℤ) (pick : ℕ) (h 
         older-is = ap (λ (b : AfterBlock). b .older) b;
         newer-is = ap (λ (b : AfterBlock). b .newer) b;
         samples-are = ap (λ (b : AfterBlock). b .samples) b;
-        three = omega arith;
-        refused = λ t. (refl, ap (λ (b : AfterBlock). b .work) b);
+        phase-is = ap (λ (b : AfterBlock). b .answer .steps % 3) b;
+        refused = λ t. (sym (ap (λ (b : AfterBlock). b .answer .steps) b), ap (λ (b : AfterBlock). b .work) b);
         carried = λ t. absurd (true≢false (sym t));
       }
 
   -- one that is carried out: 13 where places are left
-  module _ (e : refuses ≡ Nothing) {r : Steps} {older₁ newer₁ work₁ samples₁ : List ℤ} {refusal : Refusal} (levels : r .phase < 3)
+  module _ (e : refuses ≡ Nothing) {r : Steps} {older₁ newer₁ work₁ samples₁ : List ℤ} {refusal : Refusal} (phase : r .phase ≡ phaseAfter 0 (r .done))
       (older-kept : length older₁ ≡ length older) (newer-kept : length newer₁ ≡ length newer) (work-kept : length work₁ ≡ length work)
       (s : Played (play i pick h older newer samples) (length samples) r (olderOf (r .phase) older₁ newer₁ work₁)
       (newerOf (r .phase) older₁ newer₁ work₁) samples₁) where
@@ -146,7 +147,7 @@ module _ (i : Instrument) (older newer work samples : List ℤ) (pick : ℕ) (h 
           older-is = s .older-is ∙ ap (λ (b : AfterBlock). b .older) b;
           newer-is = s .newer-is ∙ ap (λ (b : AfterBlock). b .newer) b;
           samples-are = s .samples-are ∙ ap (λ (b : AfterBlock). b .samples) b;
-          three = levels;
+          phase-is = phase ∙ phase-three (r .done) ∙ ap (λ (n : ℕ). n % 3) (s .done-is ∙ ap (λ (b : AfterBlock). b .answer .steps) b);
           refused = λ t. absurd (true≢false t);
           carried = λ t. record {
             newer-long = newer-kept ∙ passes .newer-passes .long ∙ sym (passes .older-passes .long) ∙ sym older-kept;
@@ -173,12 +174,13 @@ module _ (i : Instrument) (older newer samples : List ℤ) (pick : ℕ) (h : Hit
         older-is = ap (λ (b : AfterInPlace). b .older) b;
         newer-is = ap (λ (b : AfterInPlace). b .newer) b;
         samples-are = ap (λ (b : AfterInPlace). b .samples) b;
+        exchanged-is = ap (λ (b : AfterInPlace). eqb (b .answer .steps % 2) 1) b;
         same-long = λ t. absurd (true≢false (sym t));
       }
 
   -- one that is carried out
   module _ (e : refuses-two ≡ Nothing) {r : Steps} {older₁ newer₁ samples₁ : List ℤ} {refusal : Refusal} (third₁ : List ℤ)
-      (levels : 3 ≤ r .phase)
+      (phase : r .phase ≡ phaseAfter 3 (r .done))
       (older-kept : length older₁ ≡ length older) (newer-kept : length newer₁ ≡ length newer)
       (s : Played (play i pick h older newer samples) (length samples) r (olderOf (r .phase) older₁ newer₁ third₁)
       (newerOf (r .phase) older₁ newer₁ third₁) samples₁) where
@@ -188,7 +190,7 @@ module _ (i : Instrument) (older newer samples : List ℤ) (pick : ℕ) (h : Hit
     carried-out-two d =
         let b = sym (in-place-done i older newer samples pick h e) in
         let passes = block-passes i older newer false pick h e in
-        let two = two-slices (r .phase) older₁ newer₁ third₁ levels in
+        let two = two-slices (r .phase) older₁ newer₁ third₁ (subst (λ (p : ℕ). 3 ≤ p) (sym phase) (phase-many (r .done))) in
         let places : length samples₁ ≡ length samples =
         ap length (s .samples-are) ∙ stands-behind i pick h older newer samples .places-long in
         record {
@@ -199,5 +201,7 @@ module _ (i : Instrument) (older newer samples : List ℤ) (pick : ℕ) (h : Hit
           older-is = two .0 ∙ s .older-is ∙ ap (λ (b : AfterInPlace). b .older) b;
           newer-is = two .1 ∙ s .newer-is ∙ ap (λ (b : AfterInPlace). b .newer) b;
           samples-are = s .samples-are ∙ ap (λ (b : AfterInPlace). b .samples) b;
+          exchanged-is = ap (λ (p : ℕ). not (eqb p 3)) phase ∙ phase-exchanged (r .done)
+              ∙ ap (λ (n : ℕ). eqb (n % 2) 1) (s .done-is ∙ ap (λ (b : AfterInPlace). b .answer .steps) b);
           same-long = λ t. newer-kept ∙ passes .newer-passes .long ∙ sym (passes .older-passes .long) ∙ sym older-kept;
         }

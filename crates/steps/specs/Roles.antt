@@ -87,10 +87,10 @@ outOf (suc (suc (suc (suc k)))) a b c = b
 abbrev pub piece : ℕ
 piece = 64
 
--- phases of as many levels
-pub record SameLevels (p q : ℕ) : Type 0 where
-  pub three : p < 3 → q < 3
-  pub two : 3 ≤ p → 3 ≤ q
+-- the phase after n steps that began in the phase `first`
+unfoldable pub phaseAfter : (first n : ℕ) → ℕ
+phaseAfter first zero = first
+phaseAfter first (suc n) = turnedOf (phaseAfter first n)
 
 -- of two levels the third slice has room for a piece of a row
 abbrev pub Third : ℕ → (c : List ℤ) → Type 0

@@ -3,7 +3,8 @@
 use mathlib.Core.Path.{_≡_}
 use mathlib.Core.Bool.{true, false, cond}
 use mathlib.Core.List.{List}
-use Prim.Native.Nat.{ℕ, _≤_, _<_}
+use Prim.Native.Nat.{ℕ, _%_, _≤_}
+use lib.Dec.{eqb}
 use lib.IntN.{ℤ, pos}
 use lib.ListN.{length, replicate}
 use Rattle.types.specs.declared.Refusal.{Refusal}
@@ -25,8 +26,8 @@ pub record Exchangeable (zeros older newer work : List ℤ) : Type 0 where
   pub work-long : length work ≡ length older
   pub zeros-are : zeros ≡ replicate (length work) (pos 0)
 
--- the answer and the samples of the block b, and its levels in the slices that the phase tells. r is what refuses it: a refused call
--- leaves every slice as b does. Of a call that is carried out the third slice may hold anything.
+-- the answer and the samples of the block b, and its levels in the slices that the phase tells, which goes by the steps done. r is what
+-- refuses it: a refused call leaves every slice as b does. Of a call that is carried out the third slice may hold anything.
 pub record Turned (r : Refusal) (b : AfterBlock) (t : InTurn) (older newer work samples : List ℤ) : Type 0 where
   pub begun-is : t .begun ≡ accepted r
   pub steps-are : t .steps ≡ b .answer .steps
@@ -35,11 +36,12 @@ pub record Turned (r : Refusal) (b : AfterBlock) (t : InTurn) (older newer work 
   pub older-is : olderOf (t .phase) older newer work ≡ b .older
   pub newer-is : newerOf (t .phase) older newer work ≡ b .newer
   pub samples-are : samples ≡ b .samples
-  pub three : t .phase < 3
-  pub refused : t .begun ≡ false → (t .phase ≡ 0) × (work ≡ b .work)
+  pub phase-is : t .phase ≡ b .answer .steps % 3
+  pub refused : t .begun ≡ false → (b .answer .steps ≡ 0) × (work ≡ b .work)
   pub carried : t .begun ≡ true → Exchangeable (b .work) older newer work
 
--- the answer and the samples of the block b on two levels, and its levels in their slices, or each in the other's
+-- the answer and the samples of the block b on two levels, and its levels in their slices, or after an odd number of steps each in the
+-- other's
 pub record TurnedInPlace (b : AfterInPlace) (t : InPlace) (older newer samples : List ℤ) : Type 0 where
   pub steps-are : t .steps ≡ b .answer .steps
   pub inexact-is : t .inexact ≡ b .answer .inexact
@@ -47,4 +49,5 @@ pub record TurnedInPlace (b : AfterInPlace) (t : InPlace) (older newer samples :
   pub older-is : cond (t .exchanged) newer older ≡ b .older
   pub newer-is : cond (t .exchanged) older newer ≡ b .newer
   pub samples-are : samples ≡ b .samples
+  pub exchanged-is : t .exchanged ≡ eqb (b .answer .steps % 2) 1
   pub same-long : t .exchanged ≡ true → length newer ≡ length older

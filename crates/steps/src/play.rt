@@ -6,7 +6,7 @@ ghost use Rattle.scheme.specs.Instruments.{points};
 ghost use Rattle.scheme.specs.Calls as Calls;
 ghost use Rattle.scheme.specs.Calls.{hitAfter};
 ghost use Rattle.steps.specs.Edges.{EdgesOf};
-ghost use Rattle.steps.specs.Roles.{Begins, Played, SameLevels, olderOf, newerOf};
+ghost use Rattle.steps.specs.Roles.{Begins, Played, phaseAfter, olderOf, newerOf};
 use crate::roles::sample_in_roles;
 use crate::roles::step_in_roles;
 use crate::roles::turned;
@@ -56,7 +56,7 @@ pub(crate) fn play(
         (newerOf first (now (older .entry)) (now (newer .entry)) (now (work .entry))) (now (samples .entry)))
         (length (now (samples .entry))) r (olderOf (r .phase) (now (older .exit)) (now (newer .exit)) (now (work .exit)))
         (newerOf (r .phase) (now (older .exit)) (now (newer .exit)) (now (work .exit))) (now (samples .exit))
-        × SameLevels first (r .phase) ⌝ }
+        × (r .phase ≡ phaseAfter first (r .done)) ⌝ }
 {
     let mut inexact = 0;
     let mut phase = first;

@@ -7,7 +7,7 @@ ghost use Rattle.types.specs.declared.Refusal.the-variants.{Nothing, NextBeyond
 ghost use Rattle.scheme.specs.Refusals.{wrongLength, blockRefusal};
 ghost use Rattle.scheme.specs.Calls.{block, blockInPlace};
 ghost use Rattle.scheme.specs.Calls as Calls;
-ghost use Rattle.steps.specs.Roles.{Played, SameLevels, olderOf, newerOf};
+ghost use Rattle.steps.specs.Roles.{Played, phaseAfter, olderOf, newerOf};
 ghost use Rattle.steps.specs.Turns.{Opens, Turned, TurnedInPlace};
 use crate::edges::row_edges;
 use crate::pieces::PIECE;
@@ -65,7 +65,7 @@ fn begin(
     ensures { λ r. ⌜ Played (Calls.play i pick hit (now (older .entry)) (now (newer .entry)) (now (samples .entry)))
         (length (now (samples .entry))) r (olderOf (r .phase) (now (older .exit)) (now (newer .exit)) (now (work .exit)))
         (newerOf (r .phase) (now (older .exit)) (now (newer .exit)) (now (work .exit))) (now (samples .exit))
-        × SameLevels first (r .phase) ⌝ }
+        × (r .phase ≡ phaseAfter first (r .done)) ⌝ }
 {
     let plan = make_plan(i);
     let mut from = [0u16; 64];

@@ -1,4 +1,5 @@
 -- `block` meets its contract: the steps are the paper's, the levels are put back in their places, and work ends at 0.
+use native.Mathlib.Omega.{arith}
 use borrow.Author.Needs.{needs}
 use borrow.Author.Tests.{not-true, not-false}
 use Rattle.block.proofs.TurnLaws.{left-refused, left-carried}
@@ -28,7 +29,7 @@ settle-requires c κs =
     let e = c .before .before .before in
     let q = e .before .before .before .before .before .before .steps-in-turn .ensures in
     let x = q .carried (not-false _ (e .if1 .left)) in
-    (x .newer-long, x .work-long, q .three)
+    (x .newer-long, x .work-long, omega (arith, q .phase-is))
 
 clear-requires : tie.Need-clear-requires
 clear-requires c κs = search needs

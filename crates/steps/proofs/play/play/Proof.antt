@@ -1,7 +1,7 @@
 -- `play` meets its contract: j steps are done, and the rest is a play from where they left the levels.
-use mathlib.Core.Path.{_≡_, refl, sym, _∙_, subst}
+use mathlib.Core.Path.{_≡_, refl, sym, ap, _∙_, subst}
 use mathlib.Core.List.{List}
-use Prim.Native.Nat.{_+_, _-_, _^_, _<_}
+use Prim.Native.Nat.{ℕ, _+_, _-_, _^_, _≤_, _<_}
 use native.Mathlib.Omega.{arith}
 use borrow.Author.Needs.{needs}
 use borrow.Author.Tests.{not-true}
@@ -14,10 +14,10 @@ use Rattle.scheme.specs.Calls as Calls
 use Rattle.scheme.specs.Calls.{AfterSteps}
 use Rattle.scheme.specs.Claims.{LevelPasses}
 use Rattle.scheme.proofs.Laws.Refusals.{passes-low}
-use Rattle.steps.specs.Roles.{Room, Begins, SteppedIn, SameLevels, Third, olderOf, newerOf, outOf}
+use Rattle.steps.specs.Roles.{Room, Begins, SteppedIn, Third, turnedOf, phaseAfter, olderOf, newerOf, outOf}
 use Rattle.steps.proofs.PlayLaws.{Playing, playing-start, playing-steppable, samples-long, stepped-passes, playing-on, playing-ends}
 use Rattle.steps.proofs.PlayLaws.{playing-done, playing-turned, room-turned, played-kept}
-use Rattle.steps.proofs.RoleLaws.{turned-levels, levels-two}
+use Rattle.steps.proofs.RoleLaws.{phase-two, phase-start, phase-next}
 use Rattle.steps.proofs.play.play.Statement.{statement}
 use Rattle.steps.proofs.play.play.Tie as tie
 
@@ -32,7 +32,7 @@ Inv-loop plan from to older₀ newer₀ work₀ samples₀ pick hit first inexac
     Playing (plan .instrument) pick hit
     (Calls.play (plan .instrument) pick hit (olderOf first older₀ newer₀ work₀) (newerOf first older₀ newer₀ work₀) samples₀)
     (length samples₀) (olderOf phase older newer work) (newerOf phase older newer work) samples j inexact
-    × Room (plan .instrument .grid) (outOf phase older newer work) × SameLevels first phase × Longs older newer work older₀ newer₀ work₀
+    × Room (plan .instrument .grid) (outOf phase older newer work) × (phase ≡ phaseAfter first j) × Longs older newer work older₀ newer₀ work₀
 
 abbrev μ-loop : tie.MeasureT-loop
 μ-loop plan from to older₀ newer₀ work₀ samples₀ pick hit first inexact₀ phase₀ j₀ older newer work samples inexact phase j =
@@ -67,7 +67,9 @@ module _ (c : tie.At-loop Inv-loop μ-loop) where
   longs = c .loop .inv .3
 
   third : Third (c .loop .phase) (c .loop .work)
-  third l = omega (arith, given start .third (levels-two (c .loop .inv .2) l), longs .work)
+  third l =
+      let first = start .args .first in
+      omega (arith, given start .third (phase-two first (c .loop .j) (subst (λ (p : ℕ). 3 ≤ p) (c .loop .inv .2) l)), longs .work)
 
 -- a step
 module _ (c : tie.After-work Inv-loop μ-loop) where
@@ -125,7 +127,7 @@ loop-holds : tie.Need-loop-holds Inv-loop μ-loop
 loop-holds c = (
   playing-start (given c .given) (c .args .pick) (c .args .samples .now),
   given c .given .room,
-  record { three = λ l. l; two = λ l. l },
+  phase-start (c .args .first),
   record { older = refl; newer = refl; work = refl },
 )
 
@@ -196,7 +198,7 @@ loop-again c =
           (playing-on (inv (at w)) (place w) (struck w .hit-of .ensures) (left w .stepped) (e .if1 .left) _
           (toZ-ofZ w16 (r .result) (record { sfits = r .ok }) ∙ r .ensures) _ (h .ensures))),
       room-turned (left w) (c .turned .ensures) (inv (at w) .older-passes) (inv (at w) .newer-passes),
-      subst (SameLevels (s .args .first)) (sym (c .turned .ensures)) (turned-levels (at w .loop .phase) (at w .loop .inv .2)),
+      c .turned .ensures ∙ ap turnedOf (at w .loop .inv .2) ∙ phase-next (s .args .first) (at w .loop .j) (at w .loop .j + 1) (omega arith),
       step-longs w,
     )
 

@@ -69,7 +69,7 @@ returns-2 c =
     let e = q .before .before .before .before .before in
     let a = start (e .before .before) .args in
     carried-out-two (a .i) (a .older .now) (a .newer .now) (a .samples .now) (a .pick) (a .hit) (passes e) _
-    (q .begin .ensures .1 .two (omega arith)) (search needs) (search needs) (q .begin .ensures .0) (c .before .ending .ensures)
+    (q .begin .ensures .1) (search needs) (search needs) (q .begin .ensures .0) (c .before .ending .ensures)
 
 pub steps-in-place-spec : {M : Type 1} → statement M
 steps-in-place-spec =

@@ -91,7 +91,7 @@ returns-2 c =
     let e = q .before .before .before .before .before in
     let a = start (e .before .before) .args in
     carried-out (a .i) (a .older .now) (a .newer .now) (a .work .now) (a .samples .now) (a .pick) (a .hit) (passes e)
-    (q .begin .ensures .1 .three (omega arith)) (search needs) (search needs) (search needs) (q .begin .ensures .0) (c .ending .ensures)
+    (q .begin .ensures .1) (search needs) (search needs) (search needs) (q .begin .ensures .0) (c .ending .ensures)
 
 pub steps-in-turn-spec : {M : Type 1} → statement M
 steps-in-turn-spec =
