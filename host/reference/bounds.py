@@ -5,19 +5,30 @@ Each takes a grid (kind, columns, rows), settings (q, m, s) and the steps n, and
 
 from fractions import Fraction
 
-from instrument import D, free_ends
+from instrument import D, GRID_KINDS, free_ends
 
 # "edged" of crates/tighter/specs/Bounds.antt: the kinds with a fixed edge.
 EDGED = (1, 2, 4, 5, 6, 7)
 
 
+def held(grid):
+    """(grip, reach) of a kind with a fixed edge: 2 grip x the squares of a level <= reach x the sum over pairs of (difference)^2."""
+    kind, columns, rows = grid
+    across, down = (columns - 1) ** 2, (rows - 1) ** 2
+    if kind in GRID_KINDS:
+        return 4 * (across + down), across * down
+    return 1 if kind == 2 else 4, across
+
+
 def by_tension(grid, settings):
     """(hold, far)."""
-    return settings[0], grid[1] ** 2
+    grip, reach = held(grid)
+    return grip * settings[0], reach
 
 
 def by_stiffness(grid, settings):
-    return 2 * settings[1], grid[1] ** 4
+    grip, reach = held(grid)
+    return grip**2 * 2 * settings[1], reach**2
 
 
 def size(grid):

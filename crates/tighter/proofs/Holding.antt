@@ -20,9 +20,9 @@ use Rattle.scheme.proofs.Laws.Refusals.{coefficients-small}
 use Rattle.scheme.specs.Passing.{InstrumentPasses}
 use Rattle.scheme.proofs.Laws.Refusals.{instrument-passes, passes-still}
 use Rattle.scheme.proofs.Theorems.Forms.{weighed, weighed-form, weighed-nonneg, stepForm, step-form, energy-is}
-use Rattle.scheme.proofs.Theorems.Bounds.{some-columns, energy-nonneg}
+use Rattle.scheme.proofs.Theorems.Bounds.{energy-nonneg}
 use Rattle.scheme.proofs.Theorems.Instance.{freeStep, free-still, step-law}
-use Rattle.tighter.specs.Bounds.{edged, reach, Holding, byTension, byStiffness}
+use Rattle.tighter.specs.Bounds.{edged, grip, reach, Holding, byTension, byStiffness}
 use Rattle.tighter.specs.Claims.{LevelsHeld, HeldByTension, HeldByStiffness}
 use Rattle.tighter.proofs.Edge.{reach-positive}
 use Rattle.tighter.proofs.Coercive.{by-tension, by-stiffness}
@@ -44,16 +44,18 @@ weaker i ok a b hh hf held =
 
 pub tension-holds : Holds byTension
 tension-holds = record {
-  far-positive = λ i ok. omega (arith, reach-positive (i .grid) (some-columns i ok));
-  by-energy = λ i ok edge a b sa sb. weaker i ok a b {h′ = i .settings .q} {f′ = reach (i .grid)} (omega arith) (omega arith)
+  far-positive = λ i ok. omega (arith, reach-positive (i .grid) (ok .size));
+  by-energy = λ i ok edge a b sa sb.
+      weaker i ok a b {h′ = grip (i .grid) * i .settings .q} {f′ = reach (i .grid)} (omega arith) (omega arith)
       (by-tension i ok edge a b sa sb);
 }
 
 pub stiffness-holds : Holds byStiffness
 stiffness-holds = record {
-  far-positive = λ i ok. let c = reach-positive (i .grid) (some-columns i ok) in omega (arith, N.mul-pos c c);
+  far-positive = λ i ok. let c = reach-positive (i .grid) (ok .size) in omega (arith, N.mul-pos c c);
   by-energy = λ i ok edge a b sa sb.
-      weaker i ok a b {h′ = 2 * i .settings .m} {f′ = reach (i .grid) * reach (i .grid)} (omega arith) (omega arith)
+      weaker i ok a b {h′ = grip (i .grid) * grip (i .grid) * (2 * i .settings .m)} {f′ = reach (i .grid) * reach (i .grid)} (omega arith)
+      (omega arith)
       (by-stiffness i ok edge a b sa sb);
 }
 

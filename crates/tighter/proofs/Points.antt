@@ -21,8 +21,8 @@ use Rattle.scheme.specs.Energy.{weight, squares}
 use Rattle.scheme.specs.Book.{LastStep, noStep, stepOf, scale, start, calls}
 use Rattle.scheme.specs.Claims.{distance, Near}
 use Rattle.scheme.proofs.Theorems.Distance.{distance-bound}
-use Rattle.tighter.specs.Bounds.{edged, reach, byTension, byStiffness, Bound, limit, demanded, linear, stiffLinear, lossLinear}
-use Rattle.tighter.specs.Bounds.{forEver, stiffForEver, heavyLoss, stiffHeavyLoss, numbers}
+use Rattle.tighter.specs.Bounds.{edged, gripIn, reachIn, grip, reach, byTension, byStiffness, Bound, limit, demanded, linear}
+use Rattle.tighter.specs.Bounds.{stiffLinear, lossLinear, forEver, stiffForEver, heavyLoss, stiffHeavyLoss, numbers}
 use Rattle.tighter.specs.Claims.{OfSteps, After, OfEveryList, OfSums, SumBounds, difference, OnePoint, OfPoints, PointBounds}
 use Rattle.tighter.specs.Claims.{AtOnePoint, voice, VoiceWithin, VoiceForEver}
 use Rattle.tighter.proofs.Line.{sum-suc}
@@ -124,10 +124,11 @@ by-numbers a b k y r x e p some p-nonneg part all numbers = *ℤ-cancel {a = pos
     (pos a) (pos b) (pos k) (pos y) (pos r) x e p (0≤pos (a * k)) part (0≤pos a) all p-nonneg (pos≤ numbers))
 
 voice-at : (n : ℕ) (newer unrounded : List ℤ) → OfSums (numbers forEver) voice n newer unrounded → (k : ℕ) → k < points (voice .grid)
-    → pos 625 *ℤ square (difference voice n newer unrounded k) ⩽ pos (2 ^ 56) *ℤ square (scale (voice .settings) n)
+    → pos 2500 *ℤ square (difference voice n newer unrounded k) ⩽ pos (2 ^ 56) *ℤ square (scale (voice .settings) n)
+unfolding gripIn reachIn kindOf
 voice-at n newer unrounded h k l =
     let x : ℤ = square (difference voice n newer unrounded k) in
-    by-numbers 625 (2 ^ 56) (4 * (8 * 8 * 11378)) (reach (voice .grid) * D * (2 * points (voice .grid))) 65544
+    by-numbers 2500 (2 ^ 56) (4 * (8 * 8 * (grip (voice .grid) * 11378))) (reach (voice .grid) * D * (2 * points (voice .grid))) 65544
     x (distance voice n newer unrounded) (square (scale (voice .settings) n)) (omega arith) (square-nonneg (scale (voice .settings) n))
     (≡-≤ℤ (ap (λ (w : ℕ). pos w *ℤ x) (sym (voice-weight k))) (one-point voice n newer unrounded k l))
     (h (voice-edged, omega arith)) (omega arith)
@@ -135,6 +136,6 @@ voice-at n newer unrounded h k l =
 pub voice-for-ever : VoiceForEver
 voice-for-ever = each-list (OfSums (numbers forEver)) VoiceWithin
     (λ i n newer unrounded h e. subst (λ (j : Instrument). OfSums (numbers forEver) j n newer unrounded → (k : ℕ) → k < points (j .grid)
-    → pos 625 *ℤ square (difference j n newer unrounded k) ⩽ pos (2 ^ 56) *ℤ square (scale (j .settings) n)) (sym e)
+    → pos 2500 *ℤ square (difference j n newer unrounded k) ⩽ pos (2 ^ 56) *ℤ square (scale (j .settings) n)) (sym e)
     (voice-at n newer unrounded) h)
     (sum-bounds forEver)

@@ -1,8 +1,8 @@
 -- The bounds on the distance as numbers: demand 3's, and those that hold for a whole cue.
--- Σ stands for the squared distances summed, a free end counted half; N for the points, C for the columns.
+-- Σ stands for the squared distances summed, a free end counted half; N for the points.
 use mathlib.Core.Path.{_≡_}
 use mathlib.Core.Bool.{Bool, true, false}
-use Prim.Native.Nat.{ℕ, suc, _*_, _≤_}
+use Prim.Native.Nat.{ℕ, suc, _+_, _-_, _*_, _≤_}
 use lib.IntN.{ℤ, pos, _*ℤ_}
 use Rattle.types.specs.declared.Grid.{Grid}
 use Rattle.types.specs.declared.Instrument.{Instrument}
@@ -26,22 +26,48 @@ edged membrane = true
 edged roundMembrane = true
 edged plate = true
 
--- C²: how far a fixed edge reaches (the constant of Poincaré's inequality, Σ c² ≤ C² × Σ over pairs of (difference)²)
+-- How such an edge holds a level (Poincaré's inequality): 2 × grip × Σ c² ≤ reach × Σ over pairs of (difference)², where c is 0 at fixed
+-- points and a free end counts half. A row of a steps with both ends fixed has 8 × Σ c² ≤ a² × its pairs; with one end free it is half of a
+-- row of 2a steps, and has 2 × Σ c² ≤ a² × its pairs. A grid has the former by its rows, and with b for a by its columns of b steps:
+-- b² times the one and a² times the other, added.
+unfoldable pub gripIn : Kind → (a b : ℕ) → ℕ
+gripIn unknown a b = 1
+gripIn fixedString a b = 4
+gripIn halfFreeString a b = 1
+gripIn freeString a b = 1
+gripIn bar a b = 4
+gripIn membrane a b = 4 * (a * a + b * b)
+gripIn roundMembrane a b = 4 * (a * a + b * b)
+gripIn plate a b = 4 * (a * a + b * b)
+
+unfoldable pub reachIn : Kind → (a b : ℕ) → ℕ
+reachIn unknown a b = a * a
+reachIn fixedString a b = a * a
+reachIn halfFreeString a b = a * a
+reachIn freeString a b = a * a
+reachIn bar a b = a * a
+reachIn membrane a b = a * a * (b * b)
+reachIn roundMembrane a b = a * a * (b * b)
+reachIn plate a b = a * a * (b * b)
+
+abbrev pub grip : Grid → ℕ
+grip g = gripIn (kind g) (g .columns - 1) (g .rows - 1)
+
 abbrev pub reach : Grid → ℕ
-reach g = g .columns * g .columns
+reach g = reachIn (kind g) (g .columns - 1) (g .rows - 1)
 
 -- two numbers of an instrument: hold × the squares of its levels ≤ far × D × their energy
 pub record Holding : Type 0 where
   pub hold : Instrument → ℕ
   pub far : Instrument → ℕ
 
--- q with C²
+-- q with grip and reach
 abbrev pub byTension : Holding
-byTension = record { hold = λ i. i .settings .q; far = λ i. reach (i .grid) }
+byTension = record { hold = λ i. grip (i .grid) * i .settings .q; far = λ i. reach (i .grid) }
 
--- 2m with C⁴
+-- 2m with their squares
 abbrev pub byStiffness : Holding
-byStiffness = record { hold = λ i. 2 * i .settings .m; far = λ i. reach (i .grid) * reach (i .grid) }
+byStiffness = record { hold = λ i. grip (i .grid) * grip (i .grid) * (2 * i .settings .m); far = λ i. reach (i .grid) * reach (i .grid) }
 
 -- ---- the bounds
 

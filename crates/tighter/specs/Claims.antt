@@ -90,10 +90,10 @@ AtOnePoint = OfEveryList (OfPoints (numbers demanded))
 abbrev pub voice : Instrument
 voice = record { grid = record { kind = 1; columns = 101; rows = 1 }; settings = record { q = 11378; m = 0; s = 8 } }
 
--- 25 × difference ≤ 2²⁸, squared: at every point within a 25th of a sample unit of the unrounded scheme
+-- 50 × difference ≤ 2²⁸, squared: at every point within a 50th of a sample unit of the unrounded scheme
 abbrev pub VoiceWithin : OfSteps
 VoiceWithin i n newer unrounded = i ≡ voice → (j : ℕ) → j < points (i .grid) →
-    (pos 625 *ℤ square (difference i n newer unrounded j)) ≤ℤ (pos (2 ^ 56) *ℤ square (scale (i .settings) n))
+    (pos 2500 *ℤ square (difference i n newer unrounded j)) ≤ℤ (pos (2 ^ 56) *ℤ square (scale (i .settings) n))
 
 abbrev pub VoiceForEver : Type 0
 VoiceForEver = OfEveryList VoiceWithin
