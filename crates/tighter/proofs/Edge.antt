@@ -25,7 +25,7 @@ use Rattle.scheme.proofs.Laws.Kinds.{within-is, sized}
 use Rattle.scheme.proofs.Laws.Step.{fixed-still}
 use Rattle.scheme.proofs.Theorems.Balance.{term, only-sum}
 use Rattle.scheme.proofs.Theorems.Forms.{weighed, weighed-nonneg}
-use Rattle.tighter.specs.Bounds.{edged, gripIn, reachIn, grip, reach}
+use Rattle.tighter.specs.Bounds.{span, Edge, noEdge, bothEnds, allRound, edgeIn, edge, grip, reach}
 use Rattle.tighter.proofs.Line.{sum-zero, sum-suc, both-ends, one-end}
 
 -- ---- sums by rows and by columns
@@ -56,15 +56,24 @@ sum-term false n f = sum-0 n
 
 -- ---- n lines of M steps, M + 1 points, with both ends fixed
 
+far-enough : (a : ℕ) → pos (5 * (a * a) + 4) ⩽ pos (span a)
+unfolding span
+far-enough a = pos≤ (omega arith)
+
+span-positive : (a : ℕ) → 0 < span a
+unfolding span
+span-positive a = omega arith
+
 lines-bound : (ε : ℤ) → ε *ℤ ε ≡ pos 1 → (n M : ℕ) → 2 ≤ M → (c v : ℕ → ℕ → ℤ) → ((i : ℕ) → i < n → c i 0 ≡ pos 0)
     → ((i : ℕ) → i < n → c i M ≡ pos 0) → ((i k : ℕ) → c i (suc k) ≡ ε *ℤ c i k +ℤ v i k)
-    → pos 8 *ℤ sum n (λ i. sum (suc M) (λ k. c i k *ℤ c i k)) ⩽ pos (M * M) *ℤ sum n (λ i. sum M (λ k. v i k *ℤ v i k))
+    → pos 48 *ℤ sum n (λ i. sum (suc M) (λ k. c i k *ℤ c i k)) ⩽ pos (span M) *ℤ sum n (λ i. sum M (λ k. v i k *ℤ v i k))
 lines-bound ε unit n zero h c v first last walk = absurd (omega arith)
 lines-bound ε unit n (suc zero) h c v first last walk = absurd (omega arith)
-lines-bound ε unit n (suc (suc m)) h c v first last walk =
-    ≡-≤ℤ (sym (sum-scale n (pos 8) _))
-    (≤ℤ-≡ (sum-mono n (λ i l. both-ends ε unit (c i) (v i) (first i l) (walk i) m (last i l)))
-    (sum-scale n (pos (suc (suc m) * suc (suc m))) (λ i. sum (suc (suc m)) (λ k. v i k *ℤ v i k))))
+lines-bound ε unit n (suc (suc m)) h c v first last walk = let M : ℕ = suc (suc m) in
+    ≡-≤ℤ (sym (sum-scale n (pos 48) _))
+    (≤ℤ-≡ (sum-mono n (λ i l. ≤ℤ-trans (both-ends ε unit (c i) (v i) (first i l) (walk i) m (last i l))
+    (*ℤ-mono-r _ (sum-nonneg M (λ k b. square-nonneg (v i k))) (far-enough M))))
+    (sum-scale n (pos (span M)) (λ i. sum M (λ k. v i k *ℤ v i k))))
 
 -- ---- the pairs within the rows and within the columns
 
@@ -139,36 +148,37 @@ module _ (g : Grid) where
 
     module _ (first : (b : ℕ) → b < g .rows → c (g .columns * b + 0) ≡ pos 0)
         (last : (b : ℕ) → b < g .rows → c (g .columns * b + (g .columns - 1)) ≡ pos 0) where
-      by-rows : pos 8 *ℤ all ⩽ pos ((C - 1) * (C - 1)) *ℤ inRows ψ
+      by-rows : pos 48 *ℤ all ⩽ pos (span (C - 1)) *ℤ inRows ψ
       by-rows =
-          ≡-≤ℤ (ap (λ x. pos 8 *ℤ x) (sum-rows C R sq ∙ sum-ext R (λ b. ap (λ (n : ℕ). sum n (λ a. sq (C * b + a))) (omega arith))))
+          ≡-≤ℤ (ap (λ x. pos 48 *ℤ x) (sum-rows C R sq ∙ sum-ext R (λ b. ap (λ (n : ℕ). sum n (λ a. sq (C * b + a))) (omega arith))))
           (lines-bound ε unit R (C - 1) (omega arith) (λ b a. c (C * b + a)) (λ b a. u (C * b + a) (C * b + a + 1)) first last
           (λ b a. ap c (omega arith) ∙ walk (C * b + a) (C * b + a + 1)))
 
       -- a line
-      pub both-fixed : pos 4 *ℤ weighed g c c ⩽ pos ((C - 1) * (C - 1)) *ℤ overPairs ψ
-      both-fixed = lin 6 (λ w s a x y p. 4 *≤ w ⊴ # 2 ⊗ s ⇒ 1 *≤ # 8 ⊗ s ⊴ a ⊗ x ⇒ a *⊴ # 0 ⊴ y ⇒ a *≈ p ≈ x ⊕ y ⇒ ⊩ # 4 ⊗ w ⊴ a ⊗ p) refl
-          (weighed g c c) all (pos ((C - 1) * (C - 1))) (inRows ψ) (inColumns ψ) (overPairs ψ)
-          (weighed-light c) by-rows (0≤pos ((C - 1) * (C - 1))) columns-nonneg pairs
+      pub both-fixed : pos 24 *ℤ weighed g c c ⩽ pos (span (C - 1)) *ℤ overPairs ψ
+      both-fixed = lin 6 (λ w s a x y p. 24 *≤ w ⊴ # 2 ⊗ s ⇒ 1 *≤ # 48 ⊗ s ⊴ a ⊗ x ⇒ a *⊴ # 0 ⊴ y ⇒ a *≈ p ≈ x ⊕ y ⇒
+          ⊩ # 24 ⊗ w ⊴ a ⊗ p) refl
+          (weighed g c c) all (pos (span (C - 1))) (inRows ψ) (inColumns ψ) (overPairs ψ)
+          (weighed-light c) by-rows (0≤pos (span (C - 1))) columns-nonneg pairs
 
       module _ (hr : 3 ≤ g .rows) (top : (a : ℕ) → a < g .columns → c (g .columns * 0 + a) ≡ pos 0)
           (bottom : (a : ℕ) → a < g .columns → c (g .columns * (g .rows - 1) + a) ≡ pos 0) where
-        by-columns : pos 8 *ℤ all ⩽ pos ((R - 1) * (R - 1)) *ℤ inColumns ψ
+        by-columns : pos 48 *ℤ all ⩽ pos (span (R - 1)) *ℤ inColumns ψ
         by-columns =
-            ≡-≤ℤ (ap (λ x. pos 8 *ℤ x) (sum-rows C R sq ∙ sum-turned R C (λ b a. sq (C * b + a)) ∙
+            ≡-≤ℤ (ap (λ x. pos 48 *ℤ x) (sum-rows C R sq ∙ sum-turned R C (λ b a. sq (C * b + a)) ∙
             sum-ext C (λ a. ap (λ (n : ℕ). sum n (λ b. sq (C * b + a))) (omega arith))))
             (lines-bound ε unit C (R - 1) (omega arith) (λ a b. c (C * b + a)) (λ a b. u (C * b + a) (C * b + a + C)) top bottom
             (λ a b. ap c (omega (arith, N.mul-suc C b)) ∙ walk (C * b + a) (C * b + a + C)))
 
-        -- a grid: b² times its rows' bound and a² times its columns'
-        pub all-fixed : pos (4 * ((C - 1) * (C - 1) + (R - 1) * (R - 1))) *ℤ weighed g c c
-            ⩽ pos ((C - 1) * (C - 1) * ((R - 1) * (R - 1))) *ℤ overPairs ψ
+        -- a grid: its rows' bound times the columns' span and its columns' times the rows'
+        pub all-fixed : pos (24 * (span (C - 1) + span (R - 1))) *ℤ weighed g c c ⩽ pos (span (C - 1) * span (R - 1)) *ℤ overPairs ψ
         all-fixed =
-            lin 7 (λ w s a b x y p. (# 4 ⊗ (a ⊕ b)) *⊴ w ⊴ # 2 ⊗ s ⇒ b *⊴ # 8 ⊗ s ⊴ a ⊗ x ⇒ a *⊴ # 8 ⊗ s ⊴ b ⊗ y ⇒ (a ⊗ b) *≈ p ≈ x ⊕ y ⇒
-            ⊩ (# 4 ⊗ (a ⊕ b)) ⊗ w ⊴ (a ⊗ b) ⊗ p) refl
-            (weighed g c c) all (pos ((C - 1) * (C - 1))) (pos ((R - 1) * (R - 1))) (inRows ψ) (inColumns ψ) (overPairs ψ)
-            (0≤pos (4 * ((C - 1) * (C - 1) + (R - 1) * (R - 1)))) (weighed-light c) (0≤pos ((R - 1) * (R - 1))) by-rows
-            (0≤pos ((C - 1) * (C - 1))) by-columns pairs
+            lin 7 (λ w s a b x y p. (# 24 ⊗ (a ⊕ b)) *⊴ w ⊴ # 2 ⊗ s ⇒ b *⊴ # 48 ⊗ s ⊴ a ⊗ x ⇒ a *⊴ # 48 ⊗ s ⊴ b ⊗ y ⇒
+            (a ⊗ b) *≈ p ≈ x ⊕ y ⇒
+            ⊩ (# 24 ⊗ (a ⊕ b)) ⊗ w ⊴ (a ⊗ b) ⊗ p) refl
+            (weighed g c c) all (pos (span (C - 1))) (pos (span (R - 1))) (inRows ψ) (inColumns ψ) (overPairs ψ)
+            (0≤pos (24 * (span (C - 1) + span (R - 1)))) (weighed-light c) (0≤pos (span (R - 1))) by-rows
+            (0≤pos (span (C - 1))) by-columns pairs
 
     -- a line whose last point is free
     module _ (one : g .rows ≡ 1) (first : c 0 ≡ pos 0) (free : weight g (g .columns - 1) ≡ 1) where
@@ -197,16 +207,17 @@ module _ (g : Grid) where
           size : C * R ≡ suc (suc m)
           size = ap (λ (r : ℕ). C * r) one ∙ omega arith
 
-      pub half-fixed : pos 1 *ℤ weighed g c c ⩽ pos ((C - 1) * (C - 1)) *ℤ overPairs ψ
+      pub half-fixed : pos 24 *ℤ weighed g c c ⩽ pos (span (2 * (C - 1))) *ℤ overPairs ψ
       half-fixed =
-          let κ : ℤ = pos ((C - 1) * (C - 1)) in
-          let s : ℤ = sum (suc m) (λ k. ψ k (k + 1)) in
-          let same : pos (suc m * suc m) ≡ κ = ap (λ (n : ℕ). pos (n * n)) (omega arith) in
-          lin 8 (λ w t k x s y p r. 1 *≤ w ⊴ t ⇒ 1 *≤ t ⊴ k ⊗ s ⇒ s *≈ r ≈ k ⇒ r *≈ x ≈ s ⇒ r *⊴ # 0 ⊴ y ⇒ r *≈ p ≈ x ⊕ y ⇒
-          ⊩ # 1 ⊗ w ⊴ r ⊗ p) refl
-          (weighed g c c) (pos 2 *ℤ sum (suc m) sq +ℤ sq (suc m)) (pos (suc m * suc m)) (inRows ψ) s (inColumns ψ) (overPairs ψ) κ
-          weighed-row (one-end ε unit c (λ k. u k (k + 1)) first (λ k. ap c (omega arith) ∙ walk k (k + 1)) m) (sym same) row-alone
-          (0≤pos ((C - 1) * (C - 1))) columns-nonneg pairs
+          let n : ℕ = suc m in
+          let κ : ℤ = pos (span (2 * (C - 1))) in
+          let s : ℤ = sum n (λ k. ψ k (k + 1)) in
+          let low : pos (5 * (2 * n * (2 * n)) + 4) ⩽ κ = ≤ℤ-≡ (far-enough (2 * n)) (ap (λ (l : ℕ). pos (span (2 * l))) (omega arith)) in
+          lin 8 (λ w t k x s y p r. 24 *≤ w ⊴ t ⇒ 1 *≤ # 24 ⊗ t ⊴ k ⊗ s ⇒ s *⊴ k ⊴ r ⇒ r *≈ x ≈ s ⇒ r *⊴ # 0 ⊴ y ⇒ r *≈ p ≈ x ⊕ y ⇒
+          ⊩ # 24 ⊗ w ⊴ r ⊗ p) refl
+          (weighed g c c) (pos 2 *ℤ sum n sq +ℤ sq n) (pos (5 * (2 * n * (2 * n)) + 4)) (inRows ψ) s (inColumns ψ) (overPairs ψ) κ
+          weighed-row (one-end ε unit c (λ k. u k (k + 1)) first (λ k. ap c (omega arith) ∙ walk k (k + 1)) m)
+          (sum-nonneg n (λ k l. square-nonneg (u k (k + 1)))) low row-alone (0≤pos (span (2 * (C - 1)))) columns-nonneg pairs
 
 -- ---- the kinds
 
@@ -267,6 +278,12 @@ round-ringed c r e =
 
 -- ---- what holds a level
 
+pub reach-positive : (e : Edge) → 0 < reach e
+unfolding reach
+reach-positive noEdge = omega arith
+reach-positive (bothEnds a) = span-positive a
+reach-positive (allRound a b) = N.mul-pos (span-positive a) (span-positive b)
+
 module _ (g : Grid) (size : sizeIn (kind g) (g .columns) (g .rows) ≡ true) where
   abbrev a : ℕ
   a = g .columns - 1
@@ -277,30 +294,7 @@ module _ (g : Grid) (size : sizeIn (kind g) (g .columns) (g .rows) ≡ true) whe
   wide : 3 ≤ g .columns
   wide = sized (kind g) (g .columns) (g .rows) size .columns-low
 
-  across : 0 < a
-  across = omega (arith, wide)
-
-  some-across : 0 < a * a
-  some-across = N.mul-pos across across
-
-  some-down : 3 ≤ g .rows → 0 < a * a * (b * b)
-  some-down h = let down : 0 < b = omega arith in N.mul-pos some-across (N.mul-pos down down)
-
-  reach-in : (K : Kind) → sizeIn K (g .columns) (g .rows) ≡ true → 0 < reachIn K a b
-  unfolding reachIn fixedIn sizeIn
-  reach-in unknown e = omega (arith, across, some-across)
-  reach-in fixedString e = omega (arith, across, some-across)
-  reach-in halfFreeString e = omega (arith, across, some-across)
-  reach-in freeString e = omega (arith, across, some-across)
-  reach-in bar e = omega (arith, across, some-across)
-  reach-in membrane e = omega (arith, some-down (outer-ringed membrane (g .columns) (g .rows) (λ x y. refl) e .rows-low))
-  reach-in roundMembrane e = omega (arith, some-down (round-ringed (g .columns) (g .rows) e .rows-low))
-  reach-in plate e = omega (arith, some-down (outer-ringed plate (g .columns) (g .rows) (λ x y. refl) e .rows-low))
-
-  pub reach-positive : 0 < reach g
-  reach-positive = reach-in (kind g) size
-
-  module _ (edge : edged (kind g) ≡ true) (c : Level) (s : Still (moving g) c) (ε : ℤ) (unit : ε *ℤ ε ≡ pos 1) (u : ℕ → ℕ → ℤ)
+  module _ (c : Level) (s : Still (moving g) c) (ε : ℤ) (unit : ε *ℤ ε ≡ pos 1) (u : ℕ → ℕ → ℤ)
       (walk : (k j : ℕ) → c j ≡ ε *ℤ c k +ℤ u k j) where
     abbrev P : ℤ
     P = overPairs g (λ k j. u k j *ℤ u k j)
@@ -311,6 +305,9 @@ module _ (g : Grid) (size : sizeIn (kind g) (g .columns) (g .rows) ≡ true) whe
     -- a smaller grip, a larger reach
     weaker : {h h′ f f′ : ℕ} → h ≤ h′ → f′ ≤ f → pos h′ *ℤ weighed g c c ⩽ pos f′ *ℤ P → pos h *ℤ weighed g c c ⩽ pos f *ℤ P
     weaker hh hf held = ≤ℤ-trans (*ℤ-mono-r (weighed g c c) (weighed-nonneg g c) (pos≤ hh)) (≤ℤ-trans held (*ℤ-mono-r P P-nonneg (pos≤ hf)))
+
+    nothing-held : pos 0 *ℤ weighed g c c ⩽ pos 1 *ℤ P
+    nothing-held = lin 2 (λ w p. 1 *≤ # 0 ⊴ p ⇒ ⊩ # 0 ⊗ w ⊴ # 1 ⊗ p) refl (weighed g c c) P P-nonneg
 
     -- what holds of a kind's points holds of this grid's
     module _ (K : Kind) (k : kind g ≡ K) where
@@ -327,15 +324,15 @@ module _ (g : Grid) (size : sizeIn (kind g) (g .columns) (g .rows) ≡ true) whe
         last : (y : ℕ) → y < g .rows → c (g .columns * y + a) ≡ pos 0
         last y l = zero-at a y (omega (arith, wide)) (columns-fixed a y (last-edge (g .columns) (omega (arith, wide))))
 
-        line-held : pos 4 *ℤ weighed g c c ⩽ pos (a * a) *ℤ P
+        line-held : pos 24 *ℤ weighed g c c ⩽ pos (span a) *ℤ P
         line-held = both-fixed g wide c ε unit u walk first last
 
-      grid-held : Ringed K (g .columns) (g .rows) → pos (4 * (a * a + b * b)) *ℤ weighed g c c ⩽ pos (a * a * (b * b)) *ℤ P
+      grid-held : Ringed K (g .columns) (g .rows) → pos (24 * (span a + span b)) *ℤ weighed g c c ⩽ pos (span a * span b) *ℤ P
       grid-held e = all-fixed g wide c ε unit u walk (first (e .columns-fixed)) (last (e .columns-fixed)) (e .rows-low)
           (λ x l. zero-at x 0 l (e .rows-fixed x 0 refl))
           (λ x l. zero-at x b l (e .rows-fixed x b (last-edge (g .rows) (omega (arith, e .rows-low)))))
 
-    half-held : kind g ≡ halfFreeString → sizeIn halfFreeString (g .columns) (g .rows) ≡ true → pos 1 *ℤ weighed g c c ⩽ pos (a * a) *ℤ P
+    half-held : kind g ≡ halfFreeString → sizeIn halfFreeString (g .columns) (g .rows) ≡ true → pos 24 *ℤ weighed g c c ⩽ pos (span (2 * a)) *ℤ P
     unfolding fixedIn sizeIn weight freeIn
     half-held k e = half-fixed g wide c ε unit u walk (eqb-true (g .rows) 1 (and-both (within 3 1024 (g .columns)) (eqb (g .rows) 1) e .1))
         (ap c (omega arith) ∙ zero-at halfFreeString k 0 0 (omega (arith, wide)) refl) free
@@ -347,28 +344,28 @@ module _ (g : Grid) (size : sizeIn (kind g) (g .columns) (g .rows) ≡ true) whe
         free = ap (λ (t : Bool). cond {A = ℕ} t 1 2) (ap₂ (λ (K : Kind) (x : ℕ). freeIn K (g .columns) x) k
             (N.mod-eq-of-lt inside) ∙ eq-eqb (a + 1) (g .columns) (omega (arith, wide)))
 
-    held-in : (K : Kind) → kind g ≡ K → sizeIn K (g .columns) (g .rows) ≡ true → edged K ≡ true
-        → pos (gripIn K a b) *ℤ weighed g c c ⩽ pos (reachIn K a b) *ℤ P
-    unfolding gripIn reachIn edged fixedIn sizeIn
-    held-in unknown k e t = absurd (true≢false (sym t))
-    held-in fixedString k e t = weaker (omega arith) (omega arith) (line-held fixedString k (λ x y h. h))
-    held-in halfFreeString k e t = weaker (omega arith) (omega arith) (half-held k e)
-    held-in freeString k e t = absurd (true≢false (sym t))
-    held-in bar k e t = weaker (omega arith) (omega arith) (line-held bar k (λ x y h. h))
-    held-in membrane k e t = weaker (omega arith) (omega arith)
+    held-in : (K : Kind) → kind g ≡ K → sizeIn K (g .columns) (g .rows) ≡ true
+        → let e : Edge = edgeIn K a b in pos (grip e) *ℤ weighed g c c ⩽ pos (reach e) *ℤ P
+    unfolding edgeIn grip reach fixedIn sizeIn
+    held-in unknown k e = absurd (true≢false (sym e))
+    held-in fixedString k e = weaker (omega arith) (omega arith) (line-held fixedString k (λ x y h. h))
+    held-in halfFreeString k e = weaker (omega arith) (omega arith) (half-held k e)
+    held-in freeString k e = weaker (omega arith) (omega arith) nothing-held
+    held-in bar k e = weaker (omega arith) (omega arith) (line-held bar k (λ x y h. h))
+    held-in membrane k e = weaker (omega arith) (omega arith)
         (grid-held membrane k (outer-ringed membrane (g .columns) (g .rows) (λ x y. refl) e))
-    held-in roundMembrane k e t = weaker (omega arith) (omega arith) (grid-held roundMembrane k (round-ringed (g .columns) (g .rows) e))
-    held-in plate k e t = weaker (omega arith) (omega arith)
+    held-in roundMembrane k e = weaker (omega arith) (omega arith) (grid-held roundMembrane k (round-ringed (g .columns) (g .rows) e))
+    held-in plate k e = weaker (omega arith) (omega arith)
         (grid-held plate k (outer-ringed plate (g .columns) (g .rows) (λ x y. refl) e))
 
-    held-by : pos (grip g) *ℤ weighed g c c ⩽ pos (reach g) *ℤ P
-    held-by = held-in (kind g) refl size edge
+    held-by : pos (grip (edge g)) *ℤ weighed g c c ⩽ pos (reach (edge g)) *ℤ P
+    held-by = held-in (kind g) refl size
 
-  module _ (edge : edged (kind g) ≡ true) (c : Level) (s : Still (moving g) c) where
-    pub by-differences : pos (grip g) *ℤ weighed g c c ⩽ pos (reach g) *ℤ pairSum g c c
+  module _ (c : Level) (s : Still (moving g) c) where
+    pub by-differences : pos (grip (edge g)) *ℤ weighed g c c ⩽ pos (reach (edge g)) *ℤ pairSum g c c
     unfolding pairSum
-    by-differences = held-by edge c s (pos 1) refl (λ k j. c j -ℤ c k) (λ k j. ring 2 (λ x y. y ≈ # 1 ⊗ x ⊕ (y ⊖ x)) refl (c k) (c j))
+    by-differences = held-by c s (pos 1) refl (λ k j. c j -ℤ c k) (λ k j. ring 2 (λ x y. y ≈ # 1 ⊗ x ⊕ (y ⊖ x)) refl (c k) (c j))
 
-    pub by-sums : pos (grip g) *ℤ weighed g c c ⩽ pos (reach g) *ℤ overPairs g (λ k j. (c j +ℤ c k) *ℤ (c j +ℤ c k))
-    by-sums = held-by edge c s (negsuc 0) refl (λ k j. c j +ℤ c k)
+    pub by-sums : pos (grip (edge g)) *ℤ weighed g c c ⩽ pos (reach (edge g)) *ℤ overPairs g (λ k j. (c j +ℤ c k) *ℤ (c j +ℤ c k))
+    by-sums = held-by c s (negsuc 0) refl (λ k j. c j +ℤ c k)
         (λ k j. ring 2 (λ x y. y ≈ con (negsuc 0) ⊗ x ⊕ (y ⊕ x)) refl (c k) (c j))

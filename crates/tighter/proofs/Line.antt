@@ -1,15 +1,14 @@
 -- A level along a line that starts from nothing, against the squares of its steps: c 0 = 0 and c (k + 1) = ε·c k + u k with ε² = 1.
 -- ε = 1 has u k = c (k + 1) − c k, the differences; ε = −1 has u k = c (k + 1) + c k, the sums.
--- Between fixed ends l steps apart 8·Σ (c k)² ≤ l²·Σ (u k)². A line from a fixed end to a free one is half of one twice as long.
--- Both beside the parabola v k = k·(l − k), which is 0 at the ends, at most l²/4, and has −2 for its second difference.
-use mathlib.Core.Path.{_≡_, refl, sym, ap, subst}
-use Prim.Native.Nat.{ℕ, zero, suc, _*_, _<_}
+-- Between fixed ends l steps apart 48·Σ (c k)² ≤ (5l² + 4)·Σ (u k)². A line from a fixed end to a free one is half of one twice as long.
+use mathlib.Core.Path.{_≡_, refl, sym, ap, ap₂, _∙_}
+use Prim.Native.Nat.{ℕ, zero, suc, _+_, _*_, _≤_, _<_}
 use native.Mathlib.Omega.{arith}
 use lib.IntN.{ℤ, pos, _+ℤ_, _-ℤ_, _*ℤ_}
 use Rattle.integers.specs.Sum.{sum}
-use Rattle.integers.proofs.Ring.{#_, ⊝_, _⊕_, _⊖_, _⊗_, _², _≈_}
-use Rattle.integers.proofs.Order.{_⩽_, _⋖_, 0≤pos, 0<pos, pos≤, pos-suc, square-nonneg, nonneg-mul, *ℤ-cancel, mul-positive}
-use Rattle.integers.proofs.Order.{<ℤ-weaken, <ℤ-le, le-<ℤ, ≡-≤ℤ, ≤ℤ-≡}
+use Rattle.integers.proofs.Ring.{E, #_, ⊝_, _⊕_, _⊖_, _⊗_, _², _≈_, ring}
+use Rattle.integers.proofs.Order.{_⩽_, _⋖_, 0≤pos, 0<pos, pos≤, pos<, pos-suc, square-nonneg, nonneg-mul, nonneg-add, *ℤ-cancel}
+use Rattle.integers.proofs.Order.{mul-positive, <ℤ-weaken, le-<ℤ, ≡-≤ℤ, ≤ℤ-≡, sub-nonneg}
 use Rattle.integers.proofs.Lin.{_⊴_, _*≤_, _*⊴_, _*≈_, _⇒_, ⊩_, ⊩≈_, lin}
 
 pub sum-zero : (f : ℕ → ℤ) → sum 0 f ≡ pos 0
@@ -20,114 +19,163 @@ pub sum-suc : (n : ℕ) (f : ℕ → ℤ) → sum (suc n) f ≡ sum n f +ℤ f n
 unfolding sum
 sum-suc n f = refl
 
--- ---- one step along the line, from x at k to y at k + 1
+-- ---- beside an arch
 
-module _ (l k : ℤ) (some : pos 0 ⋖ k) (room : pos 0 ⋖ l -ℤ k) where
-  -- v at k
-  abbrev v : ℤ
-  v = k *ℤ (l -ℤ k)
-
-  -- v at k + 1
-  abbrev v′ : ℤ
-  v′ = (k +ℤ pos 1) *ℤ (l -ℤ (k +ℤ pos 1))
-
-  v-positive : pos 0 ⋖ v
-  v-positive = mul-positive some room
-
-  v′-nonneg : pos 0 ⩽ v′
-  v′-nonneg = nonneg-mul (lin 1 (λ k. 1 *≤ # 0 ⊴ k ⇒ ⊩ # 0 ⊴ k ⊕ # 1) refl k (<ℤ-weaken some))
-      (lin 2 (λ l k. 1 *≤ # 0 ⊕ # 1 ⊴ l ⊖ k ⇒ ⊩ # 0 ⊴ l ⊖ (k ⊕ # 1)) refl l k (<ℤ-le room))
-
-  -- multiplied by v, what is left over is l²·(v′·x − v·y)² + 2·v′·x²·(l − 2k)²
-  onward : (x y a : ℤ) → l *ℤ l *ℤ ((l -ℤ pos 2 *ℤ k +ℤ pos 1) *ℤ (x *ℤ x)) ⩽ v *ℤ a
-      → l *ℤ l *ℤ ((l -ℤ pos 2 *ℤ (k +ℤ pos 1) +ℤ pos 1) *ℤ (y *ℤ y)) ⩽ v′ *ℤ (a +ℤ l *ℤ l *ℤ ((y -ℤ x) *ℤ (y -ℤ x)) -ℤ pos 8 *ℤ (x *ℤ x))
-  onward x y a h = *ℤ-cancel v-positive
-      (lin 5 (λ l k x y a. let v = k ⊗ (l ⊖ k) in let v′ = (k ⊕ # 1) ⊗ (l ⊖ (k ⊕ # 1)) in
-      v′ *⊴ l ² ⊗ ((l ⊖ # 2 ⊗ k ⊕ # 1) ⊗ x ²) ⊴ v ⊗ a ⇒ (l ²) *⊴ # 0 ⊴ (v′ ⊗ x ⊖ v ⊗ y) ² ⇒ (# 2 ⊗ (v′ ⊗ x ²)) *⊴ # 0 ⊴ (l ⊖ # 2 ⊗ k) ² ⇒
-      ⊩ v ⊗ (l ² ⊗ ((l ⊖ # 2 ⊗ (k ⊕ # 1) ⊕ # 1) ⊗ y ²)) ⊴ v ⊗ (v′ ⊗ (a ⊕ l ² ⊗ (y ⊖ x) ² ⊖ # 8 ⊗ x ²))) refl
-      l k x y a v′-nonneg h (square-nonneg l) (square-nonneg (v′ *ℤ x -ℤ v *ℤ y))
-      (nonneg-mul (0≤pos 2) (nonneg-mul v′-nonneg (square-nonneg x))) (square-nonneg (l -ℤ pos 2 *ℤ k)))
-
--- ---- the line
+-- v from 0 to L, above 0 between its ends, whose second difference is −(w/t)·v or further down
+record Arch (w t : ℤ) (L : ℕ) (v : ℕ → ℤ) : Type 0 where
+  t-nonneg : pos 0 ⩽ t
+  nonneg : (k : ℕ) → k ≤ L → pos 0 ⩽ v k
+  inside : (k : ℕ) → suc k < L → pos 0 ⋖ v (suc k)
+  bends : (k : ℕ) → suc k < L → w *ℤ v (suc k) ⩽ t *ℤ (pos 2 *ℤ v (suc k) -ℤ v k -ℤ v (suc (suc k)))
 
 module _ (ε : ℤ) (unit : ε *ℤ ε ≡ pos 1) (c u : ℕ → ℤ) (start : c 0 ≡ pos 0) (walk : (k : ℕ) → c (suc k) ≡ ε *ℤ c k +ℤ u k) where
   abbrev U : ℕ → ℤ
-  U i = sum i (λ k. u k *ℤ u k)
+  U k = sum k (λ j. u j *ℤ u j)
 
   abbrev Q : ℕ → ℤ
-  Q n = sum n (λ k. c k *ℤ c k)
+  Q k = sum k (λ j. c j *ℤ c j)
 
-  module _ (L : ℕ) where
-    abbrev l : ℤ
-    l = pos L
-
-    -- l²·Σ_{j<k} (u j)² − 8·Σ_{j<k} (c j)²
+  module _ (w t : ℤ) (L : ℕ) (v : ℕ → ℤ) (arch : Arch w t L v) where
+    -- what is to be shown above 0 at the end
     abbrev A : ℕ → ℤ
-    A k = l *ℤ l *ℤ U k -ℤ pos 8 *ℤ Q k
+    A k = t *ℤ U k -ℤ w *ℤ Q k
 
     A-suc : (k : ℕ) → let x : ℤ = ε *ℤ c k in let y : ℤ = c (suc k) in
-        A (suc k) ≡ A k +ℤ l *ℤ l *ℤ ((y -ℤ x) *ℤ (y -ℤ x)) -ℤ pos 8 *ℤ (x *ℤ x)
+        A (suc k) ≡ A k +ℤ t *ℤ ((y -ℤ x) *ℤ (y -ℤ x)) -ℤ w *ℤ (c k *ℤ c k)
     A-suc k =
-        lin 9 (λ l e x y u s s′ q q′.
-        (l ²) *≈ s′ ≈ s ⊕ u ² ⇒ (⊝ # 8) *≈ q′ ≈ q ⊕ x ² ⇒ (⊝ (l ² ⊗ (y ⊖ e ⊗ x ⊕ u))) *≈ y ≈ e ⊗ x ⊕ u ⇒ (# 8 ⊗ x ²) *≈ e ⊗ e ≈ # 1 ⇒
-        ⊩≈ l ² ⊗ s′ ⊖ # 8 ⊗ q′ ≈ l ² ⊗ s ⊖ # 8 ⊗ q ⊕ l ² ⊗ (y ⊖ e ⊗ x) ² ⊖ # 8 ⊗ (e ⊗ x) ²) refl
-        l ε (c k) (c (suc k)) (u k) (U k) (U (suc k)) (Q k) (Q (suc k))
-        (sum-suc k (λ k. u k *ℤ u k)) (sum-suc k (λ k. c k *ℤ c k)) (walk k) unit
+        lin 10 (λ w t e x y u s s′ q q′.
+        t *≈ s′ ≈ s ⊕ u ² ⇒ (⊝ w) *≈ q′ ≈ q ⊕ x ² ⇒ (⊝ (t ⊗ (y ⊖ e ⊗ x ⊕ u))) *≈ y ≈ e ⊗ x ⊕ u ⇒
+        ⊩≈ t ⊗ s′ ⊖ w ⊗ q′ ≈ t ⊗ s ⊖ w ⊗ q ⊕ t ⊗ (y ⊖ e ⊗ x) ² ⊖ w ⊗ x ²) refl
+        w t ε (c k) (c (suc k)) (u k) (U k) (U (suc k)) (Q k) (Q (suc k))
+        (sum-suc k (λ j. u j *ℤ u j)) (sum-suc k (λ j. c j *ℤ c j)) (walk k)
 
-    -- l²·(l − 2k + 1)·(c k)² ≤ k·(l − k)·A k
-    abbrev Beside : ℤ → ℕ → Type 0
-    Beside k i = l *ℤ l *ℤ ((l -ℤ pos 2 *ℤ k +ℤ pos 1) *ℤ (c i *ℤ c i)) ⩽ (k *ℤ (l -ℤ k)) *ℤ A i
+    -- at k + 1, by the arch's rise up to there
+    abbrev Before : ℕ → Type 0
+    Before k = t *ℤ ((v (suc k) -ℤ v k) *ℤ (c (suc k) *ℤ c (suc k))) ⩽ v (suc k) *ℤ A (suc k)
 
-    next-pos : (k : ℕ) → pos (suc k) +ℤ pos 1 ≡ pos (suc (suc k))
-    next-pos k = lin 2 (λ k k′. (⊝ # 1) *≈ k′ ≈ # 1 ⊕ k ⇒ ⊩≈ k ⊕ # 1 ≈ k′) refl (pos (suc k)) (pos (suc (suc k))) (pos-suc (suc k))
+    -- the same with the step from k + 1 to k + 2, from x to y
+    abbrev Across : ℕ → Type 0
+    Across k = let x : ℤ = ε *ℤ c (suc k) in let y : ℤ = c (suc (suc k)) in
+        t *ℤ (v (suc (suc k)) *ℤ (x *ℤ x) -ℤ pos 2 *ℤ (v (suc k) *ℤ (x *ℤ y)) +ℤ v (suc k) *ℤ (y *ℤ y)) ⩽ v (suc k) *ℤ A (suc (suc k))
 
-    -- (ε·c)² = c²
-    turned : (k : ℤ) (i : ℕ) → Beside k i → let x : ℤ = ε *ℤ c i in
-        l *ℤ l *ℤ ((l -ℤ pos 2 *ℤ k +ℤ pos 1) *ℤ (x *ℤ x)) ⩽ (k *ℤ (l -ℤ k)) *ℤ A i
-    turned k i h = ≡-≤ℤ (lin 4 (λ l k e x. (l ² ⊗ ((l ⊖ # 2 ⊗ k ⊕ # 1) ⊗ x ²)) *≈ e ⊗ e ≈ # 1 ⇒
-        ⊩≈ l ² ⊗ ((l ⊖ # 2 ⊗ k ⊕ # 1) ⊗ (e ⊗ x) ²) ≈ l ² ⊗ ((l ⊖ # 2 ⊗ k ⊕ # 1) ⊗ x ²)) refl l k ε (c i) unit) h
+    -- the two sides move apart by x² times what `bends` leaves over
+    step : (k : ℕ) → suc k < L → Before k → Across k
+    step k l h =
+        lin 10 (λ w t e v₀ v₁ v₂ z y a a′. let x = e ⊗ z in
+        1 *≤ t ⊗ ((v₁ ⊖ v₀) ⊗ z ²) ⊴ v₁ ⊗ a ⇒ (z ²) *⊴ w ⊗ v₁ ⊴ t ⊗ (# 2 ⊗ v₁ ⊖ v₀ ⊖ v₂) ⇒ v₁ *≈ a′ ≈ a ⊕ t ⊗ (y ⊖ x) ² ⊖ w ⊗ z ² ⇒
+        (t ⊗ (v₁ ⊖ v₂) ⊗ z ²) *≈ e ⊗ e ≈ # 1 ⇒
+        ⊩ t ⊗ (v₂ ⊗ x ² ⊖ # 2 ⊗ (v₁ ⊗ (x ⊗ y)) ⊕ v₁ ⊗ y ²) ⊴ v₁ ⊗ a′) refl
+        w t ε (v k) (v (suc k)) (v (suc (suc k))) (c (suc k)) (c (suc (suc k))) (A (suc k)) (A (suc (suc k)))
+        h (square-nonneg (c (suc k))) (arch .bends k l) (A-suc (suc k)) unit
 
-    beside-parabola : (k : ℕ) → suc k < L → Beside (pos (suc k)) (suc k)
-    beside-parabola zero h =
-        lin 8 (λ l e x y s q a′ a. (l ⊖ # 1) *≈ a′ ≈ a ⊕ l ² ⊗ (y ⊖ e ⊗ x) ² ⊖ # 8 ⊗ (e ⊗ x) ² ⇒ (l ⊖ # 1) *≈ a ≈ l ² ⊗ s ⊖ # 8 ⊗ q ⇒
-        ((l ⊖ # 1) ⊗ l ²) *≈ s ≈ # 0 ⇒ (⊝ # 8 ⊗ (l ⊖ # 1)) *≈ q ≈ # 0 ⇒
-        ((l ⊖ # 1) ⊗ (l ² ⊗ (e ⊗ (e ⊗ x) ⊖ # 2 ⊗ (e ⊗ y)) ⊖ # 8 ⊗ (e ⊗ (e ⊗ x)))) *≈ x ≈ # 0 ⇒
-        ⊩ l ² ⊗ ((l ⊖ # 2 ⊗ # 1 ⊕ # 1) ⊗ y ²) ⊴ (# 1 ⊗ (l ⊖ # 1)) ⊗ a′) refl
-        l ε (c 0) (c 1) (U 0) (Q 0) (A 1) (A 0) (A-suc 0) refl (sum-zero (λ k. u k *ℤ u k)) (sum-zero (λ k. c k *ℤ c k)) start
-    beside-parabola (suc k) h =
-        subst (λ (n : ℤ). Beside n (suc (suc k))) (next-pos k)
-        (≤ℤ-≡ (onward l (pos (suc k)) (0<pos k) room (ε *ℤ c (suc k)) (c (suc (suc k))) (A (suc k))
-        (turned (pos (suc k)) (suc k) (beside-parabola k (omega arith))))
-        (ap (λ (a : ℤ). ((pos (suc k) +ℤ pos 1) *ℤ (l -ℤ (pos (suc k) +ℤ pos 1))) *ℤ a) (sym (A-suc (suc k)))))
+    -- multiplied by v (k + 1), what is left over is t·(v (k + 2)·x − v (k + 1)·y)²
+    onward : (k : ℕ) → suc k < L → Across k → Before (suc k)
+    onward k l h = let x : ℤ = ε *ℤ c (suc k) in let y : ℤ = c (suc (suc k)) in
+        *ℤ-cancel (arch .inside k l)
+        (lin 6 (λ t v₁ v₂ x y a. v₂ *⊴ t ⊗ (v₂ ⊗ x ² ⊖ # 2 ⊗ (v₁ ⊗ (x ⊗ y)) ⊕ v₁ ⊗ y ²) ⊴ v₁ ⊗ a ⇒
+        t *⊴ # 0 ⊴ (v₂ ⊗ x ⊖ v₁ ⊗ y) ² ⇒
+        ⊩ v₁ ⊗ (t ⊗ ((v₂ ⊖ v₁) ⊗ y ²)) ⊴ v₁ ⊗ (v₂ ⊗ a)) refl
+        t (v (suc k)) (v (suc (suc k))) x y (A (suc (suc k)))
+        (arch .nonneg (suc (suc k)) (omega arith)) h (arch .t-nonneg) (square-nonneg (v (suc (suc k)) *ℤ x -ℤ v (suc k) *ℤ y)))
+
+    beside : (k : ℕ) → suc k < L → Before k
+    beside zero l =
+        lin 11 (λ w t e x y v₀ v₁ s q a a′. (t ⊗ y ²) *⊴ # 0 ⊴ v₀ ⇒ v₁ *≈ a′ ≈ a ⊕ t ⊗ (y ⊖ e ⊗ x) ² ⊖ w ⊗ x ² ⇒ v₁ *≈ a ≈ t ⊗ s ⊖ w ⊗ q ⇒
+        (v₁ ⊗ t) *≈ s ≈ # 0 ⇒ (⊝ (v₁ ⊗ w)) *≈ q ≈ # 0 ⇒ (v₁ ⊗ (t ⊗ (e ⊗ (e ⊗ x) ⊖ # 2 ⊗ (e ⊗ y)) ⊖ w ⊗ x)) *≈ x ≈ # 0 ⇒
+        ⊩ t ⊗ ((v₁ ⊖ v₀) ⊗ y ²) ⊴ v₁ ⊗ a′) refl
+        w t ε (c 0) (c 1) (v 0) (v 1) (U 0) (Q 0) (A 0) (A 1)
+        (nonneg-mul (arch .t-nonneg) (square-nonneg (c 1))) (arch .nonneg 0 (omega arith)) (A-suc 0) refl
+        (sum-zero (λ j. u j *ℤ u j)) (sum-zero (λ j. c j *ℤ c j)) start
+    beside (suc k) l = onward k (omega arith) (step k (omega arith) (beside k (omega arith)))
+
+    -- where c is 0 again
+    at-end : (k : ℕ) → suc k < L → c (suc (suc k)) ≡ pos 0 → w *ℤ Q (suc (suc (suc k))) ⩽ t *ℤ U (suc (suc k))
+    at-end k l end = lin 6 (λ w t s q q′ y. 1 *≤ # 0 ⊴ t ⊗ s ⊖ w ⊗ q ⇒ (⊝ w) *≈ q′ ≈ q ⊕ y ² ⇒ (⊝ (w ⊗ y)) *≈ y ≈ # 0 ⇒
+        ⊩ w ⊗ q′ ⊴ t ⊗ s) refl
+        w t (U n) (Q n) (Q (suc n)) (c n) above (sum-suc n (λ j. c j *ℤ c j)) end
       where
-        room : pos 0 ⋖ l -ℤ pos (suc k)
-        room = le-<ℤ (lin 2 (λ l k. 1 *≤ k ⊕ # 1 ⊴ l ⇒ ⊩ # 0 ⊕ # 1 ⊴ l ⊖ k) refl l (pos (suc k))
-            (≡-≤ℤ (next-pos k) (pos≤ (omega arith))))
+        n : ℕ
+        n = suc (suc k)
 
+        above : pos 0 ⩽ A n
+        above = let x : ℤ = ε *ℤ c (suc k) in
+            *ℤ-cancel (arch .inside k l)
+            (lin 6 (λ t v₁ v₂ x y a. 1 *≤ t ⊗ (v₂ ⊗ x ² ⊖ # 2 ⊗ (v₁ ⊗ (x ⊗ y)) ⊕ v₁ ⊗ y ²) ⊴ v₁ ⊗ a ⇒ (t ⊗ x ²) *⊴ # 0 ⊴ v₂ ⇒
+            (t ⊗ v₁ ⊗ (y ⊖ # 2 ⊗ x)) *≈ y ≈ # 0 ⇒
+            ⊩ v₁ ⊗ # 0 ⊴ v₁ ⊗ a) refl
+            t (v (suc k)) (v n) x (c n) (A n)
+            (step k l (beside k l)) (nonneg-mul (arch .t-nonneg) (square-nonneg x)) (arch .nonneg n (omega arith)) end)
+
+    -- halfway along an arch that is alike on both sides
+    halfway : (k : ℕ) → suc k < L → v k ≡ v (suc (suc k)) → w *ℤ (pos 2 *ℤ Q (suc k) +ℤ c (suc k) *ℤ c (suc k)) ⩽ pos 2 *ℤ (t *ℤ U (suc k))
+    halfway k l alike = *ℤ-cancel (arch .inside k l)
+        (lin 8 (λ w t v₀ v₁ v₂ y s q. 2 *≤ t ⊗ ((v₁ ⊖ v₀) ⊗ y ²) ⊴ v₁ ⊗ (t ⊗ s ⊖ w ⊗ q) ⇒
+        (y ²) *⊴ w ⊗ v₁ ⊴ t ⊗ (# 2 ⊗ v₁ ⊖ v₀ ⊖ v₂) ⇒ (⊝ (t ⊗ y ²)) *≈ v₀ ≈ v₂ ⇒
+        ⊩ v₁ ⊗ (w ⊗ (# 2 ⊗ q ⊕ y ²)) ⊴ v₁ ⊗ (# 2 ⊗ (t ⊗ s))) refl
+        w t (v k) (v (suc k)) (v (suc (suc k))) (c (suc k)) (U (suc k)) (Q (suc k))
+        (beside k l) (square-nonneg (c (suc k))) (arch .bends k l) alike)
+
+-- ---- the arch: v k = p·(p + l² + 1) with p = k·(l − k), whose second difference is −12p
+
+module _ (L : ℕ) where
+  abbrev l : ℤ
+  l = pos L
+
+  abbrev p : ℤ → ℤ
+  p k = k *ℤ (l -ℤ k)
+
+  abbrev v : ℤ → ℤ
+  v k = p k *ℤ (p k +ℤ (l *ℤ l +ℤ pos 1))
+
+  abbrev T : ℤ
+  T = pos (5 * (L * L) + 4)
+
+  p-nonneg : (k : ℕ) → k ≤ L → pos 0 ⩽ p (pos k)
+  p-nonneg k h = nonneg-mul (0≤pos k) (sub-nonneg (pos≤ h))
+
+  more : (k : ℕ) → k ≤ L → pos 0 ⋖ p (pos k) +ℤ (l *ℤ l +ℤ pos 1)
+  more k h = le-<ℤ (lin 2 (λ p l. 1 *≤ # 0 ⊴ p ⇒ 1 *≤ # 0 ⊴ l ² ⇒ ⊩ # 0 ⊕ # 1 ⊴ p ⊕ (l ² ⊕ # 1)) refl
+      (p (pos k)) l (p-nonneg k h) (square-nonneg l))
+
+  room : (k : ℕ) → k < L → pos 0 ⋖ l -ℤ pos k
+  room k h = le-<ℤ (lin 2 (λ l k. 1 *≤ # 1 ⊕ k ⊴ l ⇒ ⊩ # 0 ⊕ # 1 ⊴ l ⊖ k) refl l (pos k) (≡-≤ℤ (sym (pos-suc k)) (pos≤ h)))
+
+  -- what is left over is 12p·(l − 2k)²
+  bends-at : (k : ℤ) → pos 0 ⩽ p k → pos 48 *ℤ v k ⩽ T *ℤ (pos 2 *ℤ v k -ℤ v (k -ℤ pos 1) -ℤ v (pos 1 +ℤ k))
+  bends-at k h = lin 2 (λ l k. let v : E → E = λ k. k ⊗ (l ⊖ k) ⊗ (k ⊗ (l ⊖ k) ⊕ (l ² ⊕ # 1)) in
+      (# 12 ⊗ (k ⊗ (l ⊖ k))) *⊴ # 0 ⊴ (l ⊖ # 2 ⊗ k) ² ⇒
+      ⊩ # 48 ⊗ v k ⊴ (# 5 ⊗ l ² ⊕ # 4) ⊗ (# 2 ⊗ v k ⊖ v (k ⊖ # 1) ⊖ v (# 1 ⊕ k))) refl
+      l k (nonneg-mul (0≤pos 12) h) (square-nonneg (l -ℤ pos 2 *ℤ k))
+
+  before : (k : ℕ) → pos (suc k) -ℤ pos 1 ≡ pos k
+  before k = ap (λ z. z -ℤ pos 1) (pos-suc k) ∙ ring 1 (λ k. # 1 ⊕ k ⊖ # 1 ≈ k) refl (pos k)
+
+  arch : Arch (pos 48) T L (λ k. v (pos k))
+  arch = record {
+    t-nonneg = 0≤pos (5 * (L * L) + 4);
+    nonneg = λ k h. nonneg-mul (p-nonneg k h) (<ℤ-weaken (more k h));
+    inside = λ k h. mul-positive (mul-positive (0<pos k) (room (suc k) h)) (more (suc k) (omega arith));
+    bends = λ k h. ≤ℤ-≡ (bends-at (pos (suc k)) (p-nonneg (suc k) (omega arith)))
+        (ap₂ (λ x y. T *ℤ (pos 2 *ℤ v (pos (suc k)) -ℤ v x -ℤ v y)) (before k) (sym (pos-suc (suc k))));
+  }
+
+-- ---- a line with a fixed end
+
+module _ (ε : ℤ) (unit : ε *ℤ ε ≡ pos 1) (c u : ℕ → ℤ) (start : c 0 ≡ pos 0) (walk : (k : ℕ) → c (suc k) ≡ ε *ℤ c k +ℤ u k) where
   -- both ends fixed, m + 2 steps apart
-  pub both-ends : (m : ℕ) → c (suc (suc m)) ≡ pos 0 → let l : ℤ = pos (suc (suc m)) in
-      pos 8 *ℤ Q (suc (suc (suc m))) ⩽ l *ℤ l *ℤ U (suc (suc m))
-  both-ends m end = lin 5 (λ s q q′ y l. 1 *≤ # 0 ⊴ l ² ⊗ s ⊖ # 8 ⊗ q ⇒ (⊝ # 8) *≈ q′ ≈ q ⊕ y ² ⇒ (⊝ # 8 ⊗ y) *≈ y ≈ # 0 ⇒
-      ⊩ # 8 ⊗ q′ ⊴ l ² ⊗ s) refl
-      (U L) (Q L) (Q (suc L)) (c L) (pos L) (≤ℤ-≡ closed (sym (A-suc L (suc m)))) (sum-suc L (λ k. c k *ℤ c k)) end
+  pub both-ends : (m : ℕ) → c (suc (suc m)) ≡ pos 0 → let l : ℕ = suc (suc m) in
+      pos 48 *ℤ sum (suc l) (λ k. c k *ℤ c k) ⩽ pos (5 * (l * l) + 4) *ℤ sum l (λ k. u k *ℤ u k)
+  both-ends m end = let l : ℕ = suc (suc m) in at-end ε unit c u start walk (pos 48) (T l) l (λ k. v l (pos k)) (arch l) m (omega arith) end
+
+  -- the last, m + 1 steps away, free: its square counts half
+  pub one-end : (m : ℕ) → let l : ℕ = suc m in pos 24 *ℤ (pos 2 *ℤ sum l (λ k. c k *ℤ c k) +ℤ c l *ℤ c l)
+      ⩽ pos (5 * (2 * l * (2 * l)) + 4) *ℤ sum l (λ k. u k *ℤ u k)
+  one-end m = let l : ℕ = suc m in let t : ℤ = pos (5 * (2 * l * (2 * l)) + 4) in
+      *ℤ-cancel (0<pos 1) (lin 3 (λ x t s. 1 *≤ # 48 ⊗ x ⊴ # 2 ⊗ (t ⊗ s) ⇒ ⊩ # 2 ⊗ (# 24 ⊗ x) ⊴ # 2 ⊗ (t ⊗ s)) refl
+      (pos 2 *ℤ sum l (λ k. c k *ℤ c k) +ℤ c l *ℤ c l) t (sum l (λ k. u k *ℤ u k))
+      (halfway ε unit c u start walk (pos 48) t (2 * l) (λ k. v (2 * l) (pos k)) (arch (2 * l)) m (omega arith) alike))
     where
-      L : ℕ
-      L = suc (suc m)
-
-      -- multiplied by k = m + 1 = l − 1, what is left over is 2·x²·(k − 1)²
-      closed : let x : ℤ = ε *ℤ c (suc m) in let y : ℤ = c L in
-          pos 0 ⩽ A L (suc m) +ℤ pos L *ℤ pos L *ℤ ((y -ℤ x) *ℤ (y -ℤ x)) -ℤ pos 8 *ℤ (x *ℤ x)
-      closed = *ℤ-cancel (0<pos m)
-          (lin 5 (λ l k x y a. 1 *≤ l ² ⊗ ((l ⊖ # 2 ⊗ k ⊕ # 1) ⊗ x ²) ⊴ (k ⊗ (l ⊖ k)) ⊗ a ⇒
-          (# 2 ⊗ x ²) *⊴ # 0 ⊴ (k ⊖ # 1) ² ⇒
-          (x ² ⊗ (l ² ⊕ # 2 ⊗ (l ⊕ k ⊕ # 1)) ⊖ k ⊗ a) *≈ l ≈ k ⊕ # 1 ⇒ (k ⊗ l ² ⊗ (y ⊖ # 2 ⊗ x)) *≈ y ≈ # 0 ⇒
-          ⊩ k ⊗ # 0 ⊴ k ⊗ (a ⊕ l ² ⊗ (y ⊖ x) ² ⊖ # 8 ⊗ x ²)) refl
-          (pos L) (pos (suc m)) (ε *ℤ c (suc m)) (c L) (A L (suc m)) (turned L (pos (suc m)) (suc m) (beside-parabola L m (omega arith)))
-          (nonneg-mul (0≤pos 2) (square-nonneg (ε *ℤ c (suc m)))) (square-nonneg (pos (suc m) -ℤ pos 1)) (sym (next-pos L m)) end)
-
-  -- the first end fixed, the last, m + 1 steps away, free: its square counts half
-  pub one-end : (m : ℕ) → let l : ℤ = pos (suc m) in pos 2 *ℤ Q (suc m) +ℤ c (suc m) *ℤ c (suc m) ⩽ l *ℤ l *ℤ U (suc m)
-  one-end m = *ℤ-cancel (mul-positive (0<pos 3) (mul-positive (0<pos m) (0<pos m)))
-      (lin 4 (λ k x s q. 1 *≤ (# 2 ⊗ k) ² ⊗ ((# 2 ⊗ k ⊖ # 2 ⊗ k ⊕ # 1) ⊗ x ²) ⊴ (k ⊗ (# 2 ⊗ k ⊖ k)) ⊗ ((# 2 ⊗ k) ² ⊗ s ⊖ # 8 ⊗ q) ⇒
-      ⊩ (# 4 ⊗ (k ⊗ k)) ⊗ (# 2 ⊗ q ⊕ x ²) ⊴ (# 4 ⊗ (k ⊗ k)) ⊗ (k ² ⊗ s)) refl
-      (pos (suc m)) (c (suc m)) (U (suc m)) (Q (suc m)) (beside-parabola (2 * suc m) m (omega arith)))
+      alike : v (2 * suc m) (pos m) ≡ v (2 * suc m) (pos (suc (suc m)))
+      alike = ap (λ (p : ℤ). p *ℤ (p +ℤ (pos (2 * suc m) *ℤ pos (2 * suc m) +ℤ pos 1)))
+          (lin 3 (λ x y z. (x ⊖ z) *≈ y ≈ # 1 ⊕ x ⇒ (z ⊖ x) *≈ z ≈ # 1 ⊕ y ⇒ ⊩≈ x ⊗ (# 2 ⊗ y ⊖ x) ≈ z ⊗ (# 2 ⊗ y ⊖ z)) refl
+          (pos m) (pos (suc m)) (pos (suc (suc m))) (pos-suc m) (pos-suc (suc m)))

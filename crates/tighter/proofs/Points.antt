@@ -21,7 +21,7 @@ use Rattle.scheme.specs.Energy.{weight, squares}
 use Rattle.scheme.specs.Book.{LastStep, noStep, stepOf, scale, start, calls}
 use Rattle.scheme.specs.Claims.{distance, Near}
 use Rattle.scheme.proofs.Theorems.Distance.{distance-bound}
-use Rattle.tighter.specs.Bounds.{edged, gripIn, reachIn, grip, reach, byTension, byStiffness, Bound, limit, demanded, linear}
+use Rattle.tighter.specs.Bounds.{span, edgeIn, edge, grip, reach, byTension, byStiffness, Bound, limit, demanded, linear}
 use Rattle.tighter.specs.Bounds.{stiffLinear, lossLinear, forEver, stiffForEver, heavyLoss, stiffHeavyLoss, numbers}
 use Rattle.tighter.specs.Claims.{OfSteps, After, OfEveryList, OfSums, SumBounds, difference, OnePoint, OfPoints, PointBounds}
 use Rattle.tighter.specs.Claims.{AtOnePoint, voice, VoiceWithin, VoiceForEver}
@@ -107,10 +107,6 @@ at-one-point = point-bounds demanded
 
 -- ---- the voice
 
-voice-edged : edged (kind (voice .grid)) ≡ true
-unfolding edged kindOf
-voice-edged = refl
-
 voice-weight : (k : ℕ) → weight (voice .grid) k ≡ 2
 unfolding weight freeIn kindOf
 voice-weight k = refl
@@ -125,13 +121,13 @@ by-numbers a b k y r x e p some p-nonneg part all numbers = *ℤ-cancel {a = pos
 
 voice-at : (n : ℕ) (newer unrounded : List ℤ) → OfSums (numbers forEver) voice n newer unrounded → (k : ℕ) → k < points (voice .grid)
     → pos 2500 *ℤ square (difference voice n newer unrounded k) ⩽ pos (2 ^ 56) *ℤ square (scale (voice .settings) n)
-unfolding gripIn reachIn kindOf
+unfolding span edgeIn grip reach kindOf
 voice-at n newer unrounded h k l =
     let x : ℤ = square (difference voice n newer unrounded k) in
-    by-numbers 2500 (2 ^ 56) (4 * (8 * 8 * (grip (voice .grid) * 11378))) (reach (voice .grid) * D * (2 * points (voice .grid))) 65544
+    by-numbers 2500 (2 ^ 56) (4 * (8 * 8 * (grip (edge (voice .grid)) * 11378))) (reach (edge (voice .grid)) * D * (2 * points (voice .grid))) 65544
     x (distance voice n newer unrounded) (square (scale (voice .settings) n)) (omega arith) (square-nonneg (scale (voice .settings) n))
     (≡-≤ℤ (ap (λ (w : ℕ). pos w *ℤ x) (sym (voice-weight k))) (one-point voice n newer unrounded k l))
-    (h (voice-edged, omega arith)) (omega arith)
+    (h (omega arith)) (omega arith)
 
 pub voice-for-ever : VoiceForEver
 voice-for-ever = each-list (OfSums (numbers forEver)) VoiceWithin

@@ -1,7 +1,5 @@
 -- The bounds on the distance as numbers: demand 3's, and those that hold for a whole cue.
 -- Σ stands for the squared distances summed, a free end counted half; N for the points.
-use mathlib.Core.Path.{_≡_}
-use mathlib.Core.Bool.{Bool, true, false}
 use Prim.Native.Nat.{ℕ, suc, _+_, _-_, _*_, _≤_}
 use lib.IntN.{ℤ, pos, _*ℤ_}
 use Rattle.types.specs.declared.Grid.{Grid}
@@ -15,46 +13,41 @@ use Rattle.scheme.specs.Book.{scale}
 
 -- ---- what holds a level
 
--- the kinds with a fixed edge
-unfoldable pub edged : Kind → Bool
-edged unknown = false
-edged fixedString = true
-edged halfFreeString = true
-edged freeString = false
-edged bar = true
-edged membrane = true
-edged roundMembrane = true
-edged plate = true
+-- Poincaré's inequality: a row of a steps that is 0 at both ends has 48 × Σ c² ≤ span a × Σ (difference)²
+unfoldable pub span : ℕ → ℕ
+span a = 5 * (a * a) + 4
 
--- How such an edge holds a level (Poincaré's inequality): 2 × grip × Σ c² ≤ reach × Σ over pairs of (difference)², where c is 0 at fixed
--- points and a free end counts half. A row of a steps with both ends fixed has 8 × Σ c² ≤ a² × its pairs; with one end free it is half of a
--- row of 2a steps, and has 2 × Σ c² ≤ a² × its pairs. A grid has the former by its rows, and with b for a by its columns of b steps:
--- b² times the one and a² times the other, added.
-unfoldable pub gripIn : Kind → (a b : ℕ) → ℕ
-gripIn unknown a b = 1
-gripIn fixedString a b = 4
-gripIn halfFreeString a b = 1
-gripIn freeString a b = 1
-gripIn bar a b = 4
-gripIn membrane a b = 4 * (a * a + b * b)
-gripIn roundMembrane a b = 4 * (a * a + b * b)
-gripIn plate a b = 4 * (a * a + b * b)
+-- what is fixed: nothing, both ends of a row of a steps, or all round a grid of a steps across and b down
+pub data Edge : Type 0 where
+  noEdge : Edge
+  bothEnds : (a : ℕ) → Edge
+  allRound : (a b : ℕ) → Edge
 
-unfoldable pub reachIn : Kind → (a b : ℕ) → ℕ
-reachIn unknown a b = a * a
-reachIn fixedString a b = a * a
-reachIn halfFreeString a b = a * a
-reachIn freeString a b = a * a
-reachIn bar a b = a * a
-reachIn membrane a b = a * a * (b * b)
-reachIn roundMembrane a b = a * a * (b * b)
-reachIn plate a b = a * a * (b * b)
+-- a row with one end free counts as half of a row twice as long, its mirror image the other half
+unfoldable pub edgeIn : Kind → (a b : ℕ) → Edge
+edgeIn unknown a b = noEdge
+edgeIn fixedString a b = bothEnds a
+edgeIn halfFreeString a b = bothEnds (2 * a)
+edgeIn freeString a b = noEdge
+edgeIn bar a b = bothEnds a
+edgeIn membrane a b = allRound a b
+edgeIn roundMembrane a b = allRound a b
+edgeIn plate a b = allRound a b
 
-abbrev pub grip : Grid → ℕ
-grip g = gripIn (kind g) (g .columns - 1) (g .rows - 1)
+abbrev pub edge : Grid → Edge
+edge g = edgeIn (kind g) (g .columns - 1) (g .rows - 1)
 
-abbrev pub reach : Grid → ℕ
-reach g = reachIn (kind g) (g .columns - 1) (g .rows - 1)
+-- An edge holds a level: 2 × grip × Σ c² ≤ reach × Σ over the pairs of (difference)², where c is 0 at fixed points and a free end counts
+-- half. On a grid the rows' inequality times span b and the columns' times span a are added.
+unfoldable pub grip : Edge → ℕ
+grip noEdge = 0
+grip (bothEnds a) = 24
+grip (allRound a b) = 24 * (span a + span b)
+
+unfoldable pub reach : Edge → ℕ
+reach noEdge = 1
+reach (bothEnds a) = span a
+reach (allRound a b) = span a * span b
 
 -- two numbers of an instrument: hold × the squares of its levels ≤ far × D × their energy
 pub record Holding : Type 0 where
@@ -63,11 +56,14 @@ pub record Holding : Type 0 where
 
 -- q with grip and reach
 abbrev pub byTension : Holding
-byTension = record { hold = λ i. grip (i .grid) * i .settings .q; far = λ i. reach (i .grid) }
+byTension = record { hold = λ i. grip (edge (i .grid)) * i .settings .q; far = λ i. reach (edge (i .grid)) }
 
 -- 2m with their squares
 abbrev pub byStiffness : Holding
-byStiffness = record { hold = λ i. grip (i .grid) * grip (i .grid) * (2 * i .settings .m); far = λ i. reach (i .grid) * reach (i .grid) }
+byStiffness = record {
+  hold = λ i. grip (edge (i .grid)) * grip (edge (i .grid)) * (2 * i .settings .m);
+  far = λ i. reach (edge (i .grid)) * reach (edge (i .grid));
+}
 
 -- ---- the bounds
 
@@ -84,13 +80,13 @@ limit b i n = pos (b .y i n * (2 * points (i .grid))) *ℤ (square (pos (b .r i 
 
 -- the distance itself grows no faster than n: 4 × hold × Σ ≤ far × D × N × n²
 abbrev pub linearBy : Holding → Bound
-linearBy H = record { Covers = λ i. edged (kind (i .grid)) ≡ true; k = λ i n. 4 * H .hold i; y = λ i n. H .far i * D; r = λ i n. n }
+linearBy H = record { Covers = λ i. Unit {0}; k = λ i n. 4 * H .hold i; y = λ i n. H .far i * D; r = λ i n. n }
 
 -- with loss and a fixed edge no number of steps takes the distance further; one of the next two always covers such an instrument.
 -- 4 × s² × hold × Σ ≤ far × D × N × (D+s)², where far × s² ≤ hold × D
 abbrev pub forEverBy : Holding → Bound
 forEverBy H = record {
-  Covers = λ i. (edged (kind (i .grid)) ≡ true) × (H .far i * (i .settings .s * i .settings .s) ≤ H .hold i * D);
+  Covers = λ i. H .far i * (i .settings .s * i .settings .s) ≤ H .hold i * D;
   k = λ i n. 4 * (i .settings .s * i .settings .s * H .hold i);
   y = λ i n. H .far i * D;
   r = λ i n. divisor (i .settings);
@@ -99,7 +95,7 @@ forEverBy H = record {
 -- hold² × Σ ≤ 4 × far² × N × (D+s)², where hold × D ≤ far × s²
 abbrev pub heavyLossBy : Holding → Bound
 heavyLossBy H = record {
-  Covers = λ i. (edged (kind (i .grid)) ≡ true) × (H .hold i * D ≤ H .far i * (i .settings .s * i .settings .s));
+  Covers = λ i. H .hold i * D ≤ H .far i * (i .settings .s * i .settings .s);
   k = λ i n. H .hold i * H .hold i;
   y = λ i n. 4 * (H .far i * H .far i);
   r = λ i n. divisor (i .settings);
