@@ -1,6 +1,5 @@
 -- The bounds on Σ of every list of calls: each from a form that the steps of an instrument do not raise.
 use mathlib.Core.Path.{_≡_, refl, sym, ap, _∙_, subst, subst₂}
-use mathlib.Core.Bool.{true}
 use mathlib.Core.List.{List}
 use Prim.Native.Nat.{ℕ, zero, suc, _+_, _*_, _^_, _≤_, _<_}
 use native.Mathlib.Nat as N
@@ -14,7 +13,7 @@ use Rattle.forms.proofs.Level.{Level, _⊞_, _⊡_, zeros, Still, still-zeros, 
 use Rattle.types.specs.declared.Instrument.{Instrument}
 use Rattle.types.specs.Numbers.{D}
 use Rattle.scheme.specs.Lists.{point, square}
-use Rattle.scheme.specs.Instruments.{kind, points, moving}
+use Rattle.scheme.specs.Instruments.{points, moving}
 use Rattle.scheme.specs.Step.{divisor}
 use Rattle.scheme.specs.Book.{LastStep, Book, scale, State, start, calls}
 use Rattle.scheme.specs.Claims.{distance}
@@ -177,8 +176,8 @@ by-loss-linear = of-growth (λ i. Unit {0}) (λ i ok c. by-loss (lossy i ok)) (O
 
 module _ (H : Holding) (holds : Holds H) where
   pub by-linear : OfEveryList (OfSums (linearBy H))
-  by-linear = of-growth (λ i. Unit {0}) (λ i ok c. by-energy (lossy i ok) (held i ok H holds)) (OfSums (linearBy H)) (λ i ok n newer unrounded
-      bound c.
+  by-linear = of-growth (λ i. Unit {0}) (λ i ok c. by-energy (lossy i ok) (held i ok H holds)) (OfSums (linearBy H))
+      (λ i ok n newer unrounded bound c.
       weaker i n newer unrounded {k′ = 4 * H .hold i} {y′ = H .far i * D} {r = linearBy H .r i n} {r′ = n}
       (omega arith) (omega arith) (omega arith)
       (as-sum i n newer unrounded (H .hold i) (H .far i * D) n (bound tt)))

@@ -1,5 +1,5 @@
--- Fixed edges: grip × Σ w·c² ≤ reach × Σ over the pairs of (difference)² (Poincaré's inequality), and the same with sums in the place of
--- differences. Along lines from the pairs of the row, on grids from those of the rows and of the columns, each beside `Line`.
+-- What an edge holds: grip × Σ w·c² ≤ reach × Σ over the pairs of (difference)², and the same with sums in the place of differences.
+-- A line has it from `Line`, a grid from its rows and its columns, each of them a line with both ends fixed.
 use mathlib.Core.Path.{_≡_, refl, sym, ap, ap₂, _∙_, subst}
 use mathlib.Core.Bool.{Bool, true, false, _||_, cond, true≢false}
 use Prim.Native.Nat.{ℕ, zero, suc, _+_, _-_, _*_, _/_, _%_, _≤_, _<_}
@@ -56,9 +56,10 @@ sum-term false n f = sum-0 n
 
 -- ---- n lines of M steps, M + 1 points, with both ends fixed
 
-far-enough : (a : ℕ) → pos (5 * (a * a) + 4) ⩽ pos (span a)
+-- a wider span would do
+span-wide : (a : ℕ) → pos (5 * (a * a) + 4) ⩽ pos (span a)
 unfolding span
-far-enough a = pos≤ (omega arith)
+span-wide a = pos≤ (omega arith)
 
 span-positive : (a : ℕ) → 0 < span a
 unfolding span
@@ -72,7 +73,7 @@ lines-bound ε unit n (suc zero) h c v first last walk = absurd (omega arith)
 lines-bound ε unit n (suc (suc m)) h c v first last walk = let M : ℕ = suc (suc m) in
     ≡-≤ℤ (sym (sum-scale n (pos 48) _))
     (≤ℤ-≡ (sum-mono n (λ i l. ≤ℤ-trans (both-ends ε unit (c i) (v i) (first i l) (walk i) m (last i l))
-    (*ℤ-mono-r _ (sum-nonneg M (λ k b. square-nonneg (v i k))) (far-enough M))))
+    (*ℤ-mono-r _ (sum-nonneg M (λ k b. square-nonneg (v i k))) (span-wide M))))
     (sum-scale n (pos (span M)) (λ i. sum M (λ k. v i k *ℤ v i k))))
 
 -- ---- the pairs within the rows and within the columns
@@ -212,14 +213,14 @@ module _ (g : Grid) where
           let n : ℕ = suc m in
           let κ : ℤ = pos (span (2 * (C - 1))) in
           let s : ℤ = sum n (λ k. ψ k (k + 1)) in
-          let low : pos (5 * (2 * n * (2 * n)) + 4) ⩽ κ = ≤ℤ-≡ (far-enough (2 * n)) (ap (λ (l : ℕ). pos (span (2 * l))) (omega arith)) in
+          let low : pos (5 * (2 * n * (2 * n)) + 4) ⩽ κ = ≤ℤ-≡ (span-wide (2 * n)) (ap (λ (l : ℕ). pos (span (2 * l))) (omega arith)) in
           lin 8 (λ w t k x s y p r. 24 *≤ w ⊴ t ⇒ 1 *≤ # 24 ⊗ t ⊴ k ⊗ s ⇒ s *⊴ k ⊴ r ⇒ r *≈ x ≈ s ⇒ r *⊴ # 0 ⊴ y ⇒ r *≈ p ≈ x ⊕ y ⇒
           ⊩ # 24 ⊗ w ⊴ r ⊗ p) refl
           (weighed g c c) (pos 2 *ℤ sum n sq +ℤ sq n) (pos (5 * (2 * n * (2 * n)) + 4)) (inRows ψ) s (inColumns ψ) (overPairs ψ) κ
           weighed-row (one-end ε unit c (λ k. u k (k + 1)) first (λ k. ap c (omega arith) ∙ walk k (k + 1)) m)
           (sum-nonneg n (λ k l. square-nonneg (u k (k + 1)))) low row-alone (0≤pos (span (2 * (C - 1)))) columns-nonneg pairs
 
--- ---- the kinds
+-- ---- the outer ring is fixed
 
 is-true : (b : Bool) → T b → b ≡ true
 is-true true t = refl
@@ -232,7 +233,7 @@ or-right false e = e
 last-edge : (n : ℕ) → 0 < n → atEdge n (n - 1) ≡ true
 last-edge n h = or-right (eqb (n - 1) 0) (eq-eqb (n - 1 + 1) n (omega arith))
 
--- (2a − G + 1)² is (G − 1)² by itself
+-- there (2a − G + 1)² is (G − 1)² by itself
 off-edge : (G a : ℕ) → atEdge G a ≡ true → offCentre G a *ℤ offCentre G a ≡ (pos G -ℤ pos 1) *ℤ (pos G -ℤ pos 1)
 off-edge G a e = go (eqb a 0) refl e
   where
@@ -252,7 +253,6 @@ unfolding roundEdge
 round-row G a b e = is-true _ ((lin 3 (λ r x y. # 1 *≈ y ² ≈ r ² ⇒ 1 *≤ # 0 ⊴ x ² ⇒ ⊩ r ² ⊴ x ² ⊕ y ²) refl
     (pos G -ℤ pos 1) (offCentre G a) (offCentre G b) (off-edge G b e) (square-nonneg (offCentre G a))) .le)
 
--- the outer ring
 record Ringed (K : Kind) (c r : ℕ) : Type 0 where
   columns-fixed : (a b : ℕ) → atEdge c a ≡ true → fixedIn K c r a b ≡ true
   rows-fixed : (a b : ℕ) → atEdge r b ≡ true → fixedIn K c r a b ≡ true
@@ -276,13 +276,13 @@ round-ringed c r e =
       rows-low = omega (arith, within-is 3 64 c (p .0) .0);
     }
 
--- ---- what holds a level
+-- ---- what an edge holds
 
 pub reach-positive : (e : Edge) → 0 < reach e
 unfolding reach
 reach-positive noEdge = omega arith
-reach-positive (bothEnds a) = span-positive a
-reach-positive (allRound a b) = N.mul-pos (span-positive a) (span-positive b)
+reach-positive (bothEnds a) = omega (arith, span-positive a)
+reach-positive (allRound a b) = omega (arith, span-positive a, N.mul-pos (span-positive a) (span-positive b))
 
 module _ (g : Grid) (size : sizeIn (kind g) (g .columns) (g .rows) ≡ true) where
   abbrev a : ℕ
@@ -332,7 +332,8 @@ module _ (g : Grid) (size : sizeIn (kind g) (g .columns) (g .rows) ≡ true) whe
           (λ x l. zero-at x 0 l (e .rows-fixed x 0 refl))
           (λ x l. zero-at x b l (e .rows-fixed x b (last-edge (g .rows) (omega (arith, e .rows-low)))))
 
-    half-held : kind g ≡ halfFreeString → sizeIn halfFreeString (g .columns) (g .rows) ≡ true → pos 24 *ℤ weighed g c c ⩽ pos (span (2 * a)) *ℤ P
+    half-held : kind g ≡ halfFreeString → sizeIn halfFreeString (g .columns) (g .rows) ≡ true
+        → pos 24 *ℤ weighed g c c ⩽ pos (span (2 * a)) *ℤ P
     unfolding fixedIn sizeIn weight freeIn
     half-held k e = half-fixed g wide c ε unit u walk (eqb-true (g .rows) 1 (and-both (within 3 1024 (g .columns)) (eqb (g .rows) 1) e .1))
         (ap c (omega arith) ∙ zero-at halfFreeString k 0 0 (omega (arith, wide)) refl) free
@@ -346,7 +347,7 @@ module _ (g : Grid) (size : sizeIn (kind g) (g .columns) (g .rows) ≡ true) whe
 
     held-in : (K : Kind) → kind g ≡ K → sizeIn K (g .columns) (g .rows) ≡ true
         → let e : Edge = edgeIn K a b in pos (grip e) *ℤ weighed g c c ⩽ pos (reach e) *ℤ P
-    unfolding edgeIn grip reach fixedIn sizeIn
+    unfolding span edgeIn grip reach fixedIn sizeIn
     held-in unknown k e = absurd (true≢false (sym e))
     held-in fixedString k e = weaker (omega arith) (omega arith) (line-held fixedString k (λ x y h. h))
     held-in halfFreeString k e = weaker (omega arith) (omega arith) (half-held k e)

@@ -1,7 +1,6 @@
 -- What holds the levels of an instrument: the propositions `HeldByTension` and `HeldByStiffness`; and an instrument that passes, as a
 -- lossy scheme.
 use mathlib.Core.Path.{_≡_, refl, ap, ap₂, _∙_}
-use mathlib.Core.Bool.{true}
 use Prim.Native.Nat.{ℕ, _*_, _≤_, _<_}
 use native.Mathlib.Nat as N
 use native.Mathlib.Omega.{arith}
@@ -14,7 +13,7 @@ use Rattle.types.specs.declared.Grid.{Grid}
 use Rattle.types.specs.declared.Instrument.{Instrument}
 use Rattle.types.specs.Numbers.{D}
 use Rattle.scheme.specs.Lists.{point}
-use Rattle.scheme.specs.Instruments.{kind, points, moving}
+use Rattle.scheme.specs.Instruments.{points, moving}
 use Rattle.scheme.specs.Energy.{weight, squares, energy}
 use Rattle.scheme.proofs.Laws.Refusals.{coefficients-small}
 use Rattle.scheme.specs.Passing.{InstrumentPasses}
@@ -52,10 +51,8 @@ tension-holds = record {
 pub stiffness-holds : Holds byStiffness
 stiffness-holds = record {
   far-positive = λ i. let c = reach-positive (edge (i .grid)) in omega (arith, N.mul-pos c c);
-  by-energy = λ i ok a b sa sb.
-      weaker i ok a b {h′ = grip (edge (i .grid)) * grip (edge (i .grid)) * (2 * i .settings .m)} {f′ = reach (edge (i .grid)) * reach (edge (i .grid))} (omega arith)
-      (omega arith)
-      (by-stiffness i ok a b sa sb);
+  by-energy = λ i ok a b sa sb. let y : ℕ = grip (edge (i .grid)) in let r : ℕ = reach (edge (i .grid)) in
+      weaker i ok a b {h′ = y * y * (2 * i .settings .m)} {f′ = r * r} (omega arith) (omega arith) (by-stiffness i ok a b sa sb);
 }
 
 -- ---- the propositions

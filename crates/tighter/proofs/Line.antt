@@ -1,13 +1,14 @@
 -- A level along a line that starts from nothing, against the squares of its steps: c 0 = 0 and c (k + 1) = ε·c k + u k with ε² = 1.
 -- ε = 1 has u k = c (k + 1) − c k, the differences; ε = −1 has u k = c (k + 1) + c k, the sums.
 -- Between fixed ends l steps apart 48·Σ (c k)² ≤ (5l² + 4)·Σ (u k)². A line from a fixed end to a free one is half of one twice as long.
+-- Both follow beside an arch, a sequence above 0 between the ends that bends down enough.
 use mathlib.Core.Path.{_≡_, refl, sym, ap, ap₂, _∙_}
 use Prim.Native.Nat.{ℕ, zero, suc, _+_, _*_, _≤_, _<_}
 use native.Mathlib.Omega.{arith}
 use lib.IntN.{ℤ, pos, _+ℤ_, _-ℤ_, _*ℤ_}
 use Rattle.integers.specs.Sum.{sum}
 use Rattle.integers.proofs.Ring.{E, #_, ⊝_, _⊕_, _⊖_, _⊗_, _², _≈_, ring}
-use Rattle.integers.proofs.Order.{_⩽_, _⋖_, 0≤pos, 0<pos, pos≤, pos<, pos-suc, square-nonneg, nonneg-mul, nonneg-add, *ℤ-cancel}
+use Rattle.integers.proofs.Order.{_⩽_, _⋖_, 0≤pos, 0<pos, pos≤, pos-suc, square-nonneg, nonneg-mul, *ℤ-cancel}
 use Rattle.integers.proofs.Order.{mul-positive, <ℤ-weaken, le-<ℤ, ≡-≤ℤ, ≤ℤ-≡, sub-nonneg}
 use Rattle.integers.proofs.Lin.{_⊴_, _*≤_, _*⊴_, _*≈_, _⇒_, ⊩_, ⊩≈_, lin}
 
@@ -21,7 +22,7 @@ sum-suc n f = refl
 
 -- ---- beside an arch
 
--- v from 0 to L, above 0 between its ends, whose second difference is −(w/t)·v or further down
+-- v from 0 to L, above 0 between its ends, where it bends down by w/t of itself or more
 record Arch (w t : ℤ) (L : ℕ) (v : ℕ → ℤ) : Type 0 where
   t-nonneg : pos 0 ⩽ t
   nonneg : (k : ℕ) → k ≤ L → pos 0 ⩽ v k
@@ -36,7 +37,7 @@ module _ (ε : ℤ) (unit : ε *ℤ ε ≡ pos 1) (c u : ℕ → ℤ) (start : c
   Q k = sum k (λ j. c j *ℤ c j)
 
   module _ (w t : ℤ) (L : ℕ) (v : ℕ → ℤ) (arch : Arch w t L v) where
-    -- what is to be shown above 0 at the end
+    -- t·Σ_{j<k} (u j)² − w·Σ_{j<k} (c j)²
     abbrev A : ℕ → ℤ
     A k = t *ℤ U k -ℤ w *ℤ Q k
 
@@ -49,16 +50,16 @@ module _ (ε : ℤ) (unit : ε *ℤ ε ≡ pos 1) (c u : ℕ → ℤ) (start : c
         w t ε (c k) (c (suc k)) (u k) (U k) (U (suc k)) (Q k) (Q (suc k))
         (sum-suc k (λ j. u j *ℤ u j)) (sum-suc k (λ j. c j *ℤ c j)) (walk k)
 
-    -- at k + 1, by the arch's rise up to there
+    -- t·(v (k + 1) − v k)·(c (k + 1))² ≤ v (k + 1)·A (k + 1)
     abbrev Before : ℕ → Type 0
     Before k = t *ℤ ((v (suc k) -ℤ v k) *ℤ (c (suc k) *ℤ c (suc k))) ⩽ v (suc k) *ℤ A (suc k)
 
-    -- the same with the step from k + 1 to k + 2, from x to y
+    -- with the step to the next point, from x to y: t·(v (k + 2)·x² − 2·v (k + 1)·x·y + v (k + 1)·y²) ≤ v (k + 1)·A (k + 2)
     abbrev Across : ℕ → Type 0
     Across k = let x : ℤ = ε *ℤ c (suc k) in let y : ℤ = c (suc (suc k)) in
         t *ℤ (v (suc (suc k)) *ℤ (x *ℤ x) -ℤ pos 2 *ℤ (v (suc k) *ℤ (x *ℤ y)) +ℤ v (suc k) *ℤ (y *ℤ y)) ⩽ v (suc k) *ℤ A (suc (suc k))
 
-    -- the two sides move apart by x² times what `bends` leaves over
+    -- what is left over is x² times what is left over in `bends`
     step : (k : ℕ) → suc k < L → Before k → Across k
     step k l h =
         lin 10 (λ w t e v₀ v₁ v₂ z y a a′. let x = e ⊗ z in
@@ -78,15 +79,15 @@ module _ (ε : ℤ) (unit : ε *ℤ ε ≡ pos 1) (c u : ℕ → ℤ) (start : c
         t (v (suc k)) (v (suc (suc k))) x y (A (suc (suc k)))
         (arch .nonneg (suc (suc k)) (omega arith)) h (arch .t-nonneg) (square-nonneg (v (suc (suc k)) *ℤ x -ℤ v (suc k) *ℤ y)))
 
-    beside : (k : ℕ) → suc k < L → Before k
-    beside zero l =
+    beside-arch : (k : ℕ) → suc k < L → Before k
+    beside-arch zero l =
         lin 11 (λ w t e x y v₀ v₁ s q a a′. (t ⊗ y ²) *⊴ # 0 ⊴ v₀ ⇒ v₁ *≈ a′ ≈ a ⊕ t ⊗ (y ⊖ e ⊗ x) ² ⊖ w ⊗ x ² ⇒ v₁ *≈ a ≈ t ⊗ s ⊖ w ⊗ q ⇒
         (v₁ ⊗ t) *≈ s ≈ # 0 ⇒ (⊝ (v₁ ⊗ w)) *≈ q ≈ # 0 ⇒ (v₁ ⊗ (t ⊗ (e ⊗ (e ⊗ x) ⊖ # 2 ⊗ (e ⊗ y)) ⊖ w ⊗ x)) *≈ x ≈ # 0 ⇒
         ⊩ t ⊗ ((v₁ ⊖ v₀) ⊗ y ²) ⊴ v₁ ⊗ a′) refl
         w t ε (c 0) (c 1) (v 0) (v 1) (U 0) (Q 0) (A 0) (A 1)
         (nonneg-mul (arch .t-nonneg) (square-nonneg (c 1))) (arch .nonneg 0 (omega arith)) (A-suc 0) refl
         (sum-zero (λ j. u j *ℤ u j)) (sum-zero (λ j. c j *ℤ c j)) start
-    beside (suc k) l = onward k (omega arith) (step k (omega arith) (beside k (omega arith)))
+    beside-arch (suc k) l = onward k (omega arith) (step k (omega arith) (beside-arch k (omega arith)))
 
     -- where c is 0 again
     at-end : (k : ℕ) → suc k < L → c (suc (suc k)) ≡ pos 0 → w *ℤ Q (suc (suc (suc k))) ⩽ t *ℤ U (suc (suc k))
@@ -104,7 +105,7 @@ module _ (ε : ℤ) (unit : ε *ℤ ε ≡ pos 1) (c u : ℕ → ℤ) (start : c
             (t ⊗ v₁ ⊗ (y ⊖ # 2 ⊗ x)) *≈ y ≈ # 0 ⇒
             ⊩ v₁ ⊗ # 0 ⊴ v₁ ⊗ a) refl
             t (v (suc k)) (v n) x (c n) (A n)
-            (step k l (beside k l)) (nonneg-mul (arch .t-nonneg) (square-nonneg x)) (arch .nonneg n (omega arith)) end)
+            (step k l (beside-arch k l)) (nonneg-mul (arch .t-nonneg) (square-nonneg x)) (arch .nonneg n (omega arith)) end)
 
     -- halfway along an arch that is alike on both sides
     halfway : (k : ℕ) → suc k < L → v k ≡ v (suc (suc k)) → w *ℤ (pos 2 *ℤ Q (suc k) +ℤ c (suc k) *ℤ c (suc k)) ⩽ pos 2 *ℤ (t *ℤ U (suc k))
@@ -113,7 +114,7 @@ module _ (ε : ℤ) (unit : ε *ℤ ε ≡ pos 1) (c u : ℕ → ℤ) (start : c
         (y ²) *⊴ w ⊗ v₁ ⊴ t ⊗ (# 2 ⊗ v₁ ⊖ v₀ ⊖ v₂) ⇒ (⊝ (t ⊗ y ²)) *≈ v₀ ≈ v₂ ⇒
         ⊩ v₁ ⊗ (w ⊗ (# 2 ⊗ q ⊕ y ²)) ⊴ v₁ ⊗ (# 2 ⊗ (t ⊗ s))) refl
         w t (v k) (v (suc k)) (v (suc (suc k))) (c (suc k)) (U (suc k)) (Q (suc k))
-        (beside k l) (square-nonneg (c (suc k))) (arch .bends k l) alike)
+        (beside-arch k l) (square-nonneg (c (suc k))) (arch .bends k l) alike)
 
 -- ---- the arch: v k = p·(p + l² + 1) with p = k·(l − k), whose second difference is −12p
 
@@ -147,8 +148,8 @@ module _ (L : ℕ) where
       ⊩ # 48 ⊗ v k ⊴ (# 5 ⊗ l ² ⊕ # 4) ⊗ (# 2 ⊗ v k ⊖ v (k ⊖ # 1) ⊖ v (# 1 ⊕ k))) refl
       l k (nonneg-mul (0≤pos 12) h) (square-nonneg (l -ℤ pos 2 *ℤ k))
 
-  before : (k : ℕ) → pos (suc k) -ℤ pos 1 ≡ pos k
-  before k = ap (λ z. z -ℤ pos 1) (pos-suc k) ∙ ring 1 (λ k. # 1 ⊕ k ⊖ # 1 ≈ k) refl (pos k)
+  pos-pred : (k : ℕ) → pos (suc k) -ℤ pos 1 ≡ pos k
+  pos-pred k = ap (λ z. z -ℤ pos 1) (pos-suc k) ∙ ring 1 (λ k. # 1 ⊕ k ⊖ # 1 ≈ k) refl (pos k)
 
   arch : Arch (pos 48) T L (λ k. v (pos k))
   arch = record {
@@ -156,7 +157,7 @@ module _ (L : ℕ) where
     nonneg = λ k h. nonneg-mul (p-nonneg k h) (<ℤ-weaken (more k h));
     inside = λ k h. mul-positive (mul-positive (0<pos k) (room (suc k) h)) (more (suc k) (omega arith));
     bends = λ k h. ≤ℤ-≡ (bends-at (pos (suc k)) (p-nonneg (suc k) (omega arith)))
-        (ap₂ (λ x y. T *ℤ (pos 2 *ℤ v (pos (suc k)) -ℤ v x -ℤ v y)) (before k) (sym (pos-suc (suc k))));
+        (ap₂ (λ x y. T *ℤ (pos 2 *ℤ v (pos (suc k)) -ℤ v x -ℤ v y)) (pos-pred k) (sym (pos-suc (suc k))));
   }
 
 -- ---- a line with a fixed end

@@ -1,6 +1,5 @@
 -- Bounds at one point: a point's own part of the squared distances, demand 3's bound there, and the paper's example voice.
 use mathlib.Core.Path.{_≡_, refl, sym, ap, subst}
-use mathlib.Core.Bool.{true}
 use mathlib.Core.List.{List}
 use Prim.Native.Nat.{ℕ, zero, suc, _*_, _^_, _≤_, _<_}
 use native.Mathlib.Nat as N
@@ -16,7 +15,7 @@ use Rattle.integers.proofs.Sum.{sum-nonneg}
 use Rattle.types.specs.declared.Instrument.{Instrument}
 use Rattle.types.specs.Numbers.{D}
 use Rattle.scheme.specs.Lists.{square}
-use Rattle.scheme.specs.Instruments.{kindOf, kind, points, freeIn}
+use Rattle.scheme.specs.Instruments.{kindOf, points, freeIn}
 use Rattle.scheme.specs.Energy.{weight, squares}
 use Rattle.scheme.specs.Book.{LastStep, noStep, stepOf, scale, start, calls}
 use Rattle.scheme.specs.Claims.{distance, Near}
@@ -124,7 +123,8 @@ voice-at : (n : ℕ) (newer unrounded : List ℤ) → OfSums (numbers forEver) v
 unfolding span edgeIn grip reach kindOf
 voice-at n newer unrounded h k l =
     let x : ℤ = square (difference voice n newer unrounded k) in
-    by-numbers 2500 (2 ^ 56) (4 * (8 * 8 * (grip (edge (voice .grid)) * 11378))) (reach (edge (voice .grid)) * D * (2 * points (voice .grid))) 65544
+    by-numbers 2500 (2 ^ 56) (4 * (8 * 8 * (grip (edge (voice .grid)) * 11378)))
+    (reach (edge (voice .grid)) * D * (2 * points (voice .grid))) 65544
     x (distance voice n newer unrounded) (square (scale (voice .settings) n)) (omega arith) (square-nonneg (scale (voice .settings) n))
     (≡-≤ℤ (ap (λ (w : ℕ). pos w *ℤ x) (sym (voice-weight k))) (one-point voice n newer unrounded k l))
     (h (omega arith)) (omega arith)

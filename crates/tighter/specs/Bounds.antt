@@ -37,13 +37,13 @@ edgeIn plate a b = allRound a b
 abbrev pub edge : Grid → Edge
 edge g = edgeIn (kind g) (g .columns - 1) (g .rows - 1)
 
--- An edge holds a level: 2 × grip × Σ c² ≤ reach × Σ over the pairs of (difference)², where c is 0 at fixed points and a free end counts
--- half. On a grid the rows' inequality times span b and the columns' times span a are added.
+-- an edge holds a level c that is 0 at fixed points: 2 × grip × Σ c² ≤ reach × Σ over the pairs of (difference)², a free end counted half
 unfoldable pub grip : Edge → ℕ
 grip noEdge = 0
 grip (bothEnds a) = 24
 grip (allRound a b) = 24 * (span a + span b)
 
+-- a grid has its rows' inequality times span b, and its columns' times span a, added
 unfoldable pub reach : Edge → ℕ
 reach noEdge = 1
 reach (bothEnds a) = span a
@@ -67,7 +67,7 @@ byStiffness = record {
 
 -- ---- the bounds
 
--- of n steps of the instruments that it covers: k × Σ ≤ y × N × r²
+-- of n steps of the instruments that it covers: k × Σ ≤ y × N × r², which says something where k is above 0
 pub record Bound : Type 1 where
   pub Covers : Instrument → Type 0
   pub k : Instrument → (n : ℕ) → ℕ
@@ -82,7 +82,7 @@ limit b i n = pos (b .y i n * (2 * points (i .grid))) *ℤ (square (pos (b .r i 
 abbrev pub linearBy : Holding → Bound
 linearBy H = record { Covers = λ i. Unit {0}; k = λ i n. 4 * H .hold i; y = λ i n. H .far i * D; r = λ i n. n }
 
--- with loss and a fixed edge no number of steps takes the distance further; one of the next two always covers such an instrument.
+-- with loss and a fixed edge no number of steps takes the distance further; one of the next two always covers an instrument.
 -- 4 × s² × hold × Σ ≤ far × D × N × (D+s)², where far × s² ≤ hold × D
 abbrev pub forEverBy : Holding → Bound
 forEverBy H = record {
