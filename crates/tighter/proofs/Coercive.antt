@@ -1,4 +1,4 @@
--- Where an edge is fixed the energy bounds the levels themselves (it is coercive), with η the grip and κ the reach of the grid:
+-- The energy bounds the levels themselves where an edge is fixed (it is coercive), with η the edge's grip and κ its reach:
 -- η·q·(G(a,a) + G(b,b)) ≤ κ·E(a,b), and η²·2m·(G(a,a) + G(b,b)) ≤ κ²·E(a,b).
 -- With c = a − b and e = a + b, P the sum over pairs of (difference)², J of (sum)², Λ the sum of L²:
 -- 4E ≥ 2q·(J(c) + P(e)) + 4K·m·J(c) + 2m·Λ(e), by the stability limits and P + J ≤ K·G.
@@ -84,17 +84,17 @@ module _ (i : Instrument) (ok : InstrumentPasses i) where
       (ap (λ z. pos 4 *ℤ (pos D *ℤ z +ℤ pos (2 * i .settings .q) *ℤ pairSum g a b +ℤ pos (2 * i .settings .m) *ℤ laplacianSum g a b))
       (sym (squares-are g a b)))
 
-  abbrev y : ℕ
-  y = grip (edge (i .grid))
+  abbrev grip-g : ℕ
+  grip-g = grip (edge (i .grid))
 
-  abbrev r : ℕ
-  r = reach (edge (i .grid))
+  abbrev reach-g : ℕ
+  reach-g = reach (edge (i .grid))
 
   abbrev η : ℤ
-  η = pos y
+  η = pos grip-g
 
   abbrev κ : ℤ
-  κ = pos r
+  κ = pos reach-g
 
   held-differences : {e : Level} → Still (moving g) e → η *ℤ weighed g e e ⩽ κ *ℤ pairSum g e e
   held-differences {e} s = by-differences g (ok .size) e s
@@ -131,7 +131,7 @@ module _ (i : Instrument) (ok : InstrumentPasses i) where
           ⊩ # 2 ⊗ (# 2 ⊗ (η ⊗ η ⊗ G)) ⊴ # 2 ⊗ (κ ⊗ κ ⊗ Λ)) refl
           η κ (weighed g e e) (pairSum g e e) (laplacianSum g e e) (weighed g e ℓ) (weighed g ℓ ℓ)
           (≤ℤ-≡ (weighed-nonneg g (((pos 2 *ℤ η) ⊡ e) ⊞ (κ ⊡ ℓ))) (square-combination (weighed-form g) (pos 2 *ℤ η) κ e ℓ)) mixed both
-          (0≤pos (8 * y)) (held-differences s))
+          (0≤pos (8 * grip-g)) (held-differences s))
 
       go : (i .settings .m ≡ 0) ⊎ ((k : ℕ) → weight g k ≡ 2)
           → m *ℤ (pos 2 *ℤ (η *ℤ η *ℤ weighed g e e)) ⩽ m *ℤ (κ *ℤ κ *ℤ laplacianSum g e e)
@@ -160,16 +160,16 @@ module _ (i : Instrument) (ok : InstrumentPasses i) where
         ⊩ # 4 ⊗ (η ⊗ q ⊗ (A ⊕ B)) ⊴ # 4 ⊗ (κ ⊗ E)) refl
         q m (pos K) η κ (energy i a b) (weighed g a a) (weighed g b b) (weighed g a b) (weighed g e e) (weighed g c c) (joinSum g c)
         (pairSum g e e) (laplacianSum g e e)
-        (0≤pos (r)) (energy-below a b) (0≤pos (2 * i .settings .q)) (held-differences se) (0≤pos (2 * i .settings .q))
+        (0≤pos reach-g) (energy-below a b) (0≤pos (2 * i .settings .q)) (held-differences se) (0≤pos (2 * i .settings .q))
         (held-sums sc)
-        (0≤pos (r * (4 * (i .settings .m * K)))) (join-nonneg g c) (0≤pos (r * (2 * i .settings .m))) (laplacian-nonneg g e)
+        (0≤pos (reach-g * (4 * (i .settings .m * K)))) (join-nonneg g c) (0≤pos (reach-g * (2 * i .settings .m))) (laplacian-nonneg g e)
         (square-sum (weighed-form g) a b) (square-difference (weighed-form g) a b))
 
     -- η·G(c) ≤ K·κ·G(c)
     far-enough : η *ℤ weighed g c c ⩽ pos K *ℤ (κ *ℤ weighed g c c)
     far-enough = lin 6 (λ K η κ G P J. 1 *≤ η ⊗ G ⊴ κ ⊗ P ⇒ κ *⊴ P ⊕ J ⊴ K ⊗ G ⇒ κ *⊴ # 0 ⊴ J ⇒ ⊩ η ⊗ G ⊴ K ⊗ (κ ⊗ G)) refl
-        (pos K) η κ (weighed g c c) (pairSum g c c) (joinSum g c) (held-differences sc) (0≤pos (r)) (parallelogram c)
-        (0≤pos (r)) (join-nonneg g c)
+        (pos K) η κ (weighed g c c) (pairSum g c c) (joinSum g c) (held-differences sc) (0≤pos reach-g) (parallelogram c)
+        (0≤pos reach-g) (join-nonneg g c)
 
     pub by-stiffness : η *ℤ η *ℤ (pos 2 *ℤ m) *ℤ (weighed g a a +ℤ weighed g b b) ⩽ κ *ℤ κ *ℤ energy i a b
     by-stiffness = *ℤ-cancel (0<pos 3)
@@ -181,8 +181,8 @@ module _ (i : Instrument) (ok : InstrumentPasses i) where
         ⊩ # 4 ⊗ (η ⊗ η ⊗ (# 2 ⊗ m) ⊗ (A ⊕ B)) ⊴ # 4 ⊗ ((κ ⊗ κ) ⊗ E)) refl
         q m (pos K) η κ (energy i a b) (weighed g a a) (weighed g b b) (weighed g a b) (weighed g e e) (weighed g c c) (joinSum g c)
         (pairSum g e e) (laplacianSum g e e)
-        (0≤pos (r * r)) (energy-below a b) (twice-held se) (0≤pos (r * (4 * (i .settings .m * K)))) (held-sums sc)
-        (0≤pos (4 * (i .settings .m * y))) far-enough
-        (0≤pos (r * r * (2 * i .settings .q))) (join-nonneg g c) (0≤pos (r * r * (2 * i .settings .q)))
+        (0≤pos (reach-g * reach-g)) (energy-below a b) (twice-held se) (0≤pos (reach-g * (4 * (i .settings .m * K)))) (held-sums sc)
+        (0≤pos (4 * (i .settings .m * grip-g))) far-enough
+        (0≤pos (reach-g * reach-g * (2 * i .settings .q))) (join-nonneg g c) (0≤pos (reach-g * reach-g * (2 * i .settings .q)))
         (pair-nonneg g e)
         (square-sum (weighed-form g) a b) (square-difference (weighed-form g) a b))

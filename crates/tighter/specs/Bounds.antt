@@ -34,6 +34,7 @@ edgeIn membrane a b = allRound a b
 edgeIn roundMembrane a b = allRound a b
 edgeIn plate a b = allRound a b
 
+-- a grid has a step less across than it has columns, and a step less down than rows
 abbrev pub edge : Grid → Edge
 edge g = edgeIn (kind g) (g .columns - 1) (g .rows - 1)
 
