@@ -221,6 +221,7 @@ EDITS = (
     ("free end held as a fixed one", "bounds.py", "span(2 * across if kind == 2 else across)", "span(across)"),
     ("grid held by 25", "bounds.py", "24 * (span(across) + span(down))", "25 * (span(across) + span(down))"),
     ("grid held by its rows alone, its columns' grip counted", "bounds.py", "span(across) * span(down)", "span(across)"),
+    ("tension counted twice", "bounds.py", "return grip * settings[0]", "return grip * 2 * settings[0]"),
     ("stiffness counted twice", "bounds.py", "grip**2 * 2 * settings[1]", "grip**2 * 4 * settings[1]"),
     ("reach not squared for stiffness", "bounds.py", ", reach**2", ", reach"),
     ("a fourth of the demanded bound", "bounds.py", "(n * (n + 1)) ** 2, 16)", "(n * (n + 1)) ** 2, 64)"),
