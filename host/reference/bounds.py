@@ -5,19 +5,33 @@ Each takes a grid (kind, columns, rows), settings (q, m, s) and the steps n, and
 
 from fractions import Fraction
 
-from instrument import D, free_ends
+from instrument import D, GRID_KINDS, free_ends
 
-# "edged" of crates/tighter/specs/Bounds.antt: the kinds with a fixed edge.
-EDGED = (1, 2, 4, 5, 6, 7)
+
+def span(steps):
+    """48 x the squares of a row of so many steps that is 0 at both ends <= span x its squared differences."""
+    return 5 * steps**2 + 4
+
+
+def held(grid):
+    """(grip, reach): 2 grip x the squares of a level, a free end counted half, <= reach x the squared differences over the pairs."""
+    kind, across, down = grid[0], grid[1] - 1, grid[2] - 1
+    if kind == 3:
+        return 0, 1
+    if kind in GRID_KINDS:
+        return 24 * (span(across) + span(down)), span(across) * span(down)
+    return 24, span(2 * across if kind == 2 else across)
 
 
 def by_tension(grid, settings):
     """(hold, far)."""
-    return settings[0], grid[1] ** 2
+    grip, reach = held(grid)
+    return grip * settings[0], reach
 
 
 def by_stiffness(grid, settings):
-    return 2 * settings[1], grid[1] ** 4
+    grip, reach = held(grid)
+    return grip**2 * 2 * settings[1], reach**2
 
 
 def size(grid):
@@ -32,7 +46,7 @@ def demanded(grid, settings, n):
 def linear(holding, grid, settings, n):
     """linear, stiffLinear: 4 hold S <= far D N n^2."""
     hold, far = holding(grid, settings)
-    if grid[0] in EDGED and hold:
+    if hold:
         return Fraction(far * D * size(grid) * n**2, 4 * hold)
 
 
@@ -46,14 +60,14 @@ def loss_linear(grid, settings, n):
 def for_ever(holding, grid, settings):
     """forEver, stiffForEver: 4 s^2 hold S <= far D N (D+s)^2 where far s^2 <= hold D."""
     (hold, far), s = holding(grid, settings), settings[2]
-    if grid[0] in EDGED and s and hold and far * s**2 <= hold * D:
+    if s and hold and far * s**2 <= hold * D:
         return Fraction(far * D * size(grid) * (D + s) ** 2, 4 * s**2 * hold)
 
 
 def heavy_loss(holding, grid, settings):
     """heavyLoss, stiffHeavyLoss: hold^2 S <= 4 far^2 N (D+s)^2 where hold D <= far s^2."""
     (hold, far), s = holding(grid, settings), settings[2]
-    if grid[0] in EDGED and hold and hold * D <= far * s**2:
+    if hold and hold * D <= far * s**2:
         return Fraction(4 * far**2 * size(grid) * (D + s) ** 2, hold**2)
 
 

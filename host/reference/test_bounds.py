@@ -9,7 +9,7 @@ from fractions import Fraction
 
 import bounds
 from book import Book, energy
-from instrument import D, moving_set
+from instrument import D, GRID_KINDS, free_ends, moving_set
 from step import one_step, round_half_away, sample
 
 
@@ -39,12 +39,12 @@ class Bounds(unittest.TestCase):
         return total
 
     def test_string_at_rest(self):
-        """The engine rests on a parabola that the unrounded string leaves: C for C^2, no growth with n."""
+        """The engine rests on a parabola that the unrounded string leaves: steps not squared, no growth with n."""
         grid, settings = (1, 64, 1), (32767, 0, 0)
         level = [k * (63 - k) // 2 for k in range(64)]
         total = self.held(run(grid, settings, level, level, 89))
         bound = bounds.linear(bounds.by_tension, grid, settings, 89)
-        self.assertGreater(total, bound / 64)
+        self.assertGreater(total, bound / 63)
         self.assertGreater(total, bound / 89**2)
 
     def test_free_string(self):
@@ -55,12 +55,12 @@ class Bounds(unittest.TestCase):
 
     def test_condition_of_for_ever(self):
         total = self.held(run((1, 3, 1), (1, 0, 8192), [0, 18431, 0], [0, 18431, 0], 30000))
-        self.assertGreater(total, Fraction(9 * D * 3 * (D + 8192) ** 2, 4 * 8192**2))
+        self.assertGreater(total, Fraction(D * 3 * (D + 8192) ** 2, 4 * 8192**2))
 
     def test_condition_of_heavy_loss(self):
         """Without loss hits can drive the error on and on."""
         total = self.held(run((1, 3, 1), (D - 1, 0, 0), [0, 16384, 0], [0, 16384, 0], 400, resonance))
-        self.assertGreater(total, Fraction(4 * 9**2 * 3 * D**2, (D - 1) ** 2))
+        self.assertGreater(total, Fraction(4 * 3 * D**2, (D - 1) ** 2))
 
     def test_one_step(self):
         """A point that is off by a half: 64 for 16, and 64 for 4 in the linear bound by loss."""
@@ -69,17 +69,34 @@ class Bounds(unittest.TestCase):
         total = self.held(run((1, 3, 1), (D // 2, 0, D), [0] * 3, [0, 1, 0], 1))
         self.assertGreater(total, bounds.loss_linear((1, 3, 1), (D // 2, 0, D), 1) / 16)
 
-    def held_by_stiffness(self, grid, m, level):
-        settings = 0, m, 0
-        squares = 2 * (2 * sum(x * x for x in level))
-        hold, far = bounds.by_stiffness(grid, settings)
-        self.assertLessEqual(hold * squares, far * energy(grid, settings, level, level))
-        self.assertGreater(hold * squares, 32**2 * energy(grid, settings, level, level))
+    def part_taken(self, holding, grid, settings, level):
+        """The part of what the energy allows that the squares of a level take, newer and older the same."""
+        free = sum(level[k] ** 2 for k in free_ends(*grid[:2]))
+        squares = 2 * (2 * sum(x * x for x in level) - free)
+        hold, far = holding(grid, settings)
+        return Fraction(hold * squares, far * energy(grid, settings, level, level))
+
+    def level_held(self, holding, settings, kinds, waves):
+        """A point alone between fixed ones takes all that is allowed; half a wave, a quarter where an end is free, takes nearly all."""
+        for kind in kinds:
+            grid = kind, 3, 3 if kind in GRID_KINDS else 1
+            level = [0] * (grid[1] * grid[2])
+            level[len(level) // 2] = 1
+            self.assertEqual(self.part_taken(holding, grid, settings, level), 1)
+        for kind, columns, rows in waves:
+            across = [math.sin(math.pi * k / (columns - 1) / (2 if kind == 2 else 1)) for k in range(columns)]
+            down = [math.sin(math.pi * k / (rows - 1)) for k in range(rows)] if rows > 1 else [1]
+            level = [round(10**6 * x * y) for y in down for x in across]
+            part = self.part_taken(holding, (kind, columns, rows), settings, level)
+            self.assertLessEqual(part, 1)
+            self.assertGreater(part, Fraction(9, 10))
+
+    def test_levels_held_by_tension(self):
+        self.level_held(bounds.by_tension, (16384, 0, 0), (1, 4, 5, 6, 7),
+                        ((1, 32, 1), (2, 32, 1), (4, 32, 1), (5, 32, 21), (7, 21, 32)))
 
     def test_levels_held_by_stiffness(self):
-        wave = [math.sin(math.pi * k / 31) for k in range(32)]
-        self.held_by_stiffness((4, 32, 1), 16384, [round(10**6 * x) for x in wave])
-        self.held_by_stiffness((7, 32, 32), 4096, [round(10**6 * x * y) for y in wave for x in wave])
+        self.level_held(bounds.by_stiffness, (0, 4096, 0), (4, 7), ((4, 32, 1), (7, 32, 21), (7, 21, 32)))
 
     def test_plate(self):
         """Its edge holds it, by tension and by stiffness."""
@@ -91,11 +108,11 @@ class Bounds(unittest.TestCase):
         self.assertLess(found["stiffLinear"], found["demanded"])
 
     def test_example_voice(self):
-        """VoiceForEver: a 25th of a sample unit; VoiceSamples: with the read-out 27/50."""
+        """VoiceForEver: a 50th of a sample unit; VoiceSamples: with the read-out 26/50."""
         bound = bounds.for_ever(bounds.by_tension, (1, 101, 1), (11378, 0, 8))
-        self.assertLessEqual(bound, Fraction(2**56, 25**2))
-        self.assertGreater(bound, Fraction(2**56, 27**2))
-        self.assertLessEqual(bound, ((Fraction(27, 50) - Fraction(1, 2)) * 2**28) ** 2)
+        self.assertLessEqual(bound, Fraction(2**56, 50**2))
+        self.assertGreater(bound, Fraction(2**56, 60**2))
+        self.assertLessEqual(bound, ((Fraction(26, 50) - Fraction(1, 2)) * 2**28) ** 2)
 
     def error(self, found, pick_up):
         """How far the sample of a run lies from the unrounded scheme, in sample units; all its bounds hold."""
@@ -121,7 +138,7 @@ class Bounds(unittest.TestCase):
         level[50] = 81217611
         error = self.error(run((1, 101, 1), (11378, 0, 8), [0] * 101, level, 1), 50)
         self.assertGreater(error, Fraction(24, 50))
-        self.assertLess(error, Fraction(27, 50))
+        self.assertLess(error, Fraction(26, 50))
 
     def test_sample_beside_the_last_step(self):
         """Two steps of the paper's listing, 0 and -1: the first sample passes every bound beside the book of the second."""

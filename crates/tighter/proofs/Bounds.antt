@@ -1,6 +1,5 @@
 -- The bounds on Σ of every list of calls: each from a form that the steps of an instrument do not raise.
 use mathlib.Core.Path.{_≡_, refl, sym, ap, _∙_, subst, subst₂}
-use mathlib.Core.Bool.{true}
 use mathlib.Core.List.{List}
 use Prim.Native.Nat.{ℕ, zero, suc, _+_, _*_, _^_, _≤_, _<_}
 use native.Mathlib.Nat as N
@@ -14,7 +13,7 @@ use Rattle.forms.proofs.Level.{Level, _⊞_, _⊡_, zeros, Still, still-zeros, 
 use Rattle.types.specs.declared.Instrument.{Instrument}
 use Rattle.types.specs.Numbers.{D}
 use Rattle.scheme.specs.Lists.{point, square}
-use Rattle.scheme.specs.Instruments.{kind, points, moving}
+use Rattle.scheme.specs.Instruments.{points, moving}
 use Rattle.scheme.specs.Step.{divisor}
 use Rattle.scheme.specs.Book.{LastStep, Book, scale, State, start, calls}
 use Rattle.scheme.specs.Claims.{distance}
@@ -22,7 +21,7 @@ use Rattle.scheme.specs.Passing.{InstrumentPasses}
 use Rattle.scheme.proofs.Theorems.Forms.{weighed, weighed-form, weighed-nonneg, squares-are}
 use Rattle.scheme.proofs.Theorems.Instance.{freeStep, free-still}
 use Rattle.scheme.proofs.Theorems.Distance.{gap, OfErrors, StepsKeep, Beside, Invariant, agrees, stepping, list-invariant}
-use Rattle.tighter.specs.Bounds.{edged, Holding, linearBy, forEverBy, heavyLossBy, lossLinear, numbers}
+use Rattle.tighter.specs.Bounds.{Holding, linearBy, forEverBy, heavyLossBy, lossLinear, numbers}
 use Rattle.tighter.specs.Claims.{OfSteps, After, OfEveryList, OfSums}
 use Rattle.tighter.proofs.Lyapunov.{Lyapunov, Fading, Grown, grow-start, grow-step, grow-bound, Faded, fade-start, fade-step}
 use Rattle.tighter.proofs.Lyapunov.{fade-bound}
@@ -176,20 +175,16 @@ by-loss-linear = of-growth (λ i. Unit {0}) (λ i ok c. by-loss (lossy i ok)) (O
     wide s = omega (arith, N.mul-add (D + s) D s, N.add-mul D s s)
 
 module _ (H : Holding) (holds : Holds H) where
-  abbrev Edged : Instrument → Type 0
-  Edged i = edged (kind (i .grid)) ≡ true
-
   pub by-linear : OfEveryList (OfSums (linearBy H))
-  by-linear = of-growth Edged (λ i ok edge. by-energy (lossy i ok) (held i ok H holds edge)) (OfSums (linearBy H)) (λ i ok n newer unrounded
-      bound edge.
+  by-linear = of-growth (λ i. Unit {0}) (λ i ok c. by-energy (lossy i ok) (held i ok H holds)) (OfSums (linearBy H))
+      (λ i ok n newer unrounded bound c.
       weaker i n newer unrounded {k′ = 4 * H .hold i} {y′ = H .far i * D} {r = linearBy H .r i n} {r′ = n}
       (omega arith) (omega arith) (omega arith)
-      (as-sum i n newer unrounded (H .hold i) (H .far i * D) n (bound edge)))
+      (as-sum i n newer unrounded (H .hold i) (H .far i * D) n (bound tt)))
 
   -- ---- for ever
 
   record Light (i : Instrument) : Type 0 where
-    edge : Edged i
     loss : 0 < i .settings .s
     small : H .far i * (i .settings .s * i .settings .s) ≤ H .hold i * D
 
@@ -198,27 +193,26 @@ module _ (H : Holding) (holds : Holds H) where
       let s : ℕ = i .settings .s in
       weaker i n newer unrounded {k′ = 4 * (s * s * H .hold i)} {y′ = H .far i * D} {r′ = divisor (i .settings)} (omega arith) (omega arith)
       (omega arith)
-      (go i n newer unrounded (c .0) (omega (arith, c .1)) bound s refl))
+      (go i n newer unrounded (omega (arith, c)) bound s refl))
     where
       form : (i : Instrument) → InstrumentPasses i → Light i → FormOf i
-      form i ok c = by-light-loss (lossy i ok) (held i ok H holds (c .edge)) (pos< (c .loss)) (pos≤ (c .small))
+      form i ok c = by-light-loss (lossy i ok) (held i ok H holds) (pos< (c .loss)) (pos≤ (c .small))
 
       fading : (i : Instrument) (ok : InstrumentPasses i) (c : Light i) → Fading (form i ok c)
-      fading i ok c = light-fading (lossy i ok) (held i ok H holds (c .edge)) (pos< (c .loss)) (pos≤ (c .small))
+      fading i ok c = light-fading (lossy i ok) (held i ok H holds) (pos< (c .loss)) (pos≤ (c .small))
 
-      go : (i : Instrument) (n : ℕ) (newer unrounded : List ℤ) → Edged i → H .far i * (i .settings .s * i .settings .s) ≤ H .hold i * D
+      go : (i : Instrument) (n : ℕ) (newer unrounded : List ℤ) → H .far i * (i .settings .s * i .settings .s) ≤ H .hold i * D
           → let k : ℕ = i .settings .s * i .settings .s * H .hold i in
           (Light i → Bounds i n newer unrounded (pos k) (pos (H .far i * D)) (pos (divisor (i .settings))))
           → (s : ℕ) → i .settings .s ≡ s → SumBound i n newer unrounded (4 * k) (H .far i * D) (divisor (i .settings))
-      go i n newer unrounded edge small bound zero e =
+      go i n newer unrounded small bound zero e =
           nothing-left i n newer unrounded (H .far i * D) (divisor (i .settings))
           (ap (λ (s : ℕ). 4 * (s * s * H .hold i)) e ∙ ap (λ (x : ℕ). 4 * x) (N.zero-mul (H .hold i)))
-      go i n newer unrounded edge small bound (suc s) e =
+      go i n newer unrounded small bound (suc s) e =
           as-sum i n newer unrounded (i .settings .s * i .settings .s * H .hold i) (H .far i * D) (divisor (i .settings))
-          (bound (record { edge = edge; loss = omega (arith, e); small = small }))
+          (bound (record { loss = omega (arith, e); small = small }))
 
   record Heavy (i : Instrument) : Type 0 where
-    edge : Edged i
     loss : 0 < i .settings .s
     some-hold : 0 < H .hold i
     large : H .hold i * D ≤ H .far i * (i .settings .s * i .settings .s)
@@ -227,25 +221,25 @@ module _ (H : Holding) (holds : Holds H) where
   by-heavy-loss = of-fading Heavy form fading (OfSums (heavyLossBy H)) (λ i ok n newer unrounded bound c.
       weaker i n newer unrounded {k′ = H .hold i * H .hold i} {y′ = 4 * (H .far i * H .far i)} {r′ = divisor (i .settings)} (omega arith)
       (omega arith) (omega arith)
-      (go i n newer unrounded (c .0) (omega (arith, c .1)) bound (H .hold i) refl (i .settings .s) refl))
+      (go i n newer unrounded (omega (arith, c)) bound (H .hold i) refl (i .settings .s) refl))
     where
       form : (i : Instrument) → InstrumentPasses i → Heavy i → FormOf i
       form i ok c = by-loss (lossy i ok)
 
       fading : (i : Instrument) (ok : InstrumentPasses i) (c : Heavy i) → Fading (form i ok c)
-      fading i ok c = heavy-fading (lossy i ok) (held i ok H holds (c .edge)) (pos< (c .loss)) (pos< (c .some-hold)) (pos≤ (c .large))
+      fading i ok c = heavy-fading (lossy i ok) (held i ok H holds) (pos< (c .loss)) (pos< (c .some-hold)) (pos≤ (c .large))
 
-      go : (i : Instrument) (n : ℕ) (newer unrounded : List ℤ) → Edged i → H .hold i * D ≤ H .far i * (i .settings .s * i .settings .s)
+      go : (i : Instrument) (n : ℕ) (newer unrounded : List ℤ) → H .hold i * D ≤ H .far i * (i .settings .s * i .settings .s)
           → let h : ℤ = pos (H .hold i) in let f : ℤ = pos (H .far i) in let s : ℤ = pos (i .settings .s) in let d : ℤ =
           pos (divisor (i .settings)) in
           (Heavy i → Bounds i n newer unrounded ((h *ℤ h) *ℤ (s *ℤ s)) (d *ℤ pos D +ℤ s *ℤ s) ((pos 4 *ℤ (s *ℤ f) -ℤ h) +ℤ h))
           → (h : ℕ) → H .hold i ≡ h → (s : ℕ) → i .settings .s ≡ s
           → SumBound i n newer unrounded (H .hold i * H .hold i) (4 * (H .far i * H .far i)) (divisor (i .settings))
-      go i n newer unrounded edge large bound zero e s e′ =
+      go i n newer unrounded large bound zero e s e′ =
           nothing-left i n newer unrounded (4 * (H .far i * H .far i)) (divisor (i .settings)) (ap (λ (h : ℕ). h * h) e)
-      go i n newer unrounded edge large bound (suc h) e zero e′ =
+      go i n newer unrounded large bound (suc h) e zero e′ =
           absurd (omega (arith, e, large, ap (λ (s : ℕ). H .far i * (s * s)) e′ ∙ N.mul-zero (H .far i)))
-      go i n newer unrounded edge large bound (suc h) e (suc s) e′ =
+      go i n newer unrounded large bound (suc h) e (suc s) e′ =
           let loss : 0 < i .settings .s = omega (arith, e′) in
           *ℤ-cancel (mul-positive (0<pos 3) (mul-positive (pos< loss) (pos< loss)))
           (lin 7 (λ D s h f N x p. let d = D ⊕ s in
@@ -253,5 +247,5 @@ module _ (H : Holding) (holds : Holds H) where
           (# 16 ⊗ (s ² ⊗ f ²) ⊗ (N ⊗ p ²) ⊗ D) *⊴ # 0 ⊴ s ⇒
           ⊩ # 4 ⊗ s ² ⊗ (h ² ⊗ x) ⊴ # 4 ⊗ s ² ⊗ ((# 4 ⊗ f ²) ⊗ N ⊗ (d ² ⊗ p ²))) refl
           (pos D) (pos (i .settings .s)) (pos (H .hold i)) (pos (H .far i)) (twoN i) (distance i n newer unrounded) (scale (i .settings) n)
-          (bound (record { edge = edge; loss = loss; some-hold = omega (arith, e); large = large }))
+          (bound (record { loss = loss; some-hold = omega (arith, e); large = large }))
           (0≤pos _) (0≤pos (i .settings .s)))

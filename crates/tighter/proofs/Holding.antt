@@ -1,7 +1,6 @@
 -- What holds the levels of an instrument: the propositions `HeldByTension` and `HeldByStiffness`; and an instrument that passes, as a
 -- lossy scheme.
 use mathlib.Core.Path.{_≡_, refl, ap, ap₂, _∙_}
-use mathlib.Core.Bool.{true}
 use Prim.Native.Nat.{ℕ, _*_, _≤_, _<_}
 use native.Mathlib.Nat as N
 use native.Mathlib.Omega.{arith}
@@ -14,24 +13,23 @@ use Rattle.types.specs.declared.Grid.{Grid}
 use Rattle.types.specs.declared.Instrument.{Instrument}
 use Rattle.types.specs.Numbers.{D}
 use Rattle.scheme.specs.Lists.{point}
-use Rattle.scheme.specs.Instruments.{kind, points, moving}
+use Rattle.scheme.specs.Instruments.{points, moving}
 use Rattle.scheme.specs.Energy.{weight, squares, energy}
 use Rattle.scheme.proofs.Laws.Refusals.{coefficients-small}
 use Rattle.scheme.specs.Passing.{InstrumentPasses}
 use Rattle.scheme.proofs.Laws.Refusals.{instrument-passes, passes-still}
 use Rattle.scheme.proofs.Theorems.Forms.{weighed, weighed-form, weighed-nonneg, stepForm, step-form, energy-is}
-use Rattle.scheme.proofs.Theorems.Bounds.{some-columns, energy-nonneg}
+use Rattle.scheme.proofs.Theorems.Bounds.{energy-nonneg}
 use Rattle.scheme.proofs.Theorems.Instance.{freeStep, free-still, step-law}
-use Rattle.tighter.specs.Bounds.{edged, reach, Holding, byTension, byStiffness}
+use Rattle.tighter.specs.Bounds.{edge, grip, reach, Holding, byTension, byStiffness}
 use Rattle.tighter.specs.Claims.{LevelsHeld, HeldByTension, HeldByStiffness}
 use Rattle.tighter.proofs.Edge.{reach-positive}
 use Rattle.tighter.proofs.Coercive.{by-tension, by-stiffness}
 use Rattle.tighter.proofs.Loss.{Lossy, Held}
 
 pub record Holds (H : Holding) : Type 0 where
-  pub far-positive : (i : Instrument) → InstrumentPasses i → 0 < H .far i
-  pub by-energy : (i : Instrument) → InstrumentPasses i → edged (kind (i .grid)) ≡ true
-      → (a b : Level) → Still (moving (i .grid)) a → Still (moving (i .grid)) b
+  pub far-positive : (i : Instrument) → 0 < H .far i
+  pub by-energy : (i : Instrument) → InstrumentPasses i → (a b : Level) → Still (moving (i .grid)) a → Still (moving (i .grid)) b
       → pos (H .hold i) *ℤ (weighed (i .grid) a a +ℤ weighed (i .grid) b b) ⩽ pos (H .far i) *ℤ energy i a b
 
 -- a smaller hold, a larger far
@@ -44,17 +42,17 @@ weaker i ok a b hh hf held =
 
 pub tension-holds : Holds byTension
 tension-holds = record {
-  far-positive = λ i ok. omega (arith, reach-positive (i .grid) (some-columns i ok));
-  by-energy = λ i ok edge a b sa sb. weaker i ok a b {h′ = i .settings .q} {f′ = reach (i .grid)} (omega arith) (omega arith)
-      (by-tension i ok edge a b sa sb);
+  far-positive = λ i. omega (arith, reach-positive (edge (i .grid)));
+  by-energy = λ i ok a b sa sb.
+      weaker i ok a b {h′ = grip (edge (i .grid)) * i .settings .q} {f′ = reach (edge (i .grid))} (omega arith) (omega arith)
+      (by-tension i ok a b sa sb);
 }
 
 pub stiffness-holds : Holds byStiffness
 stiffness-holds = record {
-  far-positive = λ i ok. let c = reach-positive (i .grid) (some-columns i ok) in omega (arith, N.mul-pos c c);
-  by-energy = λ i ok edge a b sa sb.
-      weaker i ok a b {h′ = 2 * i .settings .m} {f′ = reach (i .grid) * reach (i .grid)} (omega arith) (omega arith)
-      (by-stiffness i ok edge a b sa sb);
+  far-positive = λ i. let c = reach-positive (edge (i .grid)) in omega (arith, N.mul-pos c c);
+  by-energy = λ i ok a b sa sb. let y : ℕ = grip (edge (i .grid)) in let r : ℕ = reach (edge (i .grid)) in
+      weaker i ok a b {h′ = y * y * (2 * i .settings .m)} {f′ = r * r} (omega arith) (omega arith) (by-stiffness i ok a b sa sb);
 }
 
 -- ---- the propositions
@@ -64,9 +62,9 @@ unfolding squares weighed
 squares-alone g a = sum-ext (points g) (λ k. ring 2 (λ w a. w ⊗ ((a ⊖ # 0) ⊗ (a ⊖ # 0)) ≈ w ⊗ (a ⊗ a)) refl (pos (weight g k)) (a k))
 
 levels-held : (H : Holding) → Holds H → LevelsHeld H
-levels-held H holds i older newer p edge =
+levels-held H holds i older newer p =
     ≡-≤ℤ (ap₂ (λ x y. pos (H .hold i) *ℤ (x +ℤ y)) (squares-alone (i .grid) (point newer)) (squares-alone (i .grid) (point older)))
-    (holds .by-energy i (instrument-passes i (p .instrument)) edge (point newer) (point older)
+    (holds .by-energy i (instrument-passes i (p .instrument)) (point newer) (point older)
     (passes-still (i .grid) newer (p .newer-passes)) (passes-still (i .grid) older (p .older-passes)))
 
 pub held-by-tension : HeldByTension
@@ -99,11 +97,11 @@ module _ (i : Instrument) (ok : InstrumentPasses i) where
     nonneg = λ a b. ≤ℤ-≡ (energy-nonneg i ok a b) (energy-is i a b);
   }
 
-  abbrev pub held : (H : Holding) → Holds H → edged (kind (i .grid)) ≡ true → Held lossy
-  held H holds edge = record {
+  abbrev pub held : (H : Holding) → Holds H → Held lossy
+  held H holds = record {
     hold = pos (H .hold i);
     far = pos (H .far i);
     hold-nonneg = 0≤pos (H .hold i);
-    far-positive = pos< (holds .far-positive i ok);
-    held = λ a b sa sb. ≤ℤ-≡ (holds .by-energy i ok edge a b sa sb) (ap (λ z. pos (H .far i) *ℤ z) (energy-is i a b));
+    far-positive = pos< (holds .far-positive i);
+    held = λ a b sa sb. ≤ℤ-≡ (holds .by-energy i ok a b sa sb) (ap (λ z. pos (H .far i) *ℤ z) (energy-is i a b));
   }

@@ -1,6 +1,5 @@
 -- Bounds at one point: a point's own part of the squared distances, demand 3's bound there, and the paper's example voice.
 use mathlib.Core.Path.{_≡_, refl, sym, ap, subst}
-use mathlib.Core.Bool.{true}
 use mathlib.Core.List.{List}
 use Prim.Native.Nat.{ℕ, zero, suc, _*_, _^_, _≤_, _<_}
 use native.Mathlib.Nat as N
@@ -16,13 +15,13 @@ use Rattle.integers.proofs.Sum.{sum-nonneg}
 use Rattle.types.specs.declared.Instrument.{Instrument}
 use Rattle.types.specs.Numbers.{D}
 use Rattle.scheme.specs.Lists.{square}
-use Rattle.scheme.specs.Instruments.{kindOf, kind, points, freeIn}
+use Rattle.scheme.specs.Instruments.{kindOf, points, freeIn}
 use Rattle.scheme.specs.Energy.{weight, squares}
 use Rattle.scheme.specs.Book.{LastStep, noStep, stepOf, scale, start, calls}
 use Rattle.scheme.specs.Claims.{distance, Near}
 use Rattle.scheme.proofs.Theorems.Distance.{distance-bound}
-use Rattle.tighter.specs.Bounds.{edged, reach, byTension, byStiffness, Bound, limit, demanded, linear, stiffLinear, lossLinear}
-use Rattle.tighter.specs.Bounds.{forEver, stiffForEver, heavyLoss, stiffHeavyLoss, numbers}
+use Rattle.tighter.specs.Bounds.{span, edgeIn, edge, grip, reach, byTension, byStiffness, Bound, limit, demanded, linear}
+use Rattle.tighter.specs.Bounds.{stiffLinear, lossLinear, forEver, stiffForEver, heavyLoss, stiffHeavyLoss, numbers}
 use Rattle.tighter.specs.Claims.{OfSteps, After, OfEveryList, OfSums, SumBounds, difference, OnePoint, OfPoints, PointBounds}
 use Rattle.tighter.specs.Claims.{AtOnePoint, voice, VoiceWithin, VoiceForEver}
 use Rattle.tighter.proofs.Line.{sum-suc}
@@ -107,10 +106,6 @@ at-one-point = point-bounds demanded
 
 -- ---- the voice
 
-voice-edged : edged (kind (voice .grid)) ≡ true
-unfolding edged kindOf
-voice-edged = refl
-
 voice-weight : (k : ℕ) → weight (voice .grid) k ≡ 2
 unfolding weight freeIn kindOf
 voice-weight k = refl
@@ -124,17 +119,19 @@ by-numbers a b k y r x e p some p-nonneg part all numbers = *ℤ-cancel {a = pos
     (pos a) (pos b) (pos k) (pos y) (pos r) x e p (0≤pos (a * k)) part (0≤pos a) all p-nonneg (pos≤ numbers))
 
 voice-at : (n : ℕ) (newer unrounded : List ℤ) → OfSums (numbers forEver) voice n newer unrounded → (k : ℕ) → k < points (voice .grid)
-    → pos 625 *ℤ square (difference voice n newer unrounded k) ⩽ pos (2 ^ 56) *ℤ square (scale (voice .settings) n)
+    → pos 2500 *ℤ square (difference voice n newer unrounded k) ⩽ pos (2 ^ 56) *ℤ square (scale (voice .settings) n)
+unfolding span edgeIn grip reach kindOf
 voice-at n newer unrounded h k l =
     let x : ℤ = square (difference voice n newer unrounded k) in
-    by-numbers 625 (2 ^ 56) (4 * (8 * 8 * 11378)) (reach (voice .grid) * D * (2 * points (voice .grid))) 65544
+    by-numbers 2500 (2 ^ 56) (4 * (8 * 8 * (grip (edge (voice .grid)) * 11378)))
+    (reach (edge (voice .grid)) * D * (2 * points (voice .grid))) 65544
     x (distance voice n newer unrounded) (square (scale (voice .settings) n)) (omega arith) (square-nonneg (scale (voice .settings) n))
     (≡-≤ℤ (ap (λ (w : ℕ). pos w *ℤ x) (sym (voice-weight k))) (one-point voice n newer unrounded k l))
-    (h (voice-edged, omega arith)) (omega arith)
+    (h (omega arith)) (omega arith)
 
 pub voice-for-ever : VoiceForEver
 voice-for-ever = each-list (OfSums (numbers forEver)) VoiceWithin
     (λ i n newer unrounded h e. subst (λ (j : Instrument). OfSums (numbers forEver) j n newer unrounded → (k : ℕ) → k < points (j .grid)
-    → pos 625 *ℤ square (difference j n newer unrounded k) ⩽ pos (2 ^ 56) *ℤ square (scale (j .settings) n)) (sym e)
+    → pos 2500 *ℤ square (difference j n newer unrounded k) ⩽ pos (2 ^ 56) *ℤ square (scale (j .settings) n)) (sym e)
     (voice-at n newer unrounded) h)
     (sum-bounds forEver)

@@ -144,11 +144,11 @@ sample-bound = sample-bounds demanded
 
 -- ---- the voice
 
--- from 25·|x| ≤ 2²⁸·p, squared
-fraction : (x : ℤ) (p : ℕ) → pos 625 *ℤ square x ⩽ pos (2 ^ 56) *ℤ square (pos p) → 25 * natAbs x ≤ 2 ^ 28 * p
-fraction x p h = root-mono (25 * natAbs x) (2 ^ 28 * p) (≤pos (
-    ≡-≤ℤ (ring 1 (λ a. (# 25 ⊗ a) ⊗ (# 25 ⊗ a) ≈ # 625 ⊗ (a ⊗ a)) refl (pos (natAbs x)) ∙
-    ap (λ (s : ℤ). pos 625 *ℤ s) (sym (square-size x)))
+-- from 50·|x| ≤ 2²⁸·p, squared
+fraction : (x : ℤ) (p : ℕ) → pos 2500 *ℤ square x ⩽ pos (2 ^ 56) *ℤ square (pos p) → 50 * natAbs x ≤ 2 ^ 28 * p
+fraction x p h = root-mono (50 * natAbs x) (2 ^ 28 * p) (≤pos (
+    ≡-≤ℤ (ring 1 (λ a. (# 50 ⊗ a) ⊗ (# 50 ⊗ a) ≈ # 2500 ⊗ (a ⊗ a)) refl (pos (natAbs x)) ∙
+    ap (λ (s : ℤ). pos 2500 *ℤ s) (sym (square-size x)))
     (≤ℤ-≡ h (ring 1 (λ b. # (2 ^ 56) ⊗ (b ⊗ b) ≈ (# (2 ^ 28) ⊗ b) ⊗ (# (2 ^ 28) ⊗ b)) refl (pos p)))))
 
 pub voice-samples : VoiceSamples

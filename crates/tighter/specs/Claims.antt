@@ -2,7 +2,6 @@
 -- Proofs: `sum-bounds`, `one-point`, `point-bounds`, `at-one-point`, `voice-for-ever` in proofs/Points;
 -- `held-by-tension`, `held-by-stiffness` in proofs/Holding; `program-bounds` in proofs/Programs.
 use mathlib.Core.Path.{_≡_}
-use mathlib.Core.Bool.{true}
 use mathlib.Core.List.{List}
 use Prim.Native.Nat.{ℕ, zero, suc, _*_, _^_, _<_}
 use lib.IntN.{ℤ, pos, _+ℤ_, _-ℤ_, _*ℤ_}
@@ -10,18 +9,18 @@ use lib.ListN.{length}
 use lib.Signed.{_≤ℤ_}
 use Rattle.types.specs.declared.Instrument.{Instrument}
 use Rattle.scheme.specs.Lists.{point, square}
-use Rattle.scheme.specs.Instruments.{kind, points}
+use Rattle.scheme.specs.Instruments.{points}
 use Rattle.scheme.specs.Energy.{weight, squares, energy}
 use Rattle.scheme.specs.Book.{LastStep, noStep, stepOf, scale, Call, start, calls}
 use Rattle.scheme.specs.Claims.{Passes, distance}
 use Rattle.scheme.specs.Program.{Made, AllKept, afterAll}
-use Rattle.tighter.specs.Bounds.{edged, Holding, byTension, byStiffness, Bound, limit, Row, demanded, numbers}
+use Rattle.tighter.specs.Bounds.{Holding, byTension, byStiffness, Bound, limit, Row, demanded, numbers}
 
 -- ---- the energy bounds the levels themselves where an edge is fixed
 
 -- both sides doubled: `squares` has 2, `energy` 2D
 abbrev pub LevelsHeld : Holding → Type 0
-LevelsHeld H = (i : Instrument) (older newer : List ℤ) → Passes i older newer → edged (kind (i .grid)) ≡ true →
+LevelsHeld H = (i : Instrument) (older newer : List ℤ) → Passes i older newer →
     let rest : ℕ → ℤ = λ k. pos 0 in
     let both : ℤ = squares (i .grid) (point newer) rest +ℤ squares (i .grid) (point older) rest in
     (pos (H .hold i) *ℤ both) ≤ℤ (pos (H .far i) *ℤ energy i (point newer) (point older))
@@ -90,10 +89,10 @@ AtOnePoint = OfEveryList (OfPoints (numbers demanded))
 abbrev pub voice : Instrument
 voice = record { grid = record { kind = 1; columns = 101; rows = 1 }; settings = record { q = 11378; m = 0; s = 8 } }
 
--- 25 × difference ≤ 2²⁸, squared: at every point within a 25th of a sample unit of the unrounded scheme
+-- 50 × difference ≤ 2²⁸, squared: at every point within a 50th of a sample unit of the unrounded scheme
 abbrev pub VoiceWithin : OfSteps
 VoiceWithin i n newer unrounded = i ≡ voice → (j : ℕ) → j < points (i .grid) →
-    (pos 625 *ℤ square (difference i n newer unrounded j)) ≤ℤ (pos (2 ^ 56) *ℤ square (scale (i .settings) n))
+    (pos 2500 *ℤ square (difference i n newer unrounded j)) ≤ℤ (pos (2 ^ 56) *ℤ square (scale (i .settings) n))
 
 abbrev pub VoiceForEver : Type 0
 VoiceForEver = OfEveryList VoiceWithin

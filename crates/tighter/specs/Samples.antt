@@ -62,9 +62,9 @@ SampleWithin b i n pick x v = b .Covers i →
 abbrev pub SampleBound : Type 0
 SampleBound = OfEverySample (SampleWithin (numbers demanded))
 
--- the paper's example voice: within 27/50 of a sample unit
+-- the paper's example voice: within 26/50 of a sample unit
 abbrev pub VoiceSampleWithin : OfSamples
-VoiceSampleWithin i n pick x v = i ≡ voice → 50 * sampleError i n x v ≤ 27 * (2 ^ 28 * divisor (i .settings) ^ n)
+VoiceSampleWithin i n pick x v = i ≡ voice → 50 * sampleError i n x v ≤ 26 * (2 ^ 28 * divisor (i .settings) ^ n)
 
 abbrev pub VoiceSamples : Type 0
 VoiceSamples = OfEverySample VoiceSampleWithin
