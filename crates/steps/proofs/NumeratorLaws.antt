@@ -2,7 +2,7 @@
 use mathlib.Core.Path.{_≡_, refl, _∙_}
 use Prim.Native.Nat.{_*_}
 use lib.IntN.{ℤ, pos, _+ℤ_, _-ℤ_, _*ℤ_}
-use Rattle.integers.proofs.Ring.{_⊕_, _⊖_, _⊗_, _≈_, ring}
+use Rattle.integers.proofs.Ring.{#_, _⊕_, _⊖_, _⊗_, _≈_, ring}
 use Rattle.bounded.proofs.Num.{Num}
 use Rattle.bounded.proofs.Expr.{E, at, num, _⊞_, _⊟_, _⊠_, red, val, product, stored}
 use Rattle.types.specs.declared.Instrument.{Instrument}
@@ -10,31 +10,31 @@ use Rattle.types.specs.Numbers.{D, ceiling}
 use Rattle.scheme.specs.Step.{numeratorOf}
 use Rattle.plans.specs.declared.Plan.{Plan}
 use Rattle.plans.specs.Plans.{countOf}
-use Rattle.steps.specs.Plan.{Planned, Summable, Updatable}
+use Rattle.steps.specs.Plan.{bendingOf, Planned, Summable, Updatable}
 use Rattle.steps.proofs.PlanLaws.{own-is, near-is, kept-is, m-is, own-low, near-low, m-low, kept-low}
 
 -- L of L by sums
-module _ {c second sum u : ℤ} (given : Summable c second sum u) where
-  abbrev c# : E
-  c# = at c 4 (given .c-low)
+module _ {h second sum u : ℤ} (given : Summable h second sum u) where
+  abbrev h# : E
+  h# = at h 2 (given .h-low)
 
-  abbrev pub twice# : E
-  twice# = num 2 ⊠ c#
-
-  abbrev pub near# : E
-  near# = twice# ⊠ at sum (4 * ceiling) (given .sum-low)
-
-  abbrev pub less# : E
-  less# = at second (16 * ceiling) (given .second-low) ⊟ near#
-
-  abbrev pub squared# : E
-  squared# = c# ⊠ c#
+  abbrev pub factor# : E
+  factor# = num 4 ⊠ h#
 
   abbrev pub own# : E
-  own# = squared# ⊠ at u ceiling (given .u-low)
+  own# = h# ⊠ at u ceiling (given .u-low)
+
+  abbrev pub less# : E
+  less# = own# ⊟ at sum (4 * ceiling) (given .sum-low)
+
+  abbrev pub times# : E
+  times# = factor# ⊠ less#
 
   abbrev pub bending# : E
-  bending# = less# ⊞ own#
+  bending# = at second (16 * ceiling) (given .second-low) ⊞ times#
+
+  pub bending-is : val bending# ≡ bendingOf (pos 2 *ℤ h) sum second u
+  bending-is = ring 4 (λ h y x u. y ⊕ # 4 ⊗ h ⊗ (h ⊗ u ⊖ x) ≈ y ⊖ # 2 ⊗ (# 2 ⊗ h) ⊗ x ⊕ # 2 ⊗ h ⊗ (# 2 ⊗ h) ⊗ u) refl h second sum u
 
 module _ {p : Plan} (h : Planned p) {u sum b old f : ℤ} (given : Updatable p u sum b old f) where
   abbrev q# : E

@@ -116,9 +116,9 @@ module _ {p : Plan} {f : ℤ} {older newer : List ℤ} {k : ℕ} {sum second : �
   summed-low = subst (λ (z : ℤ). natAbs z ≤ count * ceiling) (sym (n .sum-is))
       (over-low g in-table (point newer) (r .newer-still) ceiling (point newer) (r .newer-low) k (n .moves))
 
-  pub summable : Summable (pos count) second sum (point newer k)
-  summable = record {
-    c-low = few (r .planned) .1;
+  pub summable : (h : ℤ) → natAbs h ≤ 2 → Summable h second sum (point newer k)
+  summable h low = record {
+    h-low = low;
     second-low = N.le-trans second-low (N.mul-le-mul-right ceiling (N.mul-le-mul (few (r .planned) .1) (few (r .planned) .1)));
     sum-low = N.le-trans summed-low (N.mul-le-mul-right ceiling (few (r .planned) .1));
     u-low = r .newer-low k;

@@ -38,9 +38,9 @@ pub record Planned (p : Plan) : Type 0 where
 abbrev pub SoftGrid : Instrument → Type 0
 SoftGrid i = (i .grid .rows ≡ 1 → ⊥) → i .settings .m ≡ 0
 
--- what L of L is made of, with c neighbours
-pub record Summable (c second sum u : ℤ) : Type 0 where
-  pub c-low : natAbs c ≤ 4
+-- what L of L is made of, with h pairs of neighbours
+pub record Summable (h second sum u : ℤ) : Type 0 where
+  pub h-low : natAbs h ≤ 2
   pub second-low : natAbs second ≤ 16 * ceiling
   pub sum-low : natAbs sum ≤ 4 * ceiling
   pub u-low : natAbs u ≤ ceiling

@@ -32,12 +32,13 @@ pub(crate) fn sample(v: i64) -> i16
     read_out(v) as i16
 }
 
-// L of L at a point with c neighbours: from the sum of its neighbours' sums, the sum of its neighbours, its own value.
-pub(crate) fn bending(c: i64, second: i64, sum: i64, u: i64) -> i64
-    requires { ⌜ Summable c second sum u ⌝ }
-    ensures { λ r. ⌜ r ≡ bendingOf c sum second u ⌝ }
+// L of L at a point with h pairs of neighbours, one on a line and two on a grid: from the sum of its neighbours' sums, the sum of its
+// neighbours, its own value.
+pub(crate) fn bending(h: i64, second: i64, sum: i64, u: i64) -> i64
+    requires { ⌜ Summable h second sum u ⌝ }
+    ensures { λ r. ⌜ r ≡ bendingOf (pos 2 *ℤ h) sum second u ⌝ }
 {
-    second - 2 * c * sum + c * c * u
+    second + 4 * h * (h * u - sum)
 }
 
 // The numerator at a point: from its last value u, the sum of its neighbours, L of L, its before-last value p, the force f.

@@ -92,7 +92,7 @@ fn plate_point(
     let second = second_at(sums, rows, c, below);
     let sum = sums[rows.here + c];
     sums[rows.other + c] = below;
-    let b = bending(4, second, sum, newer[at]);
+    let b = bending(2, second, sum, newer[at]);
     next_point(plan, older, newer, at, sum, b, s, out)
 }
 

@@ -109,7 +109,7 @@ fn bar_run(plan: Plan, older: &[i64], newer: &[i64], s: Stretch, out: &mut [i64]
     let mut here = sum_at(newer, at);
     while at < s.to {
         let right = sum_at(newer, at + 1);
-        let b = bending(2, left + right, here, newer[at]);
+        let b = bending(1, left + right, here, newer[at]);
         let p = next_point(plan, older, newer, at, here, b, s, out);
         if !p.within {
             return p;

@@ -157,7 +157,7 @@ shared-slice-copy-out-bending c = inside (c .before .before .before .before .bef
 bending-requires : tie.Need-bending-requires
 bending-requires c κs =
     let b = c .before .before .before .before in
-    coe 1 0 (j. Summable (four b j) (second-is b j) (sum-is b j) (u-is b j)) (summable (ready (start b)) (summed b))
+    coe 1 0 (j. Summable (pos 2) (second-is b j) (sum-is b j) (u-is b j)) (summable (ready (start b)) (summed b) (pos 2) (omega arith))
 
 next-point-requires : tie.Need-next-point-requires
 next-point-requires c κs =

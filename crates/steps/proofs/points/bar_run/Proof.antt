@@ -151,8 +151,8 @@ shared-slice-copy-out-bending c = omega (arith, inside (turn c))
 bending-requires : tie.Need-bending-requires Inv-loop μ-loop
 bending-requires c κs =
     let r = c .before in
-    coe 1 0 (j. Summable (two r j) (is (outer# r) tt j) (turn r .before .before .loop .inv .2 j) (u-is r j))
-    (summable (ready (s r)) (summed r))
+    coe 1 0 (j. Summable (pos 1) (is (outer# r) tt j) (turn r .before .before .loop .inv .2 j) (u-is r j))
+    (summable (ready (s r)) (summed r) (pos 1) (omega arith))
 
 next-point-requires : tie.Need-next-point-requires Inv-loop μ-loop
 next-point-requires c κs =
