@@ -5,7 +5,6 @@ pub mod RoundLaws
 pub mod KindLaws
 pub mod PlanLaws
 pub mod NumeratorLaws
-pub mod StretchLaws
 pub mod BesideLaws
 pub mod PointLaws
 pub mod RoleLaws

@@ -10,7 +10,6 @@ mod play;
 mod points;
 mod progress;
 mod roles;
-mod stretch;
 mod turns;
 mod within;
 

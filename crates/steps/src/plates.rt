@@ -11,7 +11,7 @@ ghost use Rattle.scheme.specs.Instruments.{plate, kind};
 ghost use Rattle.scheme.specs.Step.{divisor};
 ghost use Rattle.scheme.specs.Refusals.{tooStrong};
 ghost use Rattle.steps.specs.Plan.{AtMost, Planned, Ready};
-ghost use Rattle.steps.specs.Run.{Filled, Advanced, Stepping, Placed, fourBeside, hitIn};
+ghost use Rattle.steps.specs.Run.{Filled, Advanced, Stepping, Placed, fourBeside};
 ghost use Rattle.steps.specs.Pass.{Passable, Passed};
 ghost use Rattle.steps.specs.Plates.{TwoRows, InRow, Readable, secondAt};
 use crate::neighbours::around;
@@ -20,9 +20,10 @@ use crate::pieces::put_piece;
 use crate::plan::Plan;
 use crate::points::next_point;
 use crate::progress::Progress;
-use crate::stretch::Stretch;
-use crate::stretch::as_written;
-use crate::stretch::force_at;
+use stretches::Stretch;
+use stretches::as_written;
+use stretches::force_at;
+use stretches::is_hit_in;
 use types::Hit;
 use types::Settings;
 
@@ -208,16 +209,6 @@ fn struck_run(
         within: true,
         inexact,
     }
-}
-
-// Whether a hit is at one of the points from..to.
-fn is_hit_in(hit: Hit, from: usize, to: usize) -> bool
-    ensures { λ r. ⌜ r ≡ hitIn hit from to ⌝ }
-{
-    let Hit::At { point, force: _ } = hit else {
-        return false;
-    };
-    if from <= point { point < to } else { false }
 }
 
 // The moving points of a row, in a step with a hit.

@@ -16,8 +16,8 @@ use crate::neighbours::beside;
 use crate::neighbours::sum_at;
 use crate::plan::Plan;
 use crate::progress::Progress;
-use crate::stretch::Stretch;
-use crate::stretch::part;
+use stretches::Stretch;
+use stretches::part;
 
 // The numerator at a point: sum is that of its neighbours, second that of their sums.
 pub(crate) fn numerator_at(

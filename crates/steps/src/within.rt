@@ -13,8 +13,8 @@ use crate::neighbours::around;
 use crate::neighbours::beside;
 use crate::plan::Plan;
 use crate::points::numerator_at;
-use crate::stretch::clamped;
-use crate::stretch::force_at;
+use stretches::clamped;
+use stretches::force_at;
 use types::Hit;
 
 // One point: sum is that of its neighbours.
