@@ -22,10 +22,11 @@ use Rattle.scheme.proofs.Laws.Neighbours.{line-inner, line-first, line-last, gr
 use Rattle.plans.specs.Plans.{countOf}
 use Rattle.plans.proofs.PlanLaws.{two-of, four-of}
 use Rattle.steps.specs.Plan.{AtMost, Neighbouring}
-use Rattle.steps.specs.Run.{Moves, OnLine, FreeEnd, clamp, twoBeside, fourBeside}
+use Rattle.steps.specs.Run.{Moves, OnLine, FreeEnd, twoBeside, fourBeside}
 use Rattle.steps.proofs.KindLaws.{Edge, line-long, wide, line-stiff, line-in, line-free, bar-inner}
 use Rattle.steps.proofs.KindLaws.{grid-free, grid-in}
-use Rattle.steps.proofs.StretchLaws.{clamp-before, clamp-inside, clamp-after}
+use Rattle.stretches.specs.Stretches.{clamp}
+use Rattle.stretches.proofs.StretchLaws.{clamp-before, clamp-inside, clamp-after}
 
 -- ---- points as the machine reads them, and the sum of those on either side of one as it adds them
 

@@ -14,7 +14,7 @@ use lib.Seq.{getD-set-same, getD-set-other}
 use Rattle.scheme.specs.Lists.{point}
 use Rattle.scheme.specs.Instruments.{beyond}
 use Rattle.steps.specs.declared.progress.Progress.{Progress}
-use Rattle.steps.specs.declared.stretch.Stretch.{Stretch}
+use Rattle.stretches.specs.declared.Stretch.{Stretch}
 use Rattle.steps.specs.Run.{Next, Filled, NoneBeyond, OneBeyond, Tested, Counted, Ran, Placed}
 use Rattle.steps.proofs.CountLaws.{counted-none, counted-one, counted-append, counted-most, counted-same}
 

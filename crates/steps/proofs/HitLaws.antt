@@ -22,11 +22,12 @@ use Rattle.scheme.proofs.Laws.Bools.{and-yes}
 use Rattle.scheme.proofs.Laws.Step.{moving-inside, next-moving}
 use Rattle.plans.specs.declared.Plan.{Plan}
 use Rattle.steps.specs.declared.progress.Progress.{Progress}
-use Rattle.steps.specs.declared.stretch.Stretch.{Stretch}
+use Rattle.stretches.specs.declared.Stretch.{Stretch}
+use Rattle.stretches.specs.Stretches.{hitIn}
+use Rattle.stretches.proofs.StretchLaws.{Ends, force-away}
 use Rattle.steps.specs.Plan.{Ready}
-use Rattle.steps.specs.Run.{nextBy, nextOf, Ran, Placed, Moves, Ends, hitIn}
+use Rattle.steps.specs.Run.{nextBy, nextOf, Ran, Placed, Moves}
 use Rattle.steps.proofs.FillLaws.{Running, running-on, running-most, running-stops, ran-same}
-use Rattle.steps.proofs.StretchLaws.{force-away}
 
 -- a force within the ceiling
 pub force-low : (h : Hit) → tooStrong h ≡ false → (k : ℕ) → natAbs (forceOf h k) ≤ ceiling
@@ -71,14 +72,6 @@ next-value i h older newer f k m e =
 
     d : ℕ
     d = divisor (i .settings)
-
-pub hit-nowhere : (from to : ℕ) → hitIn Absent from to ≡ false
-unfolding hitIn
-hit-nowhere from to = refl
-
-pub hit-at : (p : ℕ) (f : ℤ) (from to : ℕ) → hitIn (At p f) from to ≡ (leb from p && ltb p to)
-unfolding hitIn
-hit-at p f from to = refl
 
 -- where the hit is not, there is no force
 pub no-force : (i : Instrument) (h : Hit) (older newer : List ℤ) (f : ℤ) {write : Bool} {base : ℕ} {out out′ : List ℤ} {from to : ℕ}

@@ -4,7 +4,6 @@ pub mod FillLaws
 pub mod KindLaws
 pub mod PlanLaws
 pub mod NumeratorLaws
-pub mod StretchLaws
 pub mod BesideLaws
 pub mod PointLaws
 pub mod RoleLaws

@@ -12,14 +12,23 @@ use Rattle.types.specs.declared.Instrument.{Instrument}
 use Rattle.scheme.specs.Passing.{InstrumentPasses}
 use Rattle.plans.specs.declared.Plan.{Plan}
 use Rattle.steps.specs.declared.progress.Progress.{Progress}
-use Rattle.steps.specs.declared.stretch.Stretch.{Stretch}
+use Rattle.stretches.specs.declared.Stretch.{Stretch}
+use Rattle.stretches.specs.Stretches.{clamp, partOf}
+use Rattle.stretches.proofs.StretchLaws.{clamped, clamp-before, clamp-after, clamp-low, clamp-high, clamp-rises}
 use Rattle.steps.specs.Plan.{Ready}
-use Rattle.steps.specs.Run.{Advanced, Moves, OnLine, FreeEnd, clamp}
+use Rattle.steps.specs.Run.{Advanced, Moves, Placed, OnLine, FreeEnd}
 use Rattle.steps.proofs.CountLaws.{counted-most}
 use Rattle.steps.proofs.FillLaws.{passed, ran-none, ran-append, ran-stops, ran-ends}
 use Rattle.steps.proofs.KindLaws.{line-long, wide}
 use Rattle.steps.proofs.BesideLaws.{within-line, first-free, last-free}
-use Rattle.steps.proofs.StretchLaws.{clamped, clamp-before, clamp-after, clamp-low, clamp-high, clamp-rises}
+
+-- a part of a stretch finds its places as the stretch does
+pub part-placed : {s : Stretch} {n : ℕ} (a e : ℕ) → a ≤ e → Placed s n → Placed (partOf s a e) n
+part-placed {s} a e h p = record {
+  order = clamp-rises (s .from) (s .to) (p .order) a e h;
+  above = omega (arith, p .above, clamp-low (s .from) (s .to) (p .order) a);
+  room = omega (arith, p .room, clamp-high (s .from) (s .to) (p .order) e);
+}
 
 module _ (s : Stretch) {p : Plan} {older newer : List ℤ} (r : Ready p (s .force) older newer) (line : p .instrument .grid .rows ≡ 1)
     (all : Moves (p .instrument .grid) (s .from) (s .to)) (some : s .from < s .to) where

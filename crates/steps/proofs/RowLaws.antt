@@ -1,5 +1,5 @@
 -- A step of a whole level, row by row.
-use mathlib.Core.Path.{_≡_, refl, sym, ap, _∙_, subst}
+use mathlib.Core.Path.{_≡_, refl, sym, ap, ap₂, _∙_, subst}
 use mathlib.Core.Bool.{Bool, true, false, not, _&&_, and-false, true≢false}
 use mathlib.Core.List.{List}
 use mathlib.Core.Logic.{inr}
@@ -9,7 +9,7 @@ use native.Mathlib.Omega.{arith}
 use borrow.Author.Tests.{ltb-false, lt-ltb, le-ltb, le-leb, lt-leb}
 use lib.Dec.{leb}
 use lib.IntN.{ℤ, pos}
-use lib.ListN.{length}
+use lib.ListN.{length, getD}
 use Rattle.types.specs.declared.Grid.{Grid}
 use Rattle.types.specs.declared.Instrument.{Instrument}
 use Rattle.types.specs.declared.Hit.{Hit}
@@ -22,18 +22,32 @@ use Rattle.scheme.proofs.Laws.Lists.{is-tabulate, some-at}
 use Rattle.scheme.proofs.Laws.Step.{length-next, next-still, next-point, inexact-still, all-low}
 use Rattle.scheme.proofs.Laws.Refusals.{passes-low, passes-still}
 use Rattle.kinds.specs.declared.runs.Run.{Run}
-use Rattle.kinds.specs.Runs.{inRun, runOf}
+use Rattle.kinds.specs.Runs.{run, inRun, runOf}
 use Rattle.kinds.proofs.RunLaws.{run-bounds, moving-run}
+use Rattle.edges.specs.Edges.{firstsOf, endsOf}
+use Rattle.edges.proofs.EdgeLaws.{column-is}
 use Rattle.levels.proofs.LevelLaws.{next-row, row-inside}
 use Rattle.plans.specs.declared.Plan.{Plan}
 use Rattle.steps.specs.declared.progress.Progress.{Progress}
 use Rattle.steps.specs.Plan.{Ready}
 use Rattle.steps.specs.Run.{Next, nextOf, Ran, Counted, Moves}
+use Rattle.steps.specs.Edges.{EdgesOf}
 use Rattle.steps.specs.Roles.{Steppable}
 use Rattle.steps.specs.Pass.{target, Passable, Passing, Passed}
 use Rattle.steps.proofs.CountLaws.{counted-not, counted-all}
 use Rattle.steps.proofs.FillLaws.{filled-there, passed, ran-all, ran-append}
 use Rattle.steps.proofs.PassLaws.{passing-none, passing-most, passing-append, passing-stops}
+
+-- ---- the moving columns that are kept
+
+-- every row has its own once they are put
+pub edges-there : {g : Grid} (from₀ to₀ : List ℕ) {from to : List ℕ} → inTable g ≡ true → g .rows ≤ 64 → length from₀ ≡ 64 → length to₀ ≡ 64
+    → from ≡ firstsOf g from₀ → to ≡ endsOf g to₀ → EdgesOf g from to
+edges-there {g} from₀ to₀ size few a b e f = record {
+  each = λ row h. ap₂ run
+      (ap (λ (xs : List ℕ). getD xs row 0) e ∙ column-is g (λ (r : Run). r .from) from₀ row size h (omega arith))
+      (ap (λ (xs : List ℕ). getD xs row 0) f ∙ column-is g (λ (r : Run). r .to) to₀ row size h (omega arith));
+}
 
 -- ---- a row
 

@@ -4,19 +4,17 @@ use mathlib.Core.Bool.{Bool, true, false, cond, not, _&&_}
 use mathlib.Core.List.{List, [], _∷_}
 use mathlib.Core.Logic.{_⊎_}
 use Prim.Native.Nat.{ℕ, _+_, _-_, _≤_, _<_}
-use lib.Dec.{leb, ltb}
 use lib.IntN.{ℤ, pos, _+ℤ_}
 use lib.ListN.{length}
 use Rattle.types.specs.declared.Grid.{Grid}
 use Rattle.types.specs.declared.Instrument.{Instrument}
 use Rattle.types.specs.declared.Hit.{Hit}
-use Rattle.types.specs.declared.Hit.the-variants.{Absent, At}
 use Rattle.scheme.specs.Lists.{point, countBelow}
 use Rattle.scheme.specs.Instruments.{beyond, points, atEdge, moving}
-use Rattle.scheme.specs.Step.{neighbours, numerator, roundAway, divisor, forceOf, nextAt, isMultiple, inexactAt}
+use Rattle.scheme.specs.Step.{neighbours, numerator, roundAway, divisor, nextAt, isMultiple, inexactAt}
 use Rattle.plans.specs.declared.Plan.{Plan}
+use Rattle.stretches.specs.declared.Stretch.{Stretch}
 use Rattle.steps.specs.declared.progress.Progress.{Progress}
-use Rattle.steps.specs.declared.stretch.Stretch.{Stretch}
 
 -- what a step makes of a point: its next value, and whether its numerator is no multiple of the divisor
 pub record Next : Type 0 where
@@ -108,31 +106,6 @@ pub record FreeEnd (i : Instrument) (near from to : ℕ) : Type 0 where
   pub there : from < to → moving (i .grid) from ≡ true
   pub twice : from < to → neighbours (i .grid) from ≡ near ∷ near ∷ []
   pub soft : from < to → i .settings .m ≡ 0
-
--- k, or the end of from..to that is nearer to it
-unfoldable pub clamp : (from to : ℕ) → ℕ → ℕ
-clamp from to k = let a = cond (ltb from k) k from in cond (ltb a to) a to
-
--- what lies of a stretch in a..e
-abbrev pub partOf : Stretch → (a e : ℕ) → Stretch
-partOf s a e = record {
-  from = clamp (s .from) (s .to) a;
-  to = clamp (s .from) (s .to) e;
-  force = s .force;
-  base = s .base;
-  write = s .write;
-}
-
--- where a stretch may end: one force on all its points
-pub record Ends (h : Hit) (a e r : ℕ) : Type 0 where
-  pub some : a < r
-  pub upto : r ≤ e
-  pub one-force : (k : ℕ) → a ≤ k → k < r → forceOf h k ≡ forceOf h a
-
--- whether a hit is at one of the points from..to
-unfoldable pub hitIn : Hit → (from to : ℕ) → Bool
-hitIn Absent from to = false
-hitIn (At k f) from to = leb from k && ltb k to
 
 -- ---- neighbours
 

@@ -17,11 +17,11 @@ use crate::plates::plate_level;
 use crate::plates::struck_level;
 use crate::points::points_run;
 use crate::progress::Progress;
-use crate::stretch::Stretch;
-use crate::stretch::force_at;
-use crate::stretch::stretch_end;
 use crate::within::is_row_within;
 use plans::Plan;
+use stretches::Stretch;
+use stretches::force_at;
+use stretches::stretch_end;
 use types::Hit;
 
 // The moving points of a row.

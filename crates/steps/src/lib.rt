@@ -1,6 +1,5 @@
 // The steps of a block, on three levels or on two whose roles turn.
 mod arithmetic;
-mod edges;
 mod level;
 mod neighbours;
 mod pieces;
@@ -9,7 +8,6 @@ mod play;
 mod points;
 mod progress;
 mod roles;
-mod stretch;
 mod turns;
 mod within;
 

@@ -10,7 +10,7 @@ ghost use Rattle.scheme.specs.Lists.{point};
 ghost use Rattle.scheme.specs.Instruments.{plate, kind};
 ghost use Rattle.scheme.specs.Refusals.{tooStrong};
 ghost use Rattle.steps.specs.Plan.{AtMost, Ready};
-ghost use Rattle.steps.specs.Run.{Filled, Advanced, Stepping, Placed, fourBeside, hitIn};
+ghost use Rattle.steps.specs.Run.{Filled, Advanced, Stepping, Placed, fourBeside};
 ghost use Rattle.steps.specs.Pass.{Passable, Passed};
 ghost use Rattle.steps.specs.Plates.{TwoRows, InRow, Readable, secondAt};
 use crate::arithmetic::bending;
@@ -19,10 +19,11 @@ use crate::pieces::base_of;
 use crate::pieces::put_piece;
 use crate::points::next_point;
 use crate::progress::Progress;
-use crate::stretch::Stretch;
-use crate::stretch::as_written;
-use crate::stretch::force_at;
 use plans::Plan;
+use stretches::Stretch;
+use stretches::as_written;
+use stretches::force_at;
+use stretches::is_hit_in;
 use types::Hit;
 
 // Where the sums of two rows stand: of column c of the row that begins at point `start` at place here + c; at other + c that of the row
@@ -189,16 +190,6 @@ fn struck_run(
         within: true,
         inexact,
     }
-}
-
-// Whether a hit is at one of the points from..to.
-fn is_hit_in(hit: Hit, from: usize, to: usize) -> bool
-    ensures { λ r. ⌜ r ≡ hitIn hit from to ⌝ }
-{
-    let Hit::At { point, force: _ } = hit else {
-        return false;
-    };
-    if from <= point { point < to } else { false }
 }
 
 // The moving points of a row, in a step with a hit.

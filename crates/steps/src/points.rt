@@ -14,10 +14,10 @@ use crate::neighbours::around;
 use crate::neighbours::beside;
 use crate::neighbours::sum_at;
 use crate::progress::Progress;
-use crate::stretch::Stretch;
-use crate::stretch::part;
 use plans::Plan;
 use rounding::round_by;
+use stretches::Stretch;
+use stretches::part;
 
 // The numerator at a point: sum is that of its neighbours, b is L of L.
 pub(crate) fn numerator_at(

@@ -12,9 +12,9 @@ use crate::arithmetic::is_below_limit;
 use crate::neighbours::around;
 use crate::neighbours::beside;
 use crate::points::numerator_at;
-use crate::stretch::clamped;
-use crate::stretch::force_at;
 use plans::Plan;
+use stretches::clamped;
+use stretches::force_at;
 use types::Hit;
 
 // One point: sum is that of its neighbours.

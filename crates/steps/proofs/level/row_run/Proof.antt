@@ -1,5 +1,5 @@
 -- `row_run` meets its contract: stretch by stretch, one force on the points of each.
-use mathlib.Core.Path.{_∙_}
+use mathlib.Core.Path.{sym, _∙_, subst}
 use Prim.Native.Nat.{_-_}
 use native.Mathlib.Omega.{arith}
 use borrow.Author.Needs.{needs}
@@ -7,6 +7,7 @@ use borrow.Author.Tests.{not-true, not-false}
 use mir.Syntax.{w64}
 use mir.Val.{toZ, ofZ}
 use Rattle.bounded.proofs.Num.{back}
+use Rattle.stretches.proofs.StretchLaws.{Ends, ends}
 use Rattle.steps.specs.Run.{nextOf}
 use Rattle.steps.proofs.PlanLaws.{few-points}
 use Rattle.steps.proofs.FillLaws.{Running, running-start, running-done}
@@ -34,7 +35,8 @@ module _ (c : tie.After-force-at Inv-loop μ-loop) where
   struck = record {
     moves = s .pre .1 .0;
     inv = loop .loop .inv;
-    ends = c .before .stretch-end .ensures;
+    ends = subst (Ends (s .args .hit) (loop .loop .at) (s .args .row .to)) (sym (c .before .stretch-end .ensures))
+        (ends (c .before .before .if1 .taken) (s .args .hit));
     force-is = back (c .force-at .result) (c .force-at .ok) ∙ c .force-at .ensures;
   }
 
@@ -46,10 +48,10 @@ loop-holds : tie.Need-loop-holds Inv-loop μ-loop
 loop-holds c = let p = c .pre .0 .1 in running-start _ _ _ (p .above) (p .order)
 
 stretch-end-requires : tie.Need-stretch-end-requires Inv-loop μ-loop
-stretch-end-requires c κs = c .if1 .taken
+stretch-end-requires c κs = tt
 
 force-at-requires : tie.Need-force-at-requires Inv-loop μ-loop
-force-at-requires c κs = c .before .before .before .before .pre .1 .1
+force-at-requires c κs = tt
 
 points-run-requires : tie.Need-points-run-requires Inv-loop μ-loop
 points-run-requires c κs =

@@ -12,11 +12,12 @@ use Rattle.types.specs.declared.Grid.{Grid}
 use Rattle.types.specs.declared.Hit.the-variants.{Absent}
 use Rattle.scheme.specs.Instruments.{plate, kind, points}
 use Rattle.slices.proofs.SliceLaws.{zeros}
+use Rattle.stretches.proofs.StretchLaws.{hit-nowhere}
 use Rattle.steps.specs.Plan.{Ready}
 use Rattle.steps.specs.Run.{Stepping, Placed, Moves}
 use Rattle.steps.specs.Pass.{Passable, Passing}
 use Rattle.steps.proofs.PlanLaws.{few-rows, few-points}
-use Rattle.steps.proofs.HitLaws.{no-force, hit-nowhere}
+use Rattle.steps.proofs.HitLaws.{no-force}
 use Rattle.steps.proofs.PassLaws.{base-aside, piece-placed, piece-passing, piece-stops, passing-ready}
 use Rattle.steps.proofs.RowLaws.{steppable-ready}
 use Rattle.steps.proofs.PlateRowLaws.{PlateRows, some-columns, some-rows, few-columns, three-rows, plate-start, in-level, in-row}

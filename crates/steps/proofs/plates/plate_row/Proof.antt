@@ -1,12 +1,13 @@
 -- `plate_row` meets its contract: both loops run over the stretch itself.
-use mathlib.Core.Path.{_≡_, sym, subst}
+use mathlib.Core.Path.{_≡_, sym, _∙_, subst}
 use mathlib.Core.Bool.{true}
 use mathlib.Core.List.{List}
 use borrow.Author.Needs.{needs}
 use lib.IntN.{ℤ}
 use lib.ListN.{length}
 use Rattle.steps.specs.declared.progress.Progress.{Progress}
-use Rattle.steps.specs.declared.stretch.Stretch.{Stretch}
+use Rattle.stretches.specs.declared.Stretch.{Stretch}
+use Rattle.stretches.proofs.StretchLaws.{written-so}
 use Rattle.steps.specs.Plan.{Ready}
 use Rattle.steps.specs.Run.{Advanced, Placed}
 use Rattle.steps.specs.Plates.{TwoRows, InRow}
@@ -28,14 +29,21 @@ module _ (c : tie.Start) where
       Advanced (a .plan) s (a .older .now) (a .newer .now) (a .out .now) out (s .from) (s .to) r
       × (r .within ≡ true → TwoRows (a .plan .instrument .grid) (a .newer .now) sums (a .rows) (s .to))
 
+-- the stretch that a loop is given is the stretch itself
+written-here : (w : tie.After-as-written) → w .as-written .result ≡ w .before .before .args .s
+written-here w = w .as-written .ensures ∙ written-so _ (w .before .if1 .taken)
+
+written-there : (w : tie.After-as-written2) → w .as-written2 .result ≡ w .before .before .args .s
+written-there w = w .as-written2 .ensures ∙ written-so _ (w .before .if1 .left)
+
 as-written-requires : tie.Need-as-written-requires
-as-written-requires c κs = (c .before .pre .0 .0 .f-low, c .if1 .taken)
+as-written-requires c κs = tt
 
 plate-run-requires : tie.Need-plate-run-requires
 plate-run-requires c κs =
     let w = c .before .before in
     let s = w .before .before in
-    subst (Given s) (sym (w .as-written .ensures)) (s .pre)
+    subst (Given s) (sym (written-here w)) (s .pre)
 
 same-length : tie.Need-same-length
 same-length c = search needs
@@ -48,16 +56,16 @@ returns c =
     let p = c .before .before in
     let w = p .before .before .before in
     let s = w .before .before in
-    subst (Owed s _ _ (p .plate-run .result)) (w .as-written .ensures) (p .plate-run .ensures)
+    subst (Owed s _ _ (p .plate-run .result)) (written-here w) (p .plate-run .ensures)
 
 as-written-requires-2 : tie.Need-as-written-requires-2
-as-written-requires-2 c κs = (c .before .pre .0 .0 .f-low, c .if1 .left)
+as-written-requires-2 c κs = tt
 
 plate-run-requires-2 : tie.Need-plate-run-requires-2
 plate-run-requires-2 c κs =
     let w = c .before .before in
     let s = w .before .before in
-    subst (Given s) (sym (w .as-written2 .ensures)) (s .pre)
+    subst (Given s) (sym (written-there w)) (s .pre)
 
 same-length-3 : tie.Need-same-length-3
 same-length-3 c = search needs
@@ -70,7 +78,7 @@ returns-2 c =
     let p = c .before .before in
     let w = p .before .before .before in
     let s = w .before .before in
-    subst (Owed s _ _ (p .plate-run2 .result)) (w .as-written2 .ensures) (p .plate-run2 .ensures)
+    subst (Owed s _ _ (p .plate-run2 .result)) (written-there w) (p .plate-run2 .ensures)
 
 pub plate-row-spec : {M : Type 1} → statement M
 plate-row-spec =

@@ -10,11 +10,11 @@ use mir.Syntax.{w64}
 use mir.Val.{toZ, ofZ}
 use Rattle.bounded.proofs.Num.{back}
 use Rattle.scheme.proofs.Laws.Step.{moving-inside}
+use Rattle.stretches.proofs.StretchLaws.{ends-alone}
 use Rattle.steps.specs.Run.{nextOf}
 use Rattle.steps.specs.Plates.{TwoRows}
 use Rattle.steps.proofs.PlanLaws.{few-points}
 use Rattle.steps.proofs.FillLaws.{Running, running-start, running-done}
-use Rattle.steps.proofs.StretchLaws.{ends-alone}
 use Rattle.steps.proofs.HitLaws.{Struck, struck-ready, struck-placed, struck-moves, struck-on, struck-most, struck-stops}
 use Rattle.steps.proofs.PlateLaws.{some-row}
 use Rattle.steps.proofs.plates.struck_run.Statement.{statement}
@@ -67,7 +67,7 @@ add-t14 : tie.Need-add-t14 Inv-loop μ-loop
 add-t14 c = let h = inside c in search needs
 
 force-at-requires : tie.Need-force-at-requires Inv-loop μ-loop
-force-at-requires c κs = s c .pre .0 .2
+force-at-requires c κs = tt
 
 plate-point-requires : tie.Need-plate-point-requires Inv-loop μ-loop
 plate-point-requires c κs =

@@ -9,14 +9,14 @@ use lib.IntN.{ℤ}
 use lib.ListN.{length}
 use Rattle.types.specs.declared.Grid.{Grid}
 use Rattle.steps.specs.declared.progress.Progress.{Progress}
-use Rattle.steps.specs.declared.stretch.Stretch.{Stretch}
+use Rattle.stretches.specs.declared.Stretch.{Stretch}
+use Rattle.stretches.specs.Stretches.{partOf}
 use Rattle.steps.specs.Plan.{Ready}
-use Rattle.steps.specs.Run.{Advanced, Placed, Moves, OnLine, FreeEnd, partOf}
+use Rattle.steps.specs.Run.{Advanced, Placed, Moves, OnLine, FreeEnd}
 use Rattle.steps.proofs.FillLaws.{passed, placed-after, ran-passed}
 use Rattle.steps.proofs.PlanLaws.{few-points}
-use Rattle.steps.proofs.StretchLaws.{part-placed}
 use Rattle.steps.proofs.LineLaws.{three, first-part, last-part, inner-line, first-stops, inner-stops}
-use Rattle.steps.proofs.LineLaws.{last-stops, all-parts, all-most}
+use Rattle.steps.proofs.LineLaws.{part-placed, last-stops, all-parts, all-most}
 use Rattle.steps.proofs.points.line_points.Statement.{statement}
 use Rattle.steps.proofs.points.line_points.Tie as tie
 
@@ -153,7 +153,7 @@ module _ (c : tie.Else3) where
       omega (arith, whole, ready s₄ .newer-long, few-points (ready s₄ .planned))
 
 part-requires : tie.Need-part-requires
-part-requires c κs = search needs
+part-requires c κs = tt
 
 free-end-requires : tie.Need-free-end-requires
 free-end-requires c κs =
@@ -177,7 +177,7 @@ sub-part : tie.Need-sub-part
 sub-part c = omega (arith, wide (at-first (c .before .before)))
 
 part-requires-2 : tie.Need-part-requires-2
-part-requires-2 c κs = search needs
+part-requires-2 c κs = tt
 
 inner-points-requires : tie.Need-inner-points-requires
 inner-points-requires c κs =
@@ -206,7 +206,7 @@ sub-part-2 : tie.Need-sub-part-2
 sub-part-2 c = omega (arith, wide (s₂ (c .before .before)))
 
 part-requires-3 : tie.Need-part-requires-3
-part-requires-3 c κs = search needs
+part-requires-3 c κs = tt
 
 free-end-requires-2 : tie.Need-free-end-requires-2
 free-end-requires-2 c κs =

@@ -1,5 +1,5 @@
 -- `begin` meets its contract: work begins at 0, and the steps are the paper's.
-use mathlib.Core.Path.{_≡_}
+use mathlib.Core.Path.{_≡_, refl}
 use mathlib.Core.Bool.{false}
 use borrow.Author.Needs.{needs}
 use Rattle.types.specs.declared.Refusal.the-variants.{Nothing}
@@ -8,6 +8,7 @@ use Rattle.scheme.proofs.Laws.Refusals.{instrument-passes, block-passes}
 use Rattle.plans.specs.declared.Plan.{Plan}
 use Rattle.steps.specs.Plan.{Planned}
 use Rattle.steps.proofs.PlanLaws.{made, few-rows}
+use Rattle.steps.proofs.RowLaws.{edges-there}
 use Rattle.steps.proofs.TurnLaws.{pick-inside, first-steppable, own-steps, opened}
 use Rattle.steps.proofs.turns.begin.Statement.{statement}
 use Rattle.steps.proofs.turns.begin.Tie as tie
@@ -50,10 +51,7 @@ slice-aggregate-row-edges-2 : tie.Need-slice-aggregate-row-edges-2
 slice-aggregate-row-edges-2 c = search needs
 
 row-edges-requires : tie.Need-row-edges-requires
-row-edges-requires c κs =
-    let plan = told (c .before .before) .1 in
-    let few = few-rows plan in
-    (plan .passes .size, few, few)
+row-edges-requires c κs = tt
 
 clear-requires : tie.Need-clear-requires
 clear-requires c κs = search needs
@@ -68,7 +66,8 @@ play-requires c κs =
             (c .before .before .before .before .before .before .before .clear .ensures) (start c .pre .1),
         pick-inside (a .i) (a .older .now) (a .newer .now) (a .pick) (a .hit) (passes c) (plan c) (m .0),
       ),
-      edged c .row-edges .ensures,
+      edges-there _ _ (m .1 .passes .size) (few-rows (m .1)) refl refl (edged c .row-edges .ensures .0)
+          (edged c .row-edges .ensures .1),
     )
 
 same-length : tie.Need-same-length

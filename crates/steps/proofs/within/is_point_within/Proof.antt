@@ -20,7 +20,7 @@ force-is : (c : tie.After-force-at) → toZ w64 (ofZ w64 (c .force-at .result)) 
 force-is c = back (c .force-at .result) (c .force-at .ok) ∙ c .force-at .ensures
 
 force-at-requires : tie.Need-force-at-requires
-force-at-requires c κs = c .pre .1
+force-at-requires c κs = tt
 
 numerator-at-requires : tie.Need-numerator-at-requires
 numerator-at-requires c κs =

@@ -6,9 +6,10 @@ use native.Mathlib.Omega.{arith}
 use borrow.Author.Tests.{not-true, not-false}
 use lib.IntN.{pos}
 use lib.ListN.{length}
-use Rattle.steps.specs.declared.stretch.Stretch.{Stretch}
-use Rattle.steps.specs.Run.{clamp, OnLine, FreeEnd}
-use Rattle.steps.proofs.StretchLaws.{clamp-low, clamp-high, clamp-rises}
+use Rattle.stretches.specs.declared.Stretch.{Stretch}
+use Rattle.stretches.specs.Stretches.{clamp}
+use Rattle.steps.specs.Run.{OnLine, FreeEnd}
+use Rattle.stretches.proofs.StretchLaws.{clamp-low, clamp-high, clamp-rises}
 use Rattle.steps.proofs.LineLaws.{three, first-end, last-end, inner-line}
 use Rattle.steps.proofs.FillLaws.{tested-append, tested-stops}
 use Rattle.steps.proofs.within.is_string_within.Statement.{statement}

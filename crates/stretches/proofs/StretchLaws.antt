@@ -1,18 +1,18 @@
 -- Stretches: what lies of them in a range, where they end, and the one force on their points.
 use mathlib.Core.Path.{_≡_, refl, sym, ap, _∙_, subst}
-use mathlib.Core.Bool.{Bool, cond}
+use mathlib.Core.Bool.{Bool, false, cond, _&&_}
 use mathlib.Core.Logic.{_⊎_, inl, inr}
 use Prim.Native.Nat.{ℕ, _+_, _≤_, _<_}
 use native.Mathlib.Decide.{decLt}
 use native.Mathlib.Omega.{arith}
 use borrow.Author.Tests.{lt-ltb, le-ltb, eq-eqb, ne-eqb}
-use lib.Dec.{ltb}
+use lib.Dec.{leb, ltb}
 use lib.IntN.{ℤ, pos}
 use Rattle.types.specs.declared.Hit.{Hit}
 use Rattle.types.specs.declared.Hit.the-variants.{Absent, At}
 use Rattle.scheme.specs.Step.{forceOf}
-use Rattle.steps.specs.declared.stretch.Stretch.{Stretch}
-use Rattle.steps.specs.Run.{clamp, partOf, Placed, Ends}
+use Rattle.stretches.specs.declared.Stretch.{Stretch}
+use Rattle.stretches.specs.Stretches.{clamp, withWrite, endOf, hitIn}
 
 -- ---- the nearer end
 
@@ -77,13 +77,10 @@ module _ (from to : ℕ) where
         (λ h l. clamped (λ n. j ≤ n) k (λ o. absurd (omega arith)) (λ o p. m) (λ o. omega arith))
         (λ h. subst (λ (n : ℕ). to ≤ n) (sym (clamp-after k (omega arith))) (omega arith))
 
--- a part of a stretch finds its places as the stretch does
-pub part-placed : {s : Stretch} {n : ℕ} (a e : ℕ) → a ≤ e → Placed s n → Placed (partOf s a e) n
-part-placed {s} a e h p = record {
-  order = clamp-rises (s .from) (s .to) (p .order) a e h;
-  above = omega (arith, p .above, clamp-low (s .from) (s .to) (p .order) a);
-  room = omega (arith, p .room, clamp-high (s .from) (s .to) (p .order) e);
-}
+-- ---- its own `write` put in
+
+pub written-so : (s : Stretch) {w : Bool} → s .write ≡ w → withWrite s w ≡ s
+written-so s e = λ j. record { from = s .from; to = s .to; force = s .force; base = s .base; write = sym e j }
 
 -- ---- "f is the hit's force in units at the hit point, else 0"
 
@@ -93,14 +90,47 @@ force-there p f k e = ap (λ (t : Bool). cond t f (pos 0)) (eq-eqb k p e)
 pub force-away : (p : ℕ) (f : ℤ) (k : ℕ) → (k ≡ p → ⊥) → forceOf (At p f) k ≡ pos 0
 force-away p f k d = ap (λ (t : Bool). cond t f (pos 0)) (ne-eqb k p d)
 
+-- ---- whether a hit is in a stretch
+
+pub hit-nowhere : (from to : ℕ) → hitIn Absent from to ≡ false
+unfolding hitIn
+hit-nowhere from to = refl
+
+pub hit-at : (p : ℕ) (f : ℤ) (from to : ℕ) → hitIn (At p f) from to ≡ (leb from p && ltb p to)
+unfolding hitIn
+hit-at p f from to = refl
+
 -- ---- where a stretch ends
 
-module _ {a e : ℕ} (some : a < e) where
-  -- without a hit: at the end of the row
-  pub ends-row : Ends Absent a e e
-  ends-row = record { some = some; upto = omega arith; one-force = λ k l m. refl }
+pub end-row : (a e : ℕ) → endOf Absent a e ≡ e
+unfolding endOf
+end-row a e = refl
 
-  -- the hit's point alone
+pub end-away : (p : ℕ) (f : ℤ) (a e : ℕ) → p < a → endOf (At p f) a e ≡ e
+unfolding endOf
+end-away p f a e h = ap (λ (t : Bool). cond t e (clamp (a + 1) e p)) (lt-ltb p a h)
+
+pub end-before : (p : ℕ) (f : ℤ) (a e : ℕ) → a ≤ p → endOf (At p f) a e ≡ clamp (a + 1) e p
+unfolding endOf
+end-before p f a e h = ap (λ (t : Bool). cond t e (clamp (a + 1) e p)) (le-ltb p a h)
+
+-- none where no point is left
+pub end-none : (p : ℕ) (f : ℤ) (a e : ℕ) → a ≤ p → e ≤ a → e ≡ endOf (At p f) a e
+end-none p f a e h l = clamp-second (a + 1) e p _ refl (beyond (decLt (a + 1) p)) ∙ sym (end-before p f a e h)
+  where
+    beyond : Dec (a + 1 < p) → e ≤ cond (ltb (a + 1) p) p (a + 1)
+    beyond (yes m) = subst (λ (n : ℕ). e ≤ n) (sym (ap (λ (t : Bool). cond t p (a + 1)) (lt-ltb (a + 1) p m))) (omega arith)
+    beyond (no m) =
+        subst (λ (n : ℕ). e ≤ n) (sym (ap (λ (t : Bool). cond t p (a + 1)) (le-ltb (a + 1) p (omega (arith, m))))) (omega arith)
+
+-- some points, no more than there are, and one force on all of them
+pub record Ends (h : Hit) (a e r : ℕ) : Type 0 where
+  pub some : a < r
+  pub upto : r ≤ e
+  pub one-force : (k : ℕ) → a ≤ k → k < r → forceOf h k ≡ forceOf h a
+
+module _ {a e : ℕ} (some : a < e) where
+  -- one point
   pub ends-alone : (h : Hit) → Ends h a e (a + 1)
   ends-alone h = record {
     some = omega arith;
@@ -121,12 +151,17 @@ module _ {a e : ℕ} (some : a < e) where
         off (inl h) k l m d = omega arith
         off (inr h) k l m d = omega arith
 
-    pub ends-away : p < a → Ends (At p f) a e e
-    ends-away h = away e some (omega arith) (inl h)
-
-    pub ends-before : a < p → Ends (At p f) a e (clamp a e p)
-    ends-before h =
-        clamped a e (omega arith) (Ends (At p f) a e) p
-        (λ o. absurd (omega arith))
-        (λ o l. away p o (omega arith) (inr (omega arith)))
-        (λ o. away e some (omega arith) (inr o))
+  -- a stretch ends so
+  pub ends : (h : Hit) → Ends h a e (endOf h a e)
+  ends Absent =
+      subst (Ends Absent a e) (sym (end-row a e)) (record { some = some; upto = omega arith; one-force = λ k l m. refl })
+  ends (At p f) = go (decLt p a)
+    where
+      go : Dec (p < a) → Ends (At p f) a e (endOf (At p f) a e)
+      go (yes h) = subst (Ends (At p f) a e) (sym (end-away p f a e h)) (away p f e some (omega arith) (inl h))
+      go (no h) =
+          subst (Ends (At p f) a e) (sym (end-before p f a e (omega (arith, h))))
+          (clamped (a + 1) e (omega (arith, some)) (Ends (At p f) a e) p
+          (λ o. ends-alone (At p f))
+          (λ o l. away p f p (omega arith) (omega arith) (inr (omega arith)))
+          (λ o. away p f e some (omega arith) (inr o)))

@@ -1,35 +1,26 @@
--- `force_at` meets its contract: the force of the hit at its point.
+-- `force_at` meets its contract: the force of the hit at its point, read back as it was stored.
 use mathlib.Core.Path.{_≡_, sym, ap, _∙_}
-use Prim.Native.Nat.{_≤_}
-use borrow.Author.Tests.{ltb-false}
-use lib.IntN.{ℤ, natAbs}
+use borrow.Author.Needs.{needs}
+use lib.IntN.{ℤ}
+use mir.Syntax.{w64}
+use mir.ValLaws.{toZ-ofZ}
 use Rattle.types.specs.declared.Hit.{Hit}
 use Rattle.types.specs.declared.Hit.the-variants.{At}
-use Rattle.types.specs.Numbers.{ceiling}
-use Rattle.scheme.specs.Refusals.{tooStrong}
 use Rattle.scheme.specs.Step.{forceOf}
-use Rattle.steps.proofs.Held.{held}
-use Rattle.steps.proofs.StretchLaws.{force-there, force-away}
-use borrow.Author.Needs.{needs}
-use Rattle.steps.proofs.stretch.force_at.Statement.{statement}
-use Rattle.steps.proofs.stretch.force_at.Tie as tie
+use Rattle.stretches.proofs.StretchLaws.{force-there, force-away}
+use Rattle.stretches.proofs.force_at.Statement.{statement}
+use Rattle.stretches.proofs.force_at.Tie as tie
 
 -- the hit is at a point
 module _ (c : tie.After-known-told) where
   abbrev start : tie.Start
   start = c .before .before .before
 
-  abbrev force : ℤ
-  force = c .before .hit .given .0 .1 .0
-
   abbrev struck : Hit
-  struck = At (c .before .hit .given .0 .0) force
+  struck = At (c .before .hit .given .0 .0) (c .before .hit .given .0 .1 .0)
 
   hit-is : forceOf (start .args .hit) (start .args .at) ≡ forceOf struck (start .args .at)
   hit-is = ap (λ (h : Hit). forceOf h (start .args .at)) (c .before .hit .given .1)
-
-  force-low : natAbs force ≤ ceiling
-  force-low = ltb-false ceiling (natAbs force) (ap tooStrong (sym (c .before .hit .given .1)) ∙ start .pre)
 
 enum-known-hit : tie.Need-enum-known-hit
 enum-known-hit c = search needs
@@ -41,7 +32,8 @@ returns : tie.Need-returns
 returns c = ap (λ (h : Hit). forceOf h (c .before .before .args .at)) (sym (c .enum-told .given .1))
 
 returns-2 : tie.Need-returns-2
-returns-2 c = held (force-low (c .before)) ∙ sym (force-there _ _ _ (c .if1 .taken)) ∙ sym (hit-is (c .before))
+returns-2 c =
+    toZ-ofZ w64 _ (search needs) ∙ sym (force-there _ _ _ (c .if1 .taken)) ∙ sym (hit-is (c .before))
 
 returns-3 : tie.Need-returns-3
 returns-3 c = sym (force-away _ _ _ (c .if1 .left)) ∙ sym (hit-is (c .before))

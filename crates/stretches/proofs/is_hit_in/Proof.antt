@@ -2,14 +2,15 @@
 use mathlib.Core.Path.{_≡_, sym, ap, _∙_}
 use mathlib.Core.Bool.{Bool, _&&_}
 use Prim.Native.Nat.{ℕ}
+use native.Mathlib.Omega.{arith}
 use borrow.Author.Needs.{needs}
 use borrow.Author.Tests.{le-leb, lt-leb}
 use lib.Dec.{leb, ltb}
 use Rattle.types.specs.declared.Hit.{Hit}
-use Rattle.steps.specs.Run.{hitIn}
-use Rattle.steps.proofs.HitLaws.{hit-nowhere, hit-at}
-use Rattle.steps.proofs.plates.is_hit_in.Statement.{statement}
-use Rattle.steps.proofs.plates.is_hit_in.Tie as tie
+use Rattle.stretches.specs.Stretches.{hitIn}
+use Rattle.stretches.proofs.StretchLaws.{hit-nowhere, hit-at}
+use Rattle.stretches.proofs.is_hit_in.Statement.{statement}
+use Rattle.stretches.proofs.is_hit_in.Tie as tie
 
 -- the hit is at a point
 module _ (c : tie.After-known-told) where
@@ -40,10 +41,10 @@ returns c =
     sym (ap (λ (h : Hit). hitIn h (a .from) (a .to)) (c .enum-told .given .1) ∙ hit-nowhere (a .from) (a .to))
 
 returns-2 : tie.Need-returns-2
-returns-2 c = sym (by-first (c .before) (le-leb _ _ (c .if1 .taken)))
+returns-2 c = let k = c .before in sym (by-first k (le-leb (s k .args .from) (p k) (omega (arith, c .if1 .taken))))
 
 returns-3 : tie.Need-returns-3
-returns-3 c = sym (by-first (c .before) (lt-leb _ _ (c .if1 .left)))
+returns-3 c = let k = c .before in sym (by-first k (lt-leb (s k .args .from) (p k) (omega (arith, c .if1 .left))))
 
 pub is-hit-in-spec : {M : Type 1} → statement M
 is-hit-in-spec = tie.close (tie.spec enum-known-hit enum-told returns returns-2 returns-3)

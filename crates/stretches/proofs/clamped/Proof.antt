@@ -4,9 +4,9 @@ use mathlib.Core.Bool.{Bool, cond}
 use mathlib.Core.Logic.{⊎-elim}
 use borrow.Author.Tests.{lt-ltb, le-ltb}
 use lib.Dec.{ltb}
-use Rattle.steps.proofs.StretchLaws.{clamp-first, clamp-second}
-use Rattle.steps.proofs.stretch.clamped.Statement.{statement}
-use Rattle.steps.proofs.stretch.clamped.Tie as tie
+use Rattle.stretches.proofs.StretchLaws.{clamp-first, clamp-second}
+use Rattle.stretches.proofs.clamped.Statement.{statement}
+use Rattle.stretches.proofs.clamped.Tie as tie
 
 -- the larger of from and k
 larger : (c : tie.Joined1) → let a = c .before .args in c .if1 .a ≡ cond (ltb (a .from) (a .k)) (a .k) (a .from)

@@ -1,0 +1,23 @@
+-- The moving columns of every row, kept in two lists. Vocabulary between the engine's crates: no call that a maker embeds cites it.
+use mathlib.Core.Bool.{cond, _&&_}
+use mathlib.Core.List.{List}
+use Prim.Native.Nat.{ℕ}
+use lib.Dec.{ltb}
+use lib.ListN.{length, getD}
+use Rattle.types.specs.declared.Grid.{Grid}
+use Rattle.scheme.specs.Lists.{tabulate}
+use Rattle.scheme.specs.Instruments.{inTable}
+use Rattle.kinds.specs.declared.runs.Run.{Run}
+use Rattle.kinds.specs.Runs.{runOf}
+
+-- one end of the run of each row of a grid that the table has; the rest of xs as it was
+unfoldable pub columnsOf : Grid → (Run → ℕ) → (xs : List ℕ) → List ℕ
+columnsOf g end xs = tabulate (length xs) (λ row. cond (inTable g && ltb row (g .rows)) (end (runOf g row)) (getD xs row 0))
+
+-- the first moving columns
+abbrev pub firstsOf : Grid → (xs : List ℕ) → List ℕ
+firstsOf g xs = columnsOf g (λ run. run .from) xs
+
+-- the columns after the last moving ones
+abbrev pub endsOf : Grid → (xs : List ℕ) → List ℕ
+endsOf g xs = columnsOf g (λ run. run .to) xs

@@ -1,0 +1,87 @@
+// A stretch of moving points, one after the other: one force on each of them.
+ghost use mathlib.Core.Path.{_≡_};
+ghost use Rattle.scheme.specs.Step.{forceOf};
+ghost use Rattle.stretches.specs.Stretches.{clamp, partOf, withWrite, endOf, hitIn};
+use types::Hit;
+
+// The points from..to, and the force on each. The next value of point k goes to place k − base, if it is written.
+pub struct Stretch {
+    pub from: usize,
+    pub to: usize,
+    pub force: i64,
+    pub base: usize,
+    pub write: bool,
+}
+
+// k, or the end of from..to that is nearer to it. Ruled out: the first end not looked at; the last end not looked at.
+pub fn clamped(from: usize, to: usize, k: usize) -> usize
+    ensures { λ r. ⌜ r ≡ clamp from to k ⌝ }
+{
+    let a = if from < k { k } else { from };
+    if a < to { a } else { to }
+}
+
+// What lies of a stretch in a..e. Ruled out: all its points after a; every part written.
+pub fn part(s: Stretch, a: usize, e: usize) -> Stretch
+    ensures { λ r. ⌜ r ≡ partOf s a e ⌝ }
+{
+    let from = clamped(s.from, s.to, a);
+    let to = clamped(s.from, s.to, e);
+    Stretch {
+        from,
+        to,
+        force: s.force,
+        base: s.base,
+        write: s.write,
+    }
+}
+
+// s, with its `write` as the caller's constant. Ruled out: its own `write` kept; no point of it left.
+pub fn as_written(s: Stretch, wanted: bool) -> Stretch
+    ensures { λ r. ⌜ r ≡ withWrite s wanted ⌝ }
+{
+    Stretch {
+        from: s.from,
+        to: s.to,
+        force: s.force,
+        base: s.base,
+        write: wanted,
+    }
+}
+
+// The force of a hit on a point. Ruled out: the force on every point; the force on none.
+pub fn force_at(hit: Hit, at: usize) -> i64
+    ensures { λ r. ⌜ r ≡ forceOf hit at ⌝ }
+{
+    let Hit::At { point, force } = hit else {
+        return 0;
+    };
+    if at == point { force } else { 0 }
+}
+
+// The end of the stretch at a, of points as far as e: the hit's point is a stretch of its own.
+// Ruled out: the hit's point with those after it; the hit's point with those before it.
+pub fn stretch_end(hit: Hit, a: usize, e: usize) -> usize
+    ensures { λ r. ⌜ r ≡ endOf hit a e ⌝ }
+{
+    let Hit::At { point, force: _ } = hit else {
+        return e;
+    };
+    if point < a {
+        return e;
+    }
+    if e <= a {
+        return e;
+    }
+    clamped(a + 1, e, point)
+}
+
+// Whether a hit is at one of the points from..to. Ruled out: the point `to` counted in; the point `from` left out.
+pub fn is_hit_in(hit: Hit, from: usize, to: usize) -> bool
+    ensures { λ r. ⌜ r ≡ hitIn hit from to ⌝ }
+{
+    let Hit::At { point, force: _ } = hit else {
+        return false;
+    };
+    if from <= point { point < to } else { false }
+}
