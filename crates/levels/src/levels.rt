@@ -123,7 +123,7 @@ fn is_row_unfixed(g: Grid, xs: &[i64], row: usize, start: usize) -> bool
     let columns = g.columns;
     let kind = g.kind;
     match kind {
-        6 => round_not_zero(xs, start, columns, row),
+        Grid::MEMBRANE_ROUND => round_not_zero(xs, start, columns, row),
         _ => row_not_zero(xs, start, columns, straight_run(kind, columns, g.rows, row)),
     }
 }
@@ -155,8 +155,8 @@ fn is_line_unfixed(g: Grid, xs: &[i64]) -> bool
     let kind = g.kind;
     let last = g.columns - 1;
     match kind {
-        3 => false,
-        2 => is_not_zero(xs[0]),
+        Grid::STRING_FREE => false,
+        Grid::STRING_FIXED_FREE => is_not_zero(xs[0]),
         _ => is_not_zero(xs[0]) | is_not_zero(xs[last]),
     }
 }
@@ -173,7 +173,7 @@ pub fn is_unfixed(g: Grid, xs: &[i64]) -> bool
     if xs.len() != points_of(g) {
         return false;
     }
-    if g.kind <= 4 {
+    if g.kind <= Grid::BAR {
         return is_line_unfixed(g, xs);
     }
     rows_not_zero(g, xs)

@@ -52,7 +52,7 @@ fn is_too_large(g: Grid) -> bool
     ensures { λ r. ⌜ r ≡ isTooLarge g ⌝ }
 {
     let kind = g.kind as usize;
-    if is_within(1, Grid::LAST as usize, kind) {
+    if is_within(Grid::FIRST as usize, Grid::LAST as usize, kind) {
         return is_above(g.columns, g.rows);
     }
     false

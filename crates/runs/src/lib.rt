@@ -31,7 +31,7 @@ pub fn row_run(kind: u64, c: usize, r: usize, b: usize) -> Run
     ensures { λ x. ⌜ x ≡ rowRun kind c r b ⌝ }
 {
     match kind {
-        6 => {
+        Grid::MEMBRANE_ROUND => {
             if 64 < c {
                 return Run { from: 0, to: 0 };
             }

@@ -33,9 +33,9 @@ pub fn has_size(g: Grid) -> bool
     let columns = g.columns;
     let rows = g.rows;
     match kind {
-        1..=4 => is_sized(columns, 1024, rows, 1, 1),
-        5 | 7 => is_sized(columns, 64, rows, 3, 64),
-        6 => is_sized(columns, 64, rows, columns, columns),
+        Grid::STRING_FIXED..=Grid::BAR => is_sized(columns, 1024, rows, 1, 1),
+        Grid::MEMBRANE_RECTANGULAR | Grid::PLATE => is_sized(columns, 64, rows, 3, 64),
+        Grid::MEMBRANE_ROUND => is_sized(columns, 64, rows, columns, columns),
         _ => false,
     }
 }
@@ -60,10 +60,12 @@ pub fn is_stable(kind: u64, q: u64, m: u64) -> bool
         return false;
     }
     match kind {
-        1..=3 => m == 0,
-        4 => q + 4 * m <= Settings::D,
-        5 | 6 => { if 2 * q <= Settings::D { m == 0 } else { false } }
-        7 => 2 * q + 16 * m <= Settings::D,
+        Grid::STRING_FIXED..=Grid::STRING_FREE => m == 0,
+        Grid::BAR => q + 4 * m <= Settings::D,
+        Grid::MEMBRANE_RECTANGULAR | Grid::MEMBRANE_ROUND => {
+            if 2 * q <= Settings::D { m == 0 } else { false }
+        }
+        Grid::PLATE => 2 * q + 16 * m <= Settings::D,
         _ => false,
     }
 }
