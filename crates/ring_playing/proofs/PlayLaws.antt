@@ -21,7 +21,7 @@ use Rattle.scheme.proofs.Laws.Refusals.{accepted-is}
 use Rattle.scheme.proofs.Laws.Calls.{block-done, block-refused, stands-behind}
 use Rattle.ring_line.specs.declared.types.Numbers.{Numbers}
 use Rattle.ring_setup.specs.declared.Setup.{Setup}
-use Rattle.ring_setup.specs.Numbers.{gridOf, instrumentOf, hitOf, isTooLarge, levelLength, setupOf}
+use Rattle.ring_setup.specs.Numbers.{gridOf, askedInstrument, askedHit, isTooLarge, levelLength, setupOf}
 use Rattle.ring_playing.specs.Play.{heard, heardOf, blockAtRest, fromRest, played}
 
 pub take-replicate : (k n : ℕ) (z : ℤ) → k ≤ n → take k (replicate n z) ≡ replicate k z
@@ -70,8 +70,8 @@ module _ (n : Numbers) (samples : List ℤ) where
       go : (b : Bool) → within 1 lastKind (n .kind) ≡ b → heardOf (code (setupOf n) samples (n .pick)) ≡ heardOf (fromRest n samples)
       go true k = simp (sym (and-yes k) ∙ e)
       go false k =
-          ap heardOf (unknown-refused (instrumentOf n) k _ _ _ samples _ _)
-          ∙ sym (ap heardOf (unknown-refused (instrumentOf n) k _ _ _ samples _ _))
+          ap heardOf (unknown-refused (askedInstrument n) k _ _ _ samples _ _)
+          ∙ sym (ap heardOf (unknown-refused (askedInstrument n) k _ _ _ samples _ _))
 
   pub plays : (s : Setup) → s ≡ setupOf n → isTooLarge (gridOf n) ≡ false → heardOf (code s samples (n .pick)) ≡ played n samples
   unfolding played
@@ -84,19 +84,19 @@ module _ (n : Numbers) (samples : List ℤ) where
   level = replicate (points (gridOf n)) (pos 0)
 
   abbrev refusal : Refusal
-  refusal = blockRefusal (instrumentOf n) level level (wrongLength (gridOf n) (length level)) (n .pick) (hitOf n)
+  refusal = blockRefusal (askedInstrument n) level level (wrongLength (gridOf n) (length level)) (n .pick) (askedHit n)
 
   block-steps : fromRest n samples .answer .steps ≤ length samples
   block-steps = go (accepted refusal) refl
     where
       go : (t : Bool) → accepted refusal ≡ t → fromRest n samples .answer .steps ≤ length samples
       go true e =
-          let b = stands-behind (instrumentOf n) (n .pick) (hitOf n) level level samples in
+          let b = stands-behind (askedInstrument n) (n .pick) (askedHit n) level level samples in
           subst⁻¹ (λ (a : AfterBlock). a .answer .steps ≤ length samples)
-          (block-done (instrumentOf n) level level level samples _ _ (accepted-is _ e))
+          (block-done (askedInstrument n) level level level samples _ _ (accepted-is _ e))
           (⊎-elim (λ u. omega (arith, u .1)) (λ u. omega (arith, u .1)) (b .ends))
       go false e =
-          subst⁻¹ (λ (a : AfterBlock). a .answer .steps ≤ length samples) (block-refused (instrumentOf n) level level level samples _ _ e)
+          subst⁻¹ (λ (a : AfterBlock). a .answer .steps ≤ length samples) (block-refused (askedInstrument n) level level level samples _ _ e)
           (omega arith)
 
   pub played-steps : played n samples .answer .steps ≤ length samples

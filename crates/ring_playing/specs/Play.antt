@@ -11,7 +11,7 @@ use Rattle.types.specs.declared.Refusal.the-variants.{WrongSize}
 use Rattle.scheme.specs.Instruments.{points}
 use Rattle.scheme.specs.Calls.{AfterBlock, block}
 use Rattle.ring_line.specs.declared.types.Numbers.{Numbers}
-use Rattle.ring_setup.specs.Numbers.{gridOf, instrumentOf, hitOf, isTooLarge}
+use Rattle.ring_setup.specs.Numbers.{gridOf, askedInstrument, askedHit, isTooLarge}
 
 -- what is heard of a block: its answer, and the samples afterwards
 pub record Heard : Type 0 where
@@ -30,7 +30,7 @@ blockAtRest i length samples pick h =
     block i (replicate length (pos 0)) (replicate length (pos 0)) (replicate length (pos 0)) samples pick h
 
 abbrev pub fromRest : Numbers → List ℤ → AfterBlock
-fromRest n samples = blockAtRest (instrumentOf n) (points (gridOf n)) samples (n .pick) (hitOf n)
+fromRest n samples = blockAtRest (askedInstrument n) (points (gridOf n)) samples (n .pick) (askedHit n)
 
 -- "A known kind with more than 1024 points answers `done 0 2`."
 unfoldable pub played : Numbers → List ℤ → Heard

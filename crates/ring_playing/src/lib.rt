@@ -46,7 +46,7 @@ fn play_at_rest(
 
 // The block that the numbers ask for, from rest, as many steps as samples has places.
 // Ruled out: levels that are not at rest; the pick-up at the hit.
-pub fn play(n: Numbers, samples: &mut [i16]) -> BlockAnswer
+pub fn play_numbers(n: Numbers, samples: &mut [i16]) -> BlockAnswer
     ensures { λ r. ⌜ heard r (now (samples .exit)) ≡ played n (now (samples .entry)) ⌝ }
 {
     let asked = set_up(n);

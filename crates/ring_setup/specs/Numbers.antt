@@ -14,12 +14,12 @@ use Rattle.ring_setup.specs.declared.Setup.{Setup}
 abbrev pub gridOf : Numbers → Grid
 gridOf n = record { kind = n .kind; columns = n .columns; rows = n .rows }
 
-abbrev pub instrumentOf : Numbers → Instrument
-instrumentOf n = record { grid = gridOf n; settings = record { q = n .q; m = n .m; s = n .s } }
+abbrev pub askedInstrument : Numbers → Instrument
+askedInstrument n = record { grid = gridOf n; settings = record { q = n .q; m = n .m; s = n .s } }
 
 -- "always gives the hit, force 0 too"
-abbrev pub hitOf : Numbers → Hit
-hitOf n = At (n .point) (n .force)
+abbrev pub askedHit : Numbers → Hit
+askedHit n = At (n .point) (n .force)
 
 -- "A known kind with more than 1024 points"
 abbrev pub isTooLarge : Grid → Bool
@@ -33,8 +33,8 @@ levelLength g = cond (ltb 1024 (points g)) 0 (points g)
 abbrev pub setupOf : Numbers → Setup
 setupOf n =
     record {
-      instrument = instrumentOf n;
-      hit = hitOf n;
+      instrument = askedInstrument n;
+      hit = askedHit n;
       «is_too_large» = isTooLarge (gridOf n);
       length = levelLength (gridOf n);
     }

@@ -2,7 +2,7 @@
 ghost use mathlib.Core.Path.{_≡_};
 ghost use Prim.Native.Nat.{_*_};
 ghost use lib.Dec.{ltb};
-ghost use Rattle.ring_setup.specs.Numbers.{instrumentOf, hitOf, isTooLarge, levelLength, setupOf};
+ghost use Rattle.ring_setup.specs.Numbers.{askedInstrument, askedHit, isTooLarge, levelLength, setupOf};
 use ring_line::Numbers;
 use sizes::is_within;
 use types::Grid;
@@ -20,16 +20,16 @@ pub struct Setup {
     pub length: usize,
 }
 
-fn instrument_of(n: Numbers) -> Instrument
-    ensures { λ r. ⌜ r ≡ instrumentOf n ⌝ }
+fn asked_instrument(n: Numbers) -> Instrument
+    ensures { λ r. ⌜ r ≡ askedInstrument n ⌝ }
 {
     let grid = Grid::new(n.kind, n.columns, n.rows);
     let settings = Settings::new(n.q, n.m, n.s);
     Instrument { grid, settings }
 }
 
-fn hit_of(n: Numbers) -> Hit
-    ensures { λ r. ⌜ r ≡ hitOf n ⌝ }
+fn asked_hit(n: Numbers) -> Hit
+    ensures { λ r. ⌜ r ≡ askedHit n ⌝ }
 {
     Hit::At {
         point: n.point,
@@ -73,11 +73,11 @@ fn level_length(g: Grid) -> usize
 pub fn set_up(n: Numbers) -> Setup
     ensures { λ r. ⌜ r ≡ setupOf n ⌝ }
 {
-    let instrument = instrument_of(n);
+    let instrument = asked_instrument(n);
     let grid = instrument.grid;
     Setup {
         instrument,
-        hit: hit_of(n),
+        hit: asked_hit(n),
         is_too_large: is_too_large(grid),
         length: level_length(grid),
     }

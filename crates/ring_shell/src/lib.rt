@@ -13,7 +13,7 @@ use ring_line::Numbers;
 use ring_line::Request;
 use ring_line::request;
 use ring_listing::put_listing;
-use ring_playing::play;
+use ring_playing::play_numbers;
 
 // Room for every answer: 8192 lines of at most 12 bytes, and a last line.
 const ROOM: usize = 98320;
@@ -25,7 +25,7 @@ fn put_played(out: &mut [u8], n: Numbers, samples: &mut [i16]) -> usize
     requires { ⌜ (room ≤ length (now out)) × (length (now samples) ≤ 8192) ⌝ }
     ensures { λ r. ⌜ Written (now (out .entry)) (playedText (played n (now (samples .entry)))) r (now (out .exit)) ⌝ }
 {
-    let answer = play(n, samples);
+    let answer = play_numbers(n, samples);
     let done = answer.steps;
     let refusal = answer.refusal;
     put_listing(out, samples, done as u64, refusal.number())

@@ -14,13 +14,13 @@ use Rattle.ring_shell.proofs.put_played.Statement.{statement}
 use Rattle.ring_shell.proofs.put_played.Tie as tie
 
 -- the steps done are no more than the places
-done-low : (c : tie.After-play) → c .play .result .steps ≤ length (c .play .last .1 .0)
+done-low : (c : tie.After-play-numbers) → c .play-numbers .result .steps ≤ length (c .play-numbers .last .1 .0)
 done-low c =
     let s = c .before .before .before in
-    omega (arith, ap (λ (h : Heard). h .answer .steps) (c .play .ensures), played-steps (s .args .n) (s .args .samples .now))
+    omega (arith, ap (λ (h : Heard). h .answer .steps) (c .play-numbers .ensures), played-steps (s .args .n) (s .args .samples .now))
 
-play-requires : tie.Need-play-requires
-play-requires c κs = search needs
+play-numbers-requires : tie.Need-play-numbers-requires
+play-numbers-requires c κs = search needs
 
 number-requires : tie.Need-number-requires
 number-requires c κs = search needs
@@ -40,14 +40,14 @@ returns c =
     let told = put .before in
     let p = told .before .before .before .before in
     let s = p .before .before .before in
-    let done = p .play .result .steps in
-    let samples = p .play .last .1 .0 in
-    let two-digits : told .number .result < 100 = omega (arith, told .number .ensures, number-low (p .play .result .refusal)) in
+    let done = p .play-numbers .result .steps in
+    let samples = p .play-numbers .last .1 .0 in
+    let two-digits : told .number .result < 100 = omega (arith, told .number .ensures, number-low (p .play-numbers .result .refusal)) in
     let few : done ≤ 8192 = omega (arith, done-low p) in
     let written = lists (s .args .out .now) done samples (told .number .result) (omega arith) few (done-low p) two-digits in
     written-same
-    (sym written ∙ ap (listing done samples) (told .number .ensures) ∙ ap playedText (p .play .ensures))
+    (sym written ∙ ap (listing done samples) (told .number .ensures) ∙ ap playedText (p .play-numbers .ensures))
     (record { ends = put .put-listing .ensures .0; holds = put .put-listing .ensures .1 })
 
 pub put-played-spec : {M : Type 1} → statement M
-put-played-spec = tie.close (tie.spec play-requires number-requires put-listing-requires same-length same-length-2 returns)
+put-played-spec = tie.close (tie.spec play-numbers-requires number-requires put-listing-requires same-length same-length-2 returns)

@@ -1,12 +1,12 @@
--- `play` meets its contract: by the size, and by the block at rest.
+-- `play_numbers` meets its contract: by the size, and by the block at rest.
 use mathlib.Core.Path.{_≡_, sym, ap, _∙_, subst⁻¹}
 use Prim.Native.Nat.{_≤_}
 use borrow.Author.Needs.{needs}
 use Rattle.ring_setup.specs.declared.Setup.{Setup}
 use Rattle.ring_setup.specs.Numbers.{gridOf, isTooLarge}
 use Rattle.ring_playing.proofs.PlayLaws.{length-low, too-large, plays}
-use Rattle.ring_playing.proofs.play.Statement.{statement}
-use Rattle.ring_playing.proofs.play.Tie as tie
+use Rattle.ring_playing.proofs.play_numbers.Statement.{statement}
+use Rattle.ring_playing.proofs.play_numbers.Tie as tie
 
 set-up-requires : tie.Need-set-up-requires
 set-up-requires c κs = search needs
@@ -33,5 +33,5 @@ returns-2 c =
     let s = small .before in
     played .play-at-rest .ensures ∙ plays _ _ _ (s .set-up .ensures) (size-is s ∙ small .if1 .left)
 
-pub play-spec : {M : Type 1} → statement M
-play-spec = tie.close (tie.spec set-up-requires returns play-at-rest-requires same-length returns-2)
+pub play-numbers-spec : {M : Type 1} → statement M
+play-numbers-spec = tie.close (tie.spec set-up-requires returns play-at-rest-requires same-length returns-2)

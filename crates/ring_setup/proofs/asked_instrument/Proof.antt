@@ -1,11 +1,11 @@
--- `instrument_of` meets its contract: by the constructors.
+-- `asked_instrument` meets its contract: by the constructors.
 use mathlib.Core.Path.{ap₂}
 use borrow.Author.Needs.{needs}
 use Rattle.types.specs.declared.Grid.{Grid}
 use Rattle.types.specs.declared.Settings.{Settings}
 use Rattle.types.specs.declared.Instrument.{Instrument}
-use Rattle.ring_setup.proofs.instrument_of.Statement.{statement}
-use Rattle.ring_setup.proofs.instrument_of.Tie as tie
+use Rattle.ring_setup.proofs.asked_instrument.Statement.{statement}
+use Rattle.ring_setup.proofs.asked_instrument.Tie as tie
 
 new-requires : tie.Need-new-requires
 new-requires c κs = search needs
@@ -18,5 +18,5 @@ returns c =
     let made : Grid → Settings → Instrument = λ g k. record { grid = g; settings = k } in
     ap₂ made (c .before .new .ensures) (c .new2 .ensures)
 
-pub instrument-of-spec : {M : Type 1} → statement M
-instrument-of-spec = tie.close (tie.spec new-requires new-requires-2 returns)
+pub asked-instrument-spec : {M : Type 1} → statement M
+asked-instrument-spec = tie.close (tie.spec new-requires new-requires-2 returns)

@@ -1,4 +1,4 @@
--- `put` meets its contract: each test is one of the definition's.
+-- `put_both` meets its contract: each test is one of the definition's.
 use mathlib.Core.Path.{_≡_, ap, ap₂, _∙_}
 use mathlib.Core.Logic.{⊎-elim}
 use mathlib.Core.List.{List}
@@ -13,8 +13,8 @@ use mir.Val.{toZ, ofZ}
 use Rattle.bounded.proofs.Num.{back}
 use Rattle.pluck.specs.Shapes.{putLeft}
 use Rattle.pluck.proofs.ShapeLaws.{put-yes, put-no, length-put}
-use Rattle.pluck.proofs.shape.put.Statement.{statement}
-use Rattle.pluck.proofs.shape.put.Tie as tie
+use Rattle.pluck.proofs.shape.put_both.Statement.{statement}
+use Rattle.pluck.proofs.shape.put_both.Tie as tie
 
 -- after the left point
 module _ (c : tie.Joined1) where
@@ -75,8 +75,8 @@ same-length-2 c = as-long (c .before .before)
 returns-2 : tie.Need-returns-2
 returns-2 c = left-is (c .before .before) ∙ put-no _ _ _ _ (le-ltb _ _ (c .if2 .left))
 
-pub put-spec : {M : Type 1} → statement M
-put-spec =
+pub put-both-spec : {M : Type 1} → statement M
+put-both-spec =
     tie.close
     (tie.spec
     sub-if1
