@@ -96,7 +96,8 @@ module _ (n : Numbers) (samples : List ℤ) where
           (block-done (askedInstrument n) level level level samples _ _ (accepted-is _ e))
           (⊎-elim (λ u. omega (arith, u .1)) (λ u. omega (arith, u .1)) (b .ends))
       go false e =
-          subst⁻¹ (λ (a : AfterBlock). a .answer .steps ≤ length samples) (block-refused (askedInstrument n) level level level samples _ _ e)
+          subst⁻¹ (λ (a : AfterBlock). a .answer .steps ≤ length samples)
+          (block-refused (askedInstrument n) level level level samples _ _ e)
           (omega arith)
 
   pub played-steps : played n samples .answer .steps ≤ length samples

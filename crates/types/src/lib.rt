@@ -70,7 +70,7 @@ impl Grid {
     pub const LAST_PLUCKED: u64 = Grid::BAR;
 
     // The kinds' numbers, tied to the definitions'. Ruled out: a bar and a rectangular membrane exchanged.
-    pub fn kind_numbers() -> [u64; 7]
+    pub(crate) fn kind_numbers() -> [u64; 7]
         ensures { λ r. ⌜ r ≡ kindNumbers ⌝ }
     {
         [
