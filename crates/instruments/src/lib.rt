@@ -27,7 +27,7 @@ pub fn grid_refusal(g: Grid, last: u64) -> Refusal
     ensures { λ r. ⌜ r ≡ lowest (gridChecks last g) ⌝ }
 {
     let kind = g.kind as usize;
-    if !is_within(1, last as usize, kind) {
+    if !is_within(Grid::FIRST as usize, last as usize, kind) {
         return Refusal::UnknownKind;
     }
     if has_size(g) {

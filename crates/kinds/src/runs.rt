@@ -4,6 +4,7 @@ ghost use mathlib.Core.Bool.{_&&_};
 ghost use Prim.Native.Nat.{_≤_, _<_};
 ghost use Rattle.scheme.specs.Instruments.{roundEdge};
 ghost use Rattle.kinds.specs.Runs.{innerRun, onSquare, straightRun};
+use types::Grid;
 
 // The columns a with from ≤ a < to.
 pub struct Run {
@@ -70,10 +71,10 @@ pub fn straight_run(kind: u64, c: usize, r: usize, b: usize) -> Run
     }
     let last = c - 1;
     match kind {
-        1 | 4 => Run { from: 1, to: last },
-        2 => Run { from: 1, to: c },
-        3 => Run { from: 0, to: c },
-        5 | 7 => inner_run(c, r, b),
+        Grid::STRING_FIXED | Grid::BAR => Run { from: 1, to: last },
+        Grid::STRING_FIXED_FREE => Run { from: 1, to: c },
+        Grid::STRING_FREE => Run { from: 0, to: c },
+        Grid::MEMBRANE_RECTANGULAR | Grid::PLATE => inner_run(c, r, b),
         _ => Run { from: 0, to: 0 },
     }
 }

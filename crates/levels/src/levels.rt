@@ -88,7 +88,7 @@ fn some_not_zero(xs: &[i64], start: usize, n: usize) -> bool
 
 // Whether some point of the row that begins at start is not 0, before its run or after it.
 fn row_not_zero(xs: &[i64], start: usize, columns: usize, run: Run) -> bool
-    requires { ⌜ (run .from ≤ columns) × (run .to ≤ columns) × (start + columns ≤ length (now xs)) ⌝ }
+    requires { ⌜ (run .from ≤ run .to) × (run .to ≤ columns) × (start + columns ≤ length (now xs)) ⌝ }
     ensures { λ r. ⌜ r ≡ rowNotZero (now (xs .entry)) start columns run ⌝ }
 {
     if some_not_zero(xs, start, run.from) {
@@ -122,10 +122,10 @@ fn is_row_unfixed(g: Grid, xs: &[i64], row: usize, start: usize) -> bool
 {
     let columns = g.columns;
     let kind = g.kind;
-    if kind == 6 {
-        return round_not_zero(xs, start, columns, row);
+    match kind {
+        Grid::MEMBRANE_ROUND => round_not_zero(xs, start, columns, row),
+        _ => row_not_zero(xs, start, columns, straight_run(kind, columns, g.rows, row)),
     }
-    row_not_zero(xs, start, columns, straight_run(kind, columns, g.rows, row))
 }
 
 // 12, of a level that is as long as the grid.
@@ -155,8 +155,8 @@ fn is_line_unfixed(g: Grid, xs: &[i64]) -> bool
     let kind = g.kind;
     let last = g.columns - 1;
     match kind {
-        3 => false,
-        2 => is_not_zero(xs[0]),
+        Grid::STRING_FREE => false,
+        Grid::STRING_FIXED_FREE => is_not_zero(xs[0]),
         _ => is_not_zero(xs[0]) | is_not_zero(xs[last]),
     }
 }
@@ -173,7 +173,7 @@ pub fn is_unfixed(g: Grid, xs: &[i64]) -> bool
     if xs.len() != points_of(g) {
         return false;
     }
-    if g.kind <= 4 {
+    if g.kind <= Grid::BAR {
         return is_line_unfixed(g, xs);
     }
     rows_not_zero(g, xs)

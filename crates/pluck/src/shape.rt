@@ -39,7 +39,7 @@ fn value(shape: Shape, table: &[u32], step: usize, d: usize) -> i64
 }
 
 // The two points at distance d, where they move.
-fn put(shape: Shape, d: usize, v: i64, level: &mut [i64])
+fn put_both(shape: Shape, d: usize, v: i64, level: &mut [i64])
     requires { ⌜ Shaped shape × (shape .run .to ≤ length (now level)) ⌝ }
     ensures { λ _. ⌜ now (level .exit) ≡ putBoth shape d v (now (level .entry)) ⌝ }
 {
@@ -61,7 +61,7 @@ pub(crate) fn fill(shape: Shape, table: &[u32], last: usize, level: &mut [i64])
     let mut d = 0;
     while d <= shape.width {
         let v = value(shape, table, step, d);
-        put(shape, d, v, level);
+        put_both(shape, d, v, level);
         d += 1;
     }
 }

@@ -18,6 +18,6 @@ fn main() {
     let mut bytes = [0u8; 256];
     let n = read_line(STDIN_FILENO, &mut bytes);
     let mut out = room();
-    let size = shell::answer(&mut out, &bytes[..n]);
+    let size = ring_shell::answer(&mut out, &bytes[..n]);
     io::write_all(STDOUT_FILENO, &out[..size]);
 }

@@ -27,7 +27,7 @@ fn read_some(fd: i32, bytes: &mut [u8], at: usize) -> usize
 }
 
 // Reads until a line feed came, the bytes are full, or the input ends; how many were read.
-pub fn read_line(fd: i32, bytes: &mut [u8]) -> usize
+pub(crate) fn read_line(fd: i32, bytes: &mut [u8]) -> usize
     ensures { λ r. ⌜ Counts r (now (bytes .exit)) ⌝ }
 {
     let mut n = 0;

@@ -15,7 +15,7 @@ fn print_answer(fd: i32) -> bool {
     let mut bytes = [0u8; 256];
     let n = io::read_full(fd, &mut bytes);
     let mut out = room();
-    let size = shell::answer(&mut out, &bytes[..n]);
+    let size = ring_shell::answer(&mut out, &bytes[..n]);
     io::write_all(STDOUT_FILENO, &out[..size])
 }
 

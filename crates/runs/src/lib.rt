@@ -30,16 +30,18 @@ fn round_run(c: usize, b: usize) -> Run
 pub fn row_run(kind: u64, c: usize, r: usize, b: usize) -> Run
     ensures { λ x. ⌜ x ≡ rowRun kind c r b ⌝ }
 {
-    if kind != 6 {
-        return straight_run(kind, c, r, b);
+    match kind {
+        Grid::MEMBRANE_ROUND => {
+            if 64 < c {
+                return Run { from: 0, to: 0 };
+            }
+            if c <= b {
+                return Run { from: 0, to: 0 };
+            }
+            round_run(c, b)
+        }
+        _ => straight_run(kind, c, r, b),
     }
-    if 64 < c {
-        return Run { from: 0, to: 0 };
-    }
-    if c <= b {
-        return Run { from: 0, to: 0 };
-    }
-    round_run(c, b)
 }
 
 fn is_in(run: Run, a: usize) -> bool

@@ -17,7 +17,7 @@ use Rattle.scheme.specs.Book.{leaves, bookCall, sumCall, calls}
 use Rattle.scheme.specs.Examples.{A, B, C, D, E, F, G, H, I, J, ExamplesHold}
 use Rattle.scheme.specs.FurtherExamples.{freeEndTwice, halfFree, barWithLoss, freeWithHit, fixedRing, roundRing, membraneStep}
 use Rattle.scheme.specs.FurtherExamples.{wholes, remainders, countsOfExamples, fixedNotCounted, smallRemainders, countOfSteps}
-use Rattle.scheme.specs.FurtherExamples.{byDivisor, freeEndsCounted, countBeforeEnd, countHeld}
+use Rattle.scheme.specs.FurtherExamples.{byDivisor, freeEndsCounted, countBeforeEnd, countHeld, neverInexact}
 use Rattle.scheme.specs.FurtherExamples.{numbers, kinds, lineSizes, membraneSizes, roundSizes, coefficients, stability, stiffness}
 use Rattle.scheme.specs.FurtherExamples.{lengths, hits, forces, pickUps, highPoints, fixedPoints, pluckKinds, pluckLengths}
 use Rattle.scheme.specs.FurtherExamples.{pluckCentres, pluckHeights, widths, readingRefusals, lowestFirst, samples, readings, plucked}
@@ -86,6 +86,7 @@ further-hold freeEndsCounted = refl
 further-hold countOfSteps = refl
 further-hold countBeforeEnd = (refl, refl)
 further-hold countHeld = (refl, refl)
+further-hold neverInexact = (refl, refl)
 further-hold numbers = refl
 further-hold kinds = refl
 further-hold lineSizes = refl

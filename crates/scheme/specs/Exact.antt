@@ -1,9 +1,12 @@
 -- Request 3: "A user whose sum stays 0 from the start may read the levels as the unrounded scheme itself, and that is to be proved."
 -- Its proofs are in proofs/: `exact-since`, `exact-from-start`, `program-exact-since`, `program-exact-from-start`, `never-inexact`.
 use mathlib.Core.Path.{_≡_}
+use mathlib.Core.Bool.{Bool, true, _&&_}
 use mathlib.Core.List.{List}
-use Prim.Native.Nat.{ℕ, _*_}
+use Prim.Native.Nat.{ℕ, _%_}
+use lib.Dec.{eqb}
 use lib.IntN.{ℤ, pos}
+use Rattle.types.specs.declared.Settings.{Settings}
 use Rattle.types.specs.declared.Instrument.{Instrument}
 use Rattle.types.specs.declared.Hit.{Hit}
 use Rattle.types.specs.Numbers.{D}
@@ -45,7 +48,10 @@ abbrev pub ProgramExactFromStart : Type 0
 ProgramExactFromStart = (older newer : List ℤ) (ms : List Made) → AllKept ms (start older newer) →
     EachMade NoneInexact ms (start older newer) → Unrounded (afterAll ms (start older newer))
 
--- R² a whole number, without stiffness and loss (R = 1, or q 0): no step has an inexact point
+-- R a whole number, 1 or 0, without stiffness and loss
+abbrev pub neverRounded : Settings → Bool
+neverRounded c = eqb (c .q % D) 0 && (eqb (c .m) 0 && eqb (c .s) 0)
+
+-- with such settings no step has an inexact point
 abbrev pub NeverInexact : Type 0
-NeverInexact = (i : Instrument) (h : Hit) (older newer : List ℤ) (r : ℕ) → i .settings .q ≡ r * D → i .settings .m ≡ 0 → i .settings .s ≡ 0
-    → inexactIn i h older newer ≡ 0
+NeverInexact = (i : Instrument) (h : Hit) (older newer : List ℤ) → neverRounded (i .settings) ≡ true → inexactIn i h older newer ≡ 0

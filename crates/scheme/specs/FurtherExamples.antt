@@ -2,7 +2,7 @@
 -- remainders and counts, samples, readings, plucks, blocks, blocks on two levels, energy, and the book of lists of calls.
 -- The numbers come from the reference in another language under host/, or by hand.
 use mathlib.Core.Path.{_≡_}
-use mathlib.Core.Bool.{false}
+use mathlib.Core.Bool.{false, cond}
 use mathlib.Core.List.{List, [], _∷_, map}
 use Prim.Native.Nat.{ℕ, _+_, _-_, _^_}
 use lib.Ieee.{binary64, ofBits}
@@ -25,6 +25,7 @@ use Rattle.scheme.specs.Energy.{energy}
 use Rattle.scheme.specs.Book.{stepOf, Call, blockCall, inPlaceCall, pluckCall, pluckWithCall, blockOutcome, inPlaceOutcome}
 use Rattle.scheme.specs.Book.{pluckOutcome, Outcome, Left, AfterCalls, State, start, calls}
 use Rattle.scheme.specs.Claims.{distance, bound, Near}
+use Rattle.scheme.specs.Exact.{neverRounded}
 use Rattle.scheme.specs.Examples.{grid, instrument, level, minus, next, middle3, middle9}
 
 -- the numbers of refusals
@@ -145,7 +146,7 @@ pub data Further : Type 0 where
   freeEndTwice halfFree barWithLoss freeWithHit fixedRing roundRing membraneStep : Further
   -- remainders and counts
   wholes remainders countsOfExamples fixedNotCounted smallRemainders byDivisor freeEndsCounted countOfSteps countBeforeEnd
-      countHeld : Further
+      countHeld neverInexact : Further
   -- 1, 2, 4 and 5
   numbers kinds lineSizes membraneSizes roundSizes coefficients stability stiffness : Further
   -- the refusals of a block, a pluck and a reading
@@ -169,6 +170,16 @@ inPlaceRefusedBy older newer = number (blockInPlace string older newer (level (7
 -- the count of a step without a hit, from newer and older
 abbrev count : Instrument → (newer older : List ℤ) → ℕ
 count i newer older = inexactIn i Absent older newer
+
+-- the count of a step where its settings are such that no point is ever inexact, else 0
+abbrev whereNeverRounded : Instrument → (newer older : List ℤ) → ℕ
+whereNeverRounded i newer older = cond (neverRounded (i .settings)) (count i newer older) 0
+
+-- strings and a bar of four points, with and without what is rounded
+abbrev settled : List Instrument
+settled =
+    instrument 1 4 1 65536 0 0 ∷ instrument 1 4 1 0 0 0 ∷ instrument 1 4 1 32768 0 0 ∷ instrument 1 4 1 65535 0 0 ∷ instrument 4 4 1 0 1 0
+    ∷ instrument 1 4 1 65536 0 1 ∷ []
 
 -- halves, a little more and less, multiples: over D, and over the odd D + 5
 abbrev overD : List ℤ
@@ -265,6 +276,10 @@ shows countHeld =
       inexact = 18446744073709551615;
       refusal = Nothing;
     })
+-- R = 1 and q 0; R of a half, q 65535, a stiffness and a loss, with which points are inexact
+shows neverInexact =
+    (map (λ i. count i (level (0 ∷ 1 ∷ 0 ∷ 0 ∷ [])) rest) settled ≡ 0 ∷ 0 ∷ 1 ∷ 2 ∷ 2 ∷ 1 ∷ []) ×
+    (map (λ i. whereNeverRounded i (level (0 ∷ 1 ∷ 0 ∷ 0 ∷ [])) rest) settled ≡ 0 ∷ 0 ∷ 0 ∷ 0 ∷ 0 ∷ 0 ∷ [])
 shows numbers =
     map number (Nothing ∷ UnknownKind ∷ WrongSize ∷ SheetNumber ∷ Coefficient ∷ Unstable ∷ WrongLength ∷ NotMoving ∷ TooStrong ∷ PickUp
     ∷ HalfWidth ∷ PointBeyond ∷ FixedNotZero ∷ NextBeyond ∷ BrokenTable ∷ [])

@@ -1,6 +1,6 @@
 -- What the paper says, as definitions, in the paper's order. Words in double quotes are the paper's.
--- D, the ceiling and each refusal's number stand with the types (crate types), the table T and the loading of a lent one in crate
--- pluck_table.
+-- D, the ceiling, the kinds' numbers and each refusal's number stand with the types (crate types), the table T and the loading of a lent
+-- one in crate pluck_table.
 pub mod Lists
 pub mod Instruments
 pub mod Step

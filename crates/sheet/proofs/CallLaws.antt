@@ -21,7 +21,7 @@ use Rattle.nearest.specs.Nearest.{valueOf, nearestWhole}
 use Rattle.nearest.proofs.Values.{value-bounded}
 use Rattle.sheet.specs.declared.Sheet.{Sheet}
 use Rattle.sheet.specs.Coefficients.{coefficients, settingsOf}
-use Rattle.sheet.specs.Call.{instrumentOf, afterGrid, sheetChecks, sheetRefused, sheetAccepted, answerTo, sheetCall}
+use Rattle.sheet.specs.Call.{instrumentWith, afterGrid, sheetChecks, sheetRefused, sheetAccepted, answerTo, sheetCall}
 use Rattle.sheet.specs.Claims.{SheetChecksInOrder, AcceptedPlayable}
 
 -- ---- the program's test t of a check b: where it holds the check answers, and where not the others do
@@ -88,4 +88,4 @@ accepted-playable g s h =
     let p = nothing-refused (sheetChecks g s) (settingsOf c) h in
     let n = none-applies (sheetChecks g s) tt (p .0) in
     subst (λ x. instrumentRefusal (record { grid = g; settings = x }) ≡ Nothing) (sym (p .1))
-    (applies-none (instrumentChecks (instrumentOf g c)) (n .0, (n .1 .0, (within-D (g .columns) s, (n .1 .1 .1 .1 .0, tt)))))
+    (applies-none (instrumentChecks (instrumentWith g c)) (n .0, (n .1 .0, (within-D (g .columns) s, (n .1 .1 .1 .1 .0, tt)))))

@@ -16,12 +16,12 @@ use Rattle.sheet.specs.Numbers.{numbersAllowed}
 use Rattle.sheet.specs.Coefficients.{coefficients, someOutside, settingsOf}
 
 -- the instrument that they make
-abbrev pub instrumentOf : Grid → Coefficients → Instrument
-instrumentOf g c = record { grid = g; settings = settingsOf c }
+abbrev pub instrumentWith : Grid → Coefficients → Instrument
+instrumentWith g c = record { grid = g; settings = settingsOf c }
 
 -- 4 and 5
 abbrev pub coefficientChecks : Grid → Coefficients → List Check
-coefficientChecks g c = someOutside c ⇒ Coefficient ∷ unstable (instrumentOf g c) ⇒ Unstable ∷ []
+coefficientChecks g c = someOutside c ⇒ Coefficient ∷ unstable (instrumentWith g c) ⇒ Unstable ∷ []
 
 -- 3 to 5
 abbrev pub afterGrid : Grid → Sheet → List Check

@@ -5,6 +5,7 @@ ghost use Rattle.sheet.specs.Numbers.{nonNegative, positive, pitched, sp
 use crate::Loss;
 use crate::Sheet;
 use crate::Speed;
+use types::Grid;
 
 // The largest finite number. A test against it is faster than one against the infinity.
 const LARGEST: f64 = 1.7976931348623157e308;
@@ -27,7 +28,7 @@ fn is_positive(x: f64) -> bool
 fn is_pitched(kind: u64) -> bool
     ensures { λ r. ⌜ r ≡ pitched (kindOf kind) ⌝ }
 {
-    (1 <= kind) & (kind <= 4)
+    (Grid::STRING_FIXED <= kind) & (kind <= Grid::BAR)
 }
 
 fn speed_allowed(kind: u64, speed: Speed) -> bool

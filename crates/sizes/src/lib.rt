@@ -1,7 +1,6 @@
 // What goes by the kind number: sizes, and limits of stability.
 ghost use mathlib.Core.Path.{_≡_};
 ghost use mathlib.Core.Bool.{_&&_};
-ghost use Prim.Native.Nat.{_≤_};
 ghost use Rattle.scheme.specs.Instruments.{kindOf, within, sizeIn, inTable, stableIn};
 ghost use Rattle.sizes.specs.Sizes.{pointsOf};
 use types::Grid;
@@ -25,18 +24,8 @@ fn is_sized(columns: usize, most: usize, rows: usize, low: usize, high: usize) -
     }
 }
 
-// The same of kinds 5 to 7: a round membrane has as many rows as columns.
-fn is_grid_sized(kind: u64, columns: usize, rows: usize) -> bool
-    requires { ⌜ (5 ≤ kind) × (kind ≤ 7) ⌝ }
-    ensures { λ r. ⌜ r ≡ sizeIn (kindOf kind) columns rows ⌝ }
-{
-    if kind == 6 {
-        return is_sized(columns, 64, rows, columns, columns);
-    }
-    is_sized(columns, 64, rows, 3, 64)
-}
-
-// Whether the table has these columns and rows for the kind. Ruled out: two columns; 65 columns of kind 5; only square plates.
+// Whether the table has these columns and rows for the kind: a round membrane has as many rows as columns.
+// Ruled out: two columns; 65 columns of kind 5; only square plates.
 pub fn has_size(g: Grid) -> bool
     ensures { λ r. ⌜ r ≡ inTable g ⌝ }
 {
@@ -44,8 +33,9 @@ pub fn has_size(g: Grid) -> bool
     let columns = g.columns;
     let rows = g.rows;
     match kind {
-        1..=4 => is_sized(columns, 1024, rows, 1, 1),
-        5..=7 => is_grid_sized(kind, columns, rows),
+        Grid::STRING_FIXED..=Grid::BAR => is_sized(columns, 1024, rows, 1, 1),
+        Grid::MEMBRANE_RECTANGULAR | Grid::PLATE => is_sized(columns, 64, rows, 3, 64),
+        Grid::MEMBRANE_ROUND => is_sized(columns, 64, rows, columns, columns),
         _ => false,
     }
 }
@@ -70,10 +60,12 @@ pub fn is_stable(kind: u64, q: u64, m: u64) -> bool
         return false;
     }
     match kind {
-        1..=3 => m == 0,
-        4 => q + 4 * m <= Settings::D,
-        5 | 6 => { if 2 * q <= Settings::D { m == 0 } else { false } }
-        7 => 2 * q + 16 * m <= Settings::D,
+        Grid::STRING_FIXED..=Grid::STRING_FREE => m == 0,
+        Grid::BAR => q + 4 * m <= Settings::D,
+        Grid::MEMBRANE_RECTANGULAR | Grid::MEMBRANE_ROUND => {
+            if 2 * q <= Settings::D { m == 0 } else { false }
+        }
+        Grid::PLATE => 2 * q + 16 * m <= Settings::D,
         _ => false,
     }
 }

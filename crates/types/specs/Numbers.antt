@@ -1,4 +1,5 @@
 -- The numbers of "The instrument and its numbers" that the code has as constants, and the number of each refusal.
+use mathlib.Core.List.{List, [], _∷_}
 use Prim.Native.Nat.{ℕ, _*_, _^_}
 use Rattle.types.specs.declared.Refusal.{Refusal}
 use Rattle.types.specs.declared.Refusal.the-variants.{Nothing, UnknownKind, WrongSize, SheetNumber, Coefficient, Unstable}
@@ -12,6 +13,10 @@ D = 65536
 -- "The ceiling is 32767 × 2²⁸"
 abbrev pub ceiling : ℕ
 ceiling = 32767 * 2 ^ 28
+
+-- the table's first column, in its order, and "thin rectangular plates .. as kind 7"
+abbrev pub kindNumbers : List ℕ
+kindNumbers = 1 ∷ 2 ∷ 3 ∷ 4 ∷ 5 ∷ 6 ∷ 7 ∷ []
 
 -- the paper's number of each, 0 for none
 abbrev pub number : Refusal → ℕ

@@ -1,7 +1,7 @@
 // The types that the promises name. What is promised of them is defined in specs/.
 ghost use mathlib.Core.Path.{_≡_};
 ghost use lib.IntN.{pos};
-ghost use Rattle.types.specs.Numbers.{D, ceiling, number};
+ghost use Rattle.types.specs.Numbers.{D, ceiling, kindNumbers, number};
 
 // q for the squared Courant number, m for the stiffness, s for the loss: whole numbers over D.
 pub struct Settings {
@@ -47,10 +47,42 @@ pub struct Grid {
 }
 
 impl Grid {
-    // The last kind, and the last that a pluck admits.
-    pub const LAST: u64 = 7;
+    // The kinds, by the names of the C header.
+    pub const STRING_FIXED: u64 = 1;
 
-    pub const LAST_PLUCKED: u64 = 4;
+    pub const STRING_FIXED_FREE: u64 = 2;
+
+    pub const STRING_FREE: u64 = 3;
+
+    pub const BAR: u64 = 4;
+
+    pub const MEMBRANE_RECTANGULAR: u64 = 5;
+
+    pub const MEMBRANE_ROUND: u64 = 6;
+
+    pub const PLATE: u64 = 7;
+
+    // The first kind, the last, and the last that a pluck admits.
+    pub const FIRST: u64 = Grid::STRING_FIXED;
+
+    pub const LAST: u64 = Grid::PLATE;
+
+    pub const LAST_PLUCKED: u64 = Grid::BAR;
+
+    // The kinds' numbers, tied to the definitions'. Ruled out: a bar and a rectangular membrane exchanged.
+    pub(crate) fn kind_numbers() -> [u64; 7]
+        ensures { λ r. ⌜ r ≡ kindNumbers ⌝ }
+    {
+        [
+            Grid::STRING_FIXED,
+            Grid::STRING_FIXED_FREE,
+            Grid::STRING_FREE,
+            Grid::BAR,
+            Grid::MEMBRANE_RECTANGULAR,
+            Grid::MEMBRANE_ROUND,
+            Grid::PLATE,
+        ]
+    }
 
     // Ruled out: columns and rows exchanged; one row whatever is asked.
     pub fn new(kind: u64, columns: usize, rows: usize) -> Grid

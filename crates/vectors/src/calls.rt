@@ -126,7 +126,7 @@ fn sheet_agrees(n: Numbers) -> bool {
 }
 
 // A record is carried out: a buffer filled or compared, or a call made. Whether what it expects is met.
-pub fn agrees(
+pub(crate) fn agrees(
     n: Numbers,
     record: &[u64; PLACES],
     older: &mut [i64],

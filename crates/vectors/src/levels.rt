@@ -26,7 +26,7 @@ pub(crate) fn least(length: usize) -> usize
 }
 
 impl Lent {
-    pub fn new() -> Lent {
+    pub(crate) fn new() -> Lent {
         Lent {
             older: 0,
             newer: 0,
@@ -37,7 +37,7 @@ impl Lent {
     }
 
     // The lengths after a record: one that lends has the buffer's number and its length.
-    pub fn after(mut self, n: Numbers) -> Lent {
+    pub(crate) fn after(mut self, n: Numbers) -> Lent {
         let buffer = n.lent();
         let length = n.n2 as usize;
         match buffer {
@@ -82,7 +82,7 @@ fn entry_of(is_lent: bool, given: u32, held: u32) -> u32 {
 }
 
 // A lent level takes the record's values. Whether it has this length and content.
-pub fn on_level(n: Numbers, record: &[u64; PLACES], level: &mut [i64]) -> bool {
+pub(crate) fn on_level(n: Numbers, record: &[u64; PLACES], level: &mut [i64]) -> bool {
     let is_lent = n.n0 == 1;
     let end = least(level.len());
     let mut is_met = level.len() as u64 == n.n2;
@@ -97,7 +97,7 @@ pub fn on_level(n: Numbers, record: &[u64; PLACES], level: &mut [i64]) -> bool {
     is_met
 }
 
-pub fn on_samples(n: Numbers, record: &[u64; PLACES], samples: &mut [i16]) -> bool {
+pub(crate) fn on_samples(n: Numbers, record: &[u64; PLACES], samples: &mut [i16]) -> bool {
     let is_lent = n.n0 == 1;
     let end = least(samples.len());
     let mut is_met = samples.len() as u64 == n.n2;
@@ -112,7 +112,7 @@ pub fn on_samples(n: Numbers, record: &[u64; PLACES], samples: &mut [i16]) -> bo
     is_met
 }
 
-pub fn on_table(n: Numbers, record: &[u64; PLACES], table: &mut [u32]) -> bool {
+pub(crate) fn on_table(n: Numbers, record: &[u64; PLACES], table: &mut [u32]) -> bool {
     let is_lent = n.n0 == 1;
     let end = least(table.len());
     let mut is_met = table.len() as u64 == n.n2;

@@ -77,7 +77,7 @@ impl Numbers {
     }
 
     // What the record is on: 0 to 4 a buffer, 5 to 10 a call, 11 nothing.
-    pub fn target(self) -> u64 {
+    pub(crate) fn target(self) -> u64 {
         let opcode = self.n0;
         match opcode {
             1 => self.n1,
@@ -93,7 +93,7 @@ impl Numbers {
     }
 
     // The buffer that the record lends, 5 where it lends none.
-    pub fn lent(self) -> u64 {
+    pub(crate) fn lent(self) -> u64 {
         let opcode = self.n0;
         match opcode {
             1 => self.n1,
@@ -261,7 +261,7 @@ pub(crate) fn next_record(text: &[u8], from: usize, record: &mut [u64; PLACES]) 
 }
 
 // A number as one that has a sign.
-pub fn signed(bits: u64) -> i64 {
+pub(crate) fn signed(bits: u64) -> i64 {
     match bits {
         0..=9223372036854775807 => bits as i64,
         _ => !((u64::MAX - bits) as i64),

@@ -14,7 +14,7 @@ pub struct Tally {
     pub differences: u64,
 }
 
-pub fn say(text: &[u8]) {
+pub(crate) fn say(text: &[u8]) {
     io::write_all(STDOUT_FILENO, text);
 }
 
@@ -28,7 +28,7 @@ fn one_more(n: u64) -> u64 {
 }
 
 impl Tally {
-    pub fn new() -> Tally {
+    pub(crate) fn new() -> Tally {
         Tally {
             records: 0,
             levels: 0,
@@ -58,7 +58,7 @@ impl Tally {
     }
 
     // A line on the present record, or its start.
-    pub fn say_of(self, path: &[u8], what: &[u8]) {
+    pub(crate) fn say_of(self, path: &[u8], what: &[u8]) {
         say(path);
         say(b": record ");
         say_count(self.records, what);
@@ -79,7 +79,7 @@ impl Tally {
     }
 
     // A record, and whether it is met.
-    pub fn record(self, path: &[u8], opcode: u64, is_met: bool) -> Tally {
+    pub(crate) fn record(self, path: &[u8], opcode: u64, is_met: bool) -> Tally {
         let tally = self.counted(opcode);
         if is_met {
             tally
@@ -88,7 +88,7 @@ impl Tally {
         }
     }
 
-    pub fn counts(self, path: &[u8]) {
+    pub(crate) fn counts(self, path: &[u8]) {
         say(path);
         say(b": ");
         say_count(self.blocks, b" blocks, ");

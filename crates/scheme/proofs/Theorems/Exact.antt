@@ -2,9 +2,10 @@
 use mathlib.Core.Path.{_≡_, refl, sym, ap, ap₂, _∙_, subst, fun-ext}
 use mathlib.Core.Bool.{Bool, true, false, cond, not, _&&_, true≢false}
 use mathlib.Core.List.{List, [], _∷_}
-use Prim.Native.Nat.{ℕ, zero, suc, _+_, _*_, _<_}
+use Prim.Native.Nat.{ℕ, zero, suc, _+_, _*_, _/_, _%_, _<_}
 use native.Mathlib.Nat as N
 use native.Mathlib.Omega.{arith}
+use borrow.Author.Tests.{eqb-true}
 use lib.IntN.{ℤ, pos, _+ℤ_, _-ℤ_, _*ℤ_, *ℤ-zero}
 use Rattle.integers.proofs.Ring.{#_, _⊕_, _⊖_, _⊗_, _≈_, ring}
 use Rattle.forms.proofs.Level.{_⊡_}
@@ -24,7 +25,7 @@ use Rattle.scheme.specs.Book.{stepsOf, inexactOf, refusalOf, State, star
 use Rattle.scheme.specs.Program.{Made, afterAll, EachMade}
 use Rattle.scheme.specs.Exact.{bookScale, Unrounded, NoneInexact, ExactSince, ExactFromStart, ProgramExactSince}
 use Rattle.scheme.specs.Exact.{ProgramExactFromStart, NeverInexact}
-use Rattle.scheme.proofs.Laws.Bools.{cases}
+use Rattle.scheme.proofs.Laws.Bools.{cases, and-both}
 use Rattle.scheme.proofs.Laws.Lists.{point-scaled, times-one, times-times, map-tabulate, count-none, count-zero}
 use Rattle.scheme.proofs.Laws.Rounding.{remainder-rule}
 use Rattle.scheme.proofs.Laws.Step.{numerator-scale}
@@ -216,11 +217,12 @@ pub program-exact-from-start : ProgramExactFromStart
 program-exact-from-start older newer ms kept each =
     program-exact-since older newer ms kept (made-stay ms (start older newer) each refl)
 
--- ---- R² a whole number, without stiffness and loss: every numerator is some whole number of D
+-- ---- R a whole number, without stiffness and loss: every numerator is some whole number of D
 
-pub never-inexact : NeverInexact
+by-whole : (i : Instrument) (h : Hit) (older newer : List ℤ) (r : ℕ) → i .settings .q ≡ r * D → i .settings .m ≡ 0 → i .settings .s ≡ 0
+    → inexactIn i h older newer ≡ 0
 unfolding inexactIn inexactAt numerator
-never-inexact i h older newer r q m s =
+by-whole i h older newer r q m s =
     count-none (inexactAt i h older newer) (points (i .grid))
     (λ k l. cases (λ b. (b && not (whole k)) ≡ false) (moving (i .grid) k) (λ t. ap not (multiple k)) (λ t. refl))
   where
@@ -241,3 +243,11 @@ never-inexact i h older newer r q m s =
     multiple k = remainder-rule (num k) (divisor (i .settings)) (omega arith) .multiple
         (pos 2 *ℤ point newer k +ℤ pos r *ℤ laplacian (i .grid) (point newer) k -ℤ point older k +ℤ forceOf h k)
         (divided (point newer k) (laplacian (i .grid) (point newer) k) (biharmonic (i .grid) (point newer) k) (point older k) (forceOf h k))
+
+pub never-inexact : NeverInexact
+never-inexact i h older newer e =
+    let c : Settings = i .settings in
+    let p = and-both _ _ e in
+    let t = and-both _ _ (p .1) in
+    by-whole i h older newer (c .q / D) (omega (arith, N.div-add-mod' (c .q) D, eqb-true (c .q % D) 0 (p .0)))
+    (eqb-true (c .m) 0 (t .0)) (eqb-true (c .s) 0 (t .1))

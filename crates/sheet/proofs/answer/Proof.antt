@@ -5,7 +5,7 @@ use borrow.Author.Needs.{needs}
 use Rattle.types.specs.declared.Refusal.the-variants.{Coefficient, Unstable}
 use Rattle.scheme.specs.Instruments.{kind, stableIn}
 use Rattle.scheme.specs.Refusals.{unstable}
-use Rattle.sheet.specs.Call.{instrumentOf, sheetAccepted}
+use Rattle.sheet.specs.Call.{instrumentWith, sheetAccepted}
 use Rattle.sheet.proofs.CallLaws.{applies, passes, carried-out}
 use Rattle.sheet.proofs.answer.Statement.{statement}
 use Rattle.sheet.proofs.answer.Tie as tie
@@ -27,7 +27,7 @@ is-stable-requires c κs = search needs
 
 -- the program's test of 5, and what 5 says of the settings that the coefficients make
 unstable-is : (c : tie.After-is-stable)
-    → let a = c .before .before .before .before .args in not (c .is-stable .result) ≡ unstable (instrumentOf (a .grid) (a .c))
+    → let a = c .before .before .before .before .args in not (c .is-stable .result) ≡ unstable (instrumentWith (a .grid) (a .c))
 unstable-is c =
     let g = c .before .before .before .before .args .grid in
     ap not (c .is-stable .ensures ∙ ap (λ z. stableIn (kind g) (z .q) (z .m)) (c .before .settings .ensures))

@@ -17,16 +17,9 @@ round-not-zero-requires : tie.Need-round-not-zero-requires
 round-not-zero-requires c κs =
     let s = c .before in
     let g = s .args .g in
-    let round = sym (kind-is roundMembrane (c .if1 .taken)) in
+    let round = sym (kind-is roundMembrane (c .match .keys1)) in
     let w = round-size (g .columns) (g .rows) (ap (λ (K : Kind). sizeIn K (g .columns) (g .rows)) round ∙ s .pre .0) in
     (w .0, omega (arith, w .1, s .pre .1), s .pre .3)
-
-returns : tie.Need-returns
-returns c =
-    let s = c .before .before in
-    let a = s .args in
-    c .round-not-zero .ensures ∙ ap (λ (n : ℕ). roundNotZero (a .xs .now) n (a .g .columns) (a .row)) (s .pre .2)
-    ∙ sym (round-row (a .g) (a .xs .now) (c .before .if1 .taken) (a .row))
 
 straight-run-requires : tie.Need-straight-run-requires
 straight-run-requires c κs = tt
@@ -35,14 +28,21 @@ run-at : (c : tie.After-straight-run) → c .straight-run .result ≡ runOf (c .
 run-at c =
     let s = c .before .before in
     c .straight-run .ensures
-    ∙ straight-is _ _ _ _ (omega (arith, sized _ _ _ (s .pre .0) .columns-low)) (s .pre .1) (c .before .if1 .left)
+    ∙ straight-is _ _ _ _ (omega (arith, sized _ _ _ (s .pre .0) .columns-low)) (s .pre .1) (c .before .match .rest .1)
     ∙ sym (run-is (s .args .g) (s .args .row) (s .pre .0) (s .pre .1))
 
 row-not-zero-requires : tie.Need-row-not-zero-requires
 row-not-zero-requires c κs =
     let s = c .before .before in
     let w = subst (RunIn (s .args .g .columns)) (sym (run-at c)) (run-bounds _ _) in
-    (omega (arith, w .rising, w .inside), w .inside, s .pre .3)
+    (w .rising, w .inside, s .pre .3)
+
+returns : tie.Need-returns
+returns c =
+    let s = c .before .before in
+    let a = s .args in
+    c .round-not-zero .ensures ∙ ap (λ (n : ℕ). roundNotZero (a .xs .now) n (a .g .columns) (a .row)) (s .pre .2)
+    ∙ sym (round-row (a .g) (a .xs .now) (c .before .match .keys1) (a .row))
 
 returns-2 : tie.Need-returns-2
 returns-2 c =
@@ -55,4 +55,4 @@ returns-2 c =
 pub is-row-unfixed-spec : {M : Type 1} → statement M
 is-row-unfixed-spec =
     tie.close
-    (tie.spec round-not-zero-requires returns straight-run-requires row-not-zero-requires returns-2)
+    (tie.spec round-not-zero-requires straight-run-requires row-not-zero-requires returns returns-2)

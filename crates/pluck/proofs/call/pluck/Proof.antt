@@ -11,10 +11,11 @@ use Rattle.bounded.proofs.Num.{back}
 use Rattle.types.specs.declared.Refusal.{Refusal}
 use Rattle.types.specs.declared.Refusal.the-variants.{Nothing}
 use Rattle.pluck_table.specs.Table.{table}
+use Rattle.pluck_table.specs.Loading.{keepsRule, loadedTable}
 use Rattle.scheme.specs.Pluck.{pluckLevel}
 use Rattle.scheme.specs.Refusals.{pluckRefusal}
 use Rattle.scheme.specs.Calls.{accepted, pluckLeft}
-use Rattle.pluck_table.proofs.TableLaws.{table-rule}
+use Rattle.pluck_table.proofs.LoadingLaws.{kept}
 use Rattle.scheme.proofs.Laws.Refusals.{accepted-is}
 use Rattle.scheme.proofs.Laws.Calls.{pluck-done, pluck-refused}
 use Rattle.pluck.proofs.call.pluck.Statement.{statement}
@@ -60,12 +61,13 @@ returns c =
 slice-aggregate-carry-out : tie.Need-slice-aggregate-carry-out
 slice-aggregate-carry-out c = search needs
 
+-- of the constant as it stands: its values are looked at in the promise alone
 carry-out-requires : tie.Need-carry-out-requires
-unfolding table
+unfolding keepsRule loadedTable
 carry-out-requires c κs =
     let e = c .before .before .before in
     let m = e .before .before in
-    (table-rule .shape, refl, ap (refuses m) (height-is m) ∙ nothing-is e)
+    (kept _ refl, refl, ap (refuses m) (height-is m) ∙ nothing-is e)
 
 same-length : tie.Need-same-length
 same-length c = search needs

@@ -46,8 +46,8 @@ value-requires c κs =
     let l = c .before .before in
     (s l .pre .0, s l .pre .1, l .before .step-of .ensures, omega (arith, c .if1 .taken))
 
-put-requires : tie.Need-put-requires Inv-loop μ-loop
-put-requires c κs =
+put-both-requires : tie.Need-put-both-requires Inv-loop μ-loop
+put-both-requires c κs =
     let l = c .before .before .before .before in
     (s l .pre .0, omega (arith, s l .pre .3, l .loop .inv .long, as-long l))
 
@@ -66,7 +66,7 @@ loop-again c =
     let v = c .before .before .before .value in
     let a = s l .args in
     subst (λ (xs : List ℤ). Raised (length (cleared l)) (a .shape .centre) (shapeAt (a .table .now) (a .shape)) xs (l .loop .d + 1))
-    (sym (c .before .put .ensures))
+    (sym (c .before .put-both .ensures))
     (raised-more _ _ (s l .pre .0) _ _ _ _ (l .loop .inv) (t .if1 .taken) (back (v .result) (v .ok) ∙ v .ensures))
 
 same-length : tie.Need-same-length Inv-loop μ-loop
@@ -89,7 +89,7 @@ fill-spec =
     step-of-requires
     loop-holds
     value-requires
-    put-requires
+    put-both-requires
     add-d
     loop-less
     loop-again

@@ -1,0 +1,10 @@
+-- What is claimed of the definition. The proof is `first-bytes-tell`.
+use mathlib.Core.Path.{_≡_}
+use mathlib.Core.List.{List}
+use Prim.Native.Nat.{ℕ}
+use lib.ListN.{take}
+use Rattle.ring_line.specs.Requests.{requestOf}
+
+-- the first 256 bytes of the input are enough
+abbrev pub FirstBytesTell : Type 0
+FirstBytesTell = (bytes : List ℕ) → requestOf (take 256 bytes) ≡ requestOf bytes
