@@ -45,7 +45,7 @@ abbrev pub ProgramExactFromStart : Type 0
 ProgramExactFromStart = (older newer : List ℤ) (ms : List Made) → AllKept ms (start older newer) →
     EachMade NoneInexact ms (start older newer) → Unrounded (afterAll ms (start older newer))
 
--- R² a whole number, without stiffness and loss (R = 1, or q 0): no step has an inexact point
+-- R a whole number, without stiffness and loss (R = 1, or q 0): no step has an inexact point
 abbrev pub NeverInexact : Type 0
 NeverInexact = (i : Instrument) (h : Hit) (older newer : List ℤ) (r : ℕ) → i .settings .q ≡ r * D → i .settings .m ≡ 0 → i .settings .s ≡ 0
     → inexactIn i h older newer ≡ 0
