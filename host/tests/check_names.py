@@ -45,7 +45,8 @@ def words():
     found = set()
     for path in [ROOT / "crates.txt", *ROOT.glob("crates/**/*"), *ROOT.glob("host/**/*")]:
         found.update((path.name, path.stem))
-        if path.is_file() and path.suffix in TEXTS and "data" not in path.parts:
+        # the test of this check has names that do not exist
+        if path.is_file() and path.suffix in TEXTS and "data" not in path.parts and path.name != "test_pages.py":
             text = re.sub(COMMENT.get(path.suffix, r"$^"), "", path.read_text(encoding="utf-8", errors="replace"), flags=re.M)
             found.update(WORD.findall(text))
     return found
