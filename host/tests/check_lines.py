@@ -4,8 +4,8 @@
 
 Prose is what is no table, heading, comment or code block. The target of a link does not count, nor does a line that is one span of code or
 one link. A longer line must begin and end with its sentence: it stands first in its paragraph or list item, or after a line that ends a
-sentence, it ends by . ! ? : or ; (or its paragraph ends there), and no other sentence begins in it. A bold title before the sentence and
-a mark **[..]** after it belong to it.
+sentence or does not count; it ends by . ! ? : or ; or its paragraph ends there; and no other sentence begins in it. A bold title before the
+sentence and a mark **[..]** after it belong to it.
 """
 
 import re
@@ -54,7 +54,7 @@ def faults_of(text):
     for (_, before), (number, line), (_, after) in zip(lines, lines[1:], lines[2:]):
         if not is_prose(line) or shown_length(line) <= MOST or is_one_piece(line):
             continue
-        begins = not is_prose(before) or re.match(ITEM, line) or ENDS.search(plain(before))
+        begins = not is_prose(before) or re.match(ITEM, line) or is_one_piece(before) or ENDS.search(plain(before))
         ends = not is_prose(after) or re.match(ITEM, after) or ENDS.search(plain(line))
         if not begins or not ends:
             yield number, f"{shown_length(line)} characters, and a piece of a sentence"

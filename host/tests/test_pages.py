@@ -29,6 +29,8 @@ LINES = (
     ("a sentence after a sentence", f"It begins. It ends.\n{A}\n", []),
     ("marks after a sentence", f"- {A} **[proved: `Name`]**\n- {A} **[proved: `Name`]** Another. **[explanation]**\n", [2]),
     ("dots inside", f"{LONG} 0..65536, 3 .. 7, A.b, `c. D` and `e. F` here.\n", []),
+    ("after a line of code", f"- Short.\n  `x`\n  {A}\n", []),
+    ("after a line that ends by code", f"- It begins by `x`\n  {A}\n", [2]),
     ("a table", f"| {A} Two. | {A} |\n|---|---|\n", []),
     ("code", f"```\n{A} Two.\n```\n\n    {A} Two.\n\nText.\n", []),
     ("after code", f"```\nx\n```\n{A} Two.\n", [4]),
@@ -42,7 +44,7 @@ LINES = (
 NAMES = (
     ("`block` of `crates/block/src/lib.rt`, `Calls.block`, `scheme/specs/Calls`, `host/test --calls 1`", []),
     ("`no_such_function`", ["no_such_function"]),
-    ("`block::no_such`, `nextAt` and `noSuch`", ["no_such", "noSuch"]),
+    ("`block::no_such_part`, `nextAt` and `noSuch`", ["no_such_part", "noSuch"]),
     ("`crates/no_such/src`", ["crates/no_such/src"]),
     ("`scheme/specs/NoSuch.antt` and `no_such.py`", ["scheme/specs/NoSuch.antt", "no_such.py"]),
     ("`block (g no-such-law)`", ["no-such-law"]),
