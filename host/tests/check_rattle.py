@@ -48,7 +48,9 @@ def made(snippets):
 
 def checked(snippets):
     """Whether they are proved, and what was said."""
-    said = subprocess.run(["rt", "check", CRATE], cwd=made(snippets), capture_output=True, text=True)
+    place = made(snippets)
+    said = subprocess.run(["rt", "check", CRATE], cwd=place, capture_output=True, text=True)
+    shutil.rmtree(place)
     return said.returncode == 0, said.stdout + said.stderr
 
 
