@@ -7,7 +7,6 @@ A snippet is the fenced block behind its marker. The crate stands in target/host
 that `rt check` proves nothing else where the engine is proved.
 """
 
-import pathlib
 import re
 import shutil
 import subprocess
