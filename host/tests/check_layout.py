@@ -1,5 +1,5 @@
-"""Whether docs/LAYOUT.md has every crate, and every file of specs/ is to be believed by its table, has examples, or says in its first line that
-it is vocabulary.
+"""Whether docs/LAYOUT.md has every crate, and every file of specs/ is to be believed by its table, has examples, or says in its first
+line that it is vocabulary.
 
     python3 check_layout.py
 """
@@ -48,7 +48,8 @@ def faults(page, list_of_crates, specs):
 def main():
     parser_of(__doc__).parse_args()
     page = (ROOT / "docs" / "LAYOUT.md").read_text(encoding="utf-8")
-    specs = {(path.parts[-3], path.stem): path.read_text(encoding="utf-8").partition("\n")[0] for path in sorted(ROOT.glob("crates/*/specs/*.antt"))}
+    files = sorted(ROOT.glob("crates/*/specs/*.antt"))
+    specs = {(path.parts[-3], path.stem): path.read_text(encoding="utf-8").partition("\n")[0] for path in files}
     wrong = list(faults(page, crates((ROOT / "crates.txt").read_text(encoding="utf-8")), specs))
     print(*wrong or [f"docs/LAYOUT.md has every crate, and {len(specs)} files of specs/ are what it says"], sep="\n")
     return 1 if wrong else 0

@@ -1,5 +1,5 @@
-"""Whether the pages' snippets in Rattle are proved over the engine: each becomes a module of one crate, beside this repository's crates. That a
-wrong snippet is refused is tried too.
+"""Whether the pages' snippets in Rattle are proved over the engine: each becomes a module of one crate, beside this repository's crates.
+That a wrong snippet is refused is tried too.
 
     python3 check_rattle.py PAGE.md ..
 

@@ -1,5 +1,5 @@
-"""The use of every script of host/: wrong arguments, files that are not there or are something else, missing programs and missing libraries end
-at once, with status 2 and the reason on stderr; --help answers the usage with status 0.
+"""The use of every script of host/: wrong arguments, files that are not there or are something else, missing programs and missing
+libraries end at once, with status 2 and the reason on stderr; --help answers the usage with status 0.
 
     python3 test_scripts.py
 """
