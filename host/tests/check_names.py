@@ -3,8 +3,8 @@
     python3 check_names.py [--every] [PAGE.md ..]     without a page all, with --every those of LATER in pages.py too
 
 A span of code with a slash, or that ends as a file does, is a path: from the root, the page's folder, crates/, a crate, or a folder of
-host/; NAME, LABEL, FILE and * stand for any name, and .antt, .rt, .edit and .md may be left out. What is built is not looked for: target/, .so,
-.a and .wav files.
+host/. NAME, LABEL, FILE and * stand for any name, and .antt, .rt, .edit and .md may be left out. What is built is not looked for: target/,
+.so, .a and .wav files.
 Of every other span each word of three letters or more must stand in some file of crates/ or host/, comments left out, or be the name of a
 file, folder or edit there; parts joined by :: or . are looked up one by one, and a word that begins by _ is the end of a name.
 A landing's note names what it took away: of the notes only the links are looked at.
