@@ -1,4 +1,12 @@
-# Sourced by the scripts of this folder: what the machine must have, said before any work is begun.
+# Sourced by the scripts of this folder: their usage, and what the machine must have, said before any work is begun.
+
+help_or_nothing() { # USAGE ARGUMENT ..: for a script without arguments
+    case "$#:${2:-}" in
+    1:*) ;;
+    2:-h | 2:--help) echo "$1"; exit 0 ;;
+    *) echo "$1" >&2; exit 2 ;;
+    esac
+}
 
 need() { # PROGRAM WHAT_FOR
     command -v "$1" >/dev/null || { echo "$0: $1 is missing: $2" >&2; exit 2; }

@@ -8,6 +8,10 @@ import pathlib
 import re
 import sys
 
+sys.path.append(str(pathlib.Path(__file__).resolve().parent.parent / "reference"))
+
+from arguments import folder, parser_of
+
 CALLS_COUNTED = 20
 PLAIN = ("gcc", "clang")
 THREE = "three levels"  # whom a row in place has beside it
@@ -79,9 +83,23 @@ def table(rows, first, others, is_in_place, has_counts):
 
 
 def main():
-    counts = counts_of(sys.argv[1]) if len(sys.argv) == 2 else None
+    parser = parser_of(__doc__)
+    parser.add_argument("folder", metavar="FOLDER", nargs="?", type=folder)
+    options = parser.parse_args()
+    try:
+        measured = list(rows_of(sys.stdin))
+        if not measured:
+            raise ValueError
+    except ValueError:
+        parser.error("standard input is not what the bench prints")
+    counts, wanted = None, sum(len(times) for *_, times in measured)
+    if options.folder:
+        found = list(counts_of(options.folder))
+        if len(found) != wanted:
+            parser.error(f"{options.folder} has {len(found)} dumps, not {wanted}")
+        counts = iter(found)
     rows, wrong = {key: [] for key in TABLES}, []
-    for what, grid, units, same, times in rows_of(sys.stdin):
+    for what, grid, units, same, times in measured:
         counted = {who: next(counts) for who in times} if counts else {}
         key = units > 1, THREE in times
         rows[key].append(row(what, grid, units, times, counted, TABLES[key][2]))

@@ -1,4 +1,4 @@
-/* Prints the table of README.md: how loud a pluck of a height, or a hit of a force, is at the pick-up. */
+/* Prints the table of docs/EMBEDDING.md: how loud a pluck of a height, or a hit of a force, is at the pick-up. */
 #include "buvcsolta.h"
 #include <stdio.h>
 #include <stdlib.h>

@@ -2,6 +2,7 @@
  * With `straight` it is plucked by a table of this program. It is played in place, on two levels, for a board without room for a third;
  * with one, buvcsolta_instrument_block takes less time. */
 #include "buvcsolta.h"
+#include <errno.h>
 #include <stdio.h>
 #include <stdlib.h>
 #include <string.h>
@@ -16,6 +17,13 @@ static void check(uint64_t refusal)
         return;
     fprintf(stderr, "refused: %s\n", buvcsolta_refusal_text(refusal));
     exit(1);
+}
+
+/* Says why the file could not be opened or written. */
+static int no_file(const char *name)
+{
+    fprintf(stderr, "pluck_wav: %s: %s\n", name, strerror(errno));
+    return 1;
 }
 
 /* A number in so many bytes, the lowest first. */
@@ -52,11 +60,14 @@ int main(int argc, char **argv)
     size_t steps;
     uint64_t inexact;
     int straight = argc == 3 && strcmp(argv[2], "straight") == 0;
-    FILE *file = argc == 2 || straight ? fopen(argv[1], "wb") : NULL;
-    if (!file) {
+    FILE *file;
+    if (argc != 2 && !straight) {
         fputs("usage: pluck_wav FILE.wav [straight]\n", stderr);
-        return 1;
+        return 2;
     }
+    file = fopen(argv[1], "wb");
+    if (!file)
+        return no_file(argv[1]);
     check(buvcsolta_instrument_sheet(&string, &sheet));
     check(straight ? pluck_straight(&string, &levels, height)
                    : buvcsolta_instrument_pluck(&string, &levels, PICK_UP, HALF_WIDTH, height));
@@ -66,5 +77,5 @@ int main(int argc, char **argv)
         for (int k = 0; k < BLOCK; k++)
             put(file, (uint16_t)samples[k], 2);
     }
-    return fclose(file) != 0;
+    return fflush(file) != 0 || fclose(file) != 0 ? no_file(argv[1]) : 0;
 }

@@ -14,6 +14,11 @@
  * a call. Each pointer is not null, is aligned for its type and points to as many elements as its length says, also where that is 0.
  * The buffers and results of one call must not overlap. Calls on different buffers may run at the same time.
  * Any numbers may be handed over: numbers that cannot be negative are unsigned, so -1 arrives as 2^64 - 1 and meets its refusal.
+ *
+ * Floating point. buvcsolta_sheet computes in doubles and expects the default environment: rounding to nearest, and subnormal numbers
+ * (other than 0 and below 2.3e-308 in size) taken as they are. Where they are flushed to zero, as audio hosts set it (FTZ, DAZ), a sheet
+ * that has such a number, or whose operations give one, may answer otherwise: 3 where the number counts as 0, 4 where it is divided by.
+ * Every other sheet answers the same. The float reading is exact in every environment, and the other calls use no floats.
  */
 #ifndef BUVCSOLTA_H
 #define BUVCSOLTA_H
@@ -35,7 +40,7 @@ extern "C" {
  * refusal 14. */
 #define BUVCSOLTA_VERSION_MAJOR 2
 #define BUVCSOLTA_VERSION_MINOR 2
-#define BUVCSOLTA_VERSION_PATCH 0
+#define BUVCSOLTA_VERSION_PATCH 1
 #define BUVCSOLTA_VERSION (BUVCSOLTA_VERSION_MAJOR * 10000 + BUVCSOLTA_VERSION_MINOR * 100 + BUVCSOLTA_VERSION_PATCH)
 
 #define BUVCSOLTA_UNITS_PER_SAMPLE (INT64_C(1) << 28)
@@ -44,6 +49,14 @@ extern "C" {
 /* A table for buvcsolta_pluck_with: how many entries it has, and the number that it ends at. */
 #define BUVCSOLTA_TABLE_LENGTH 1025
 #define BUVCSOLTA_TABLE_END UINT32_C(65536)
+
+/* The most bytes of stack that each call takes below its caller's frame, in the library as built for x86-64 Linux: measured, not proved. */
+#define BUVCSOLTA_STACK_BLOCK 2560
+#define BUVCSOLTA_STACK_BLOCK_IN_PLACE 3584
+#define BUVCSOLTA_STACK_PLUCK 4608 /* the built-in table is put on the stack; a pluck by a lent table does without */
+#define BUVCSOLTA_STACK_PLUCK_WITH 512
+#define BUVCSOLTA_STACK_READING 512
+#define BUVCSOLTA_STACK_SHEET 512
 
 /* Kinds, and the columns x rows that each may have. */
 enum buvcsolta_kind {
@@ -107,7 +120,8 @@ uint64_t buvcsolta_block_in_place(uint64_t kind, size_t columns, size_t rows, ui
                                   int16_t *samples, size_t samples_length,
                                   size_t pick_up, uint64_t hit, size_t point, int64_t force, size_t *steps, uint64_t *inexact);
 
-/* A pluck, kinds 1 to 4: both levels become the same raised-cosine shape of the given height around centre, 0 beyond half_width.
+/* A pluck, kinds 1 to 4: both levels become the same raised-cosine shape of the given height around centre, 0 at fixed points and
+ * beyond half_width.
  *
  * 0: both levels are overwritten, whatever they held. 1, 2, 6, 7, 8 and 10: both are unchanged. */
 uint64_t buvcsolta_pluck(uint64_t kind, size_t columns, size_t rows,

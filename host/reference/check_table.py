@@ -6,21 +6,24 @@
 import re
 import sys
 
+from arguments import file, parser_of
 from pluck import T
 
 
 def table_in(source):
-    """The numbers between the brackets of the constant TABLE."""
+    """The numbers between the brackets of the constant TABLE; None where there is no such constant."""
     text = re.sub(r"//.*", "", source)
-    body = re.search(r"TABLE: \[\w+; (\d+)\] = \[([\d,\s]*)\];", text)
-    numbers = [int(number) for number in body.group(2).split(",") if number.strip()]
-    assert len(numbers) == int(body.group(1))
-    return numbers
+    body = re.search(r"TABLE: \[\w+; \d+\] = \[([\d,\s]*)\];", text)
+    return [int(number) for number in body.group(1).split(",") if number.strip()] if body else None
 
 
 def main():
-    with open(sys.argv[1], encoding="utf-8") as source:
-        found = table_in(source.read())
+    parser = parser_of(__doc__)
+    parser.add_argument("source", metavar="SOURCE.rt", type=file)
+    source = parser.parse_args().source
+    found = table_in(source.read_text(encoding="utf-8", errors="replace"))
+    if found is None:
+        parser.error(f"{source} has no constant TABLE")
     wrong = [j for j, (a, b) in enumerate(zip(found, T)) if a != b]
     if wrong or len(found) != len(T):
         print("T differs at", wrong, "of", len(found))

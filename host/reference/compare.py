@@ -1,6 +1,6 @@
 """Random comparison of a C library with the reference.
 
-    python3 compare.py LIBRARY.so [--calls N] [--seed S] [--jobs J] [--minutes M]
+    python3 compare.py LIBRARY.so [--calls N | --minutes M] [--seed S] [--jobs J]
     python3 compare.py --self [...]         the reference behind C functions in place of the library
     python3 compare.py --wrong [NAME] [...] the same with a wrong edit of must_fail.py; without a name
                                             each edit in turn, and each must be found
@@ -168,10 +168,11 @@ def options_of(arguments):
     parser.add_argument("library", nargs="?")
     parser.add_argument("--self", action="store_true", dest="itself")
     parser.add_argument("--wrong", nargs="?", const="")
-    parser.add_argument("--calls", type=count)
+    until = parser.add_mutually_exclusive_group()
+    until.add_argument("--calls", type=count)
+    until.add_argument("--minutes", type=duration)
     parser.add_argument("--seed", type=int)
     parser.add_argument("--jobs", type=count, default=2)
-    parser.add_argument("--minutes", type=duration)
     parser.add_argument("--arguments", action="store_true")
     options = parser.parse_args(arguments)
     if sum((options.library is not None, options.itself, options.wrong is not None)) != 1:

@@ -16,9 +16,9 @@ A file is a sequence of decimal numbers, one record per line, ended by 0:
 lent table.
 """
 
-import pathlib
 import sys
 
+from arguments import folder, parser_of
 from call_vectors import call_records
 from in_place_vectors import in_place_records
 from pluck_vectors import pluck_records
@@ -30,20 +30,20 @@ def text(records):
 
 
 def main():
-    arguments = sys.argv[1:]
-    check = arguments[:1] == ["--check"]
-    if len(arguments) != 1 + check:
-        raise SystemExit(__doc__)
-    folder = pathlib.Path(arguments[-1])
+    parser = parser_of(__doc__)
+    parser.add_argument("--check", action="store_true")
+    parser.add_argument("folder", metavar="DIR", type=folder)
+    options = parser.parse_args()
     status = 0
     calls = call_records()
     for name, records in (("calls.txt", calls), ("sheets.txt", sheet_records()), ("in_place.txt", in_place_records(calls)),
                           ("plucks.txt", pluck_records())):
         written = text(records).encode("ascii")
-        if not check:
-            (folder / name).write_bytes(written)
+        path = options.folder / name
+        if not options.check:
+            path.write_bytes(written)
             print(f"{name}: {len(records)} records, {len(written)} bytes")
-        elif (folder / name).is_file() and (folder / name).read_bytes() == written:
+        elif path.is_file() and path.read_bytes() == written:
             print(f"{name}: as generated")
         else:
             print(f"{name}: not as generated")

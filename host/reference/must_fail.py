@@ -11,6 +11,8 @@ import sys
 import tempfile
 from concurrent.futures import ThreadPoolExecutor
 
+from arguments import parser_of
+
 HERE = pathlib.Path(__file__).resolve().parent
 
 # (what is wrong, file, text, text in its place)
@@ -466,7 +468,7 @@ def tests_pass(folder, tests):
     run = subprocess.run([sys.executable, *tests, "--failfast"], cwd=folder,
                          env=environment, capture_output=True)
     # "places for": the edit stands in the way of another, which the tests apply.
-    if any(word in run.stderr for word in (b"SyntaxError", b"NameError", b"ImportError", b"TypeError", b"places for")):
+    if any(word in run.stderr for word in (b"SyntaxError", b"NameError", b"ImportError", b"TypeError", b"usage:", b"places for")):
         raise SystemExit(run.stderr.decode() + "the edit does not run")
     return run.returncode == 0
 
@@ -478,6 +480,7 @@ def survives(edit):
 
 
 def main():
+    parser_of(__doc__).parse_args()
     for tests in ("test_reference.py", "test_ring.py", "test_bounds.py"):
         if not tests_pass(HERE, [tests]):
             raise SystemExit(f"{tests} fails without any edit")

@@ -4,9 +4,11 @@
     python3 play.py --wrong DIR     each wrong edit of must_fail.py behind C functions must be found
 """
 
+import argparse
 import sys
 
 import must_fail
+from arguments import file, folder, parser_of
 from draws import from_bits
 from library import open_library, wrong_stand_in
 
@@ -59,25 +61,39 @@ def play(library, numbers):
     return "no end"
 
 
-def play_file(library, path):
-    with open(path, encoding="ascii") as file:
-        return play(library, map(int, file.read().split()))
+def vectors(text):
+    """The numbers of a vector file."""
+    try:
+        return [int(number) for number in file(text).read_text(encoding="ascii").split()]
+    except ValueError:
+        raise argparse.ArgumentTypeError(f"{text} is no vector file") from None
 
 
 def main():
-    if len(sys.argv) != 3:
-        raise SystemExit(__doc__)
-    if sys.argv[1] != "--wrong":
+    parser = parser_of(__doc__)
+    parser.add_argument("library", metavar="LIBRARY.so", nargs="?")
+    parser.add_argument("vectors", metavar="FILE", nargs="?", type=vectors)
+    parser.add_argument("--wrong", metavar="DIR", type=folder)
+    options = parser.parse_args()
+    if (options.wrong is None) != (options.vectors is not None) or (options.wrong and options.library):
+        parser.error("a library and a file, or --wrong and a folder")
+    if options.wrong is None:
         try:
-            library = open_library(sys.argv[1])
+            library = open_library(options.library)
         except (OSError, AttributeError) as fault:
-            raise SystemExit(f"play.py: cannot open the library: {fault}")
-        fault = play_file(library, sys.argv[2])
+            parser.error(f"cannot open the library: {fault}")
+        try:
+            fault = play(library, iter(options.vectors))
+        except (AssertionError, IndexError, StopIteration):
+            parser.error("the file's records are not those of generate.py")
         print(fault or "every record holds")
         return 1 if fault else 0
     edits = must_fail.seen_by_calls()
-    files = [f"{sys.argv[2]}/{name}.txt" for name in ("calls", "sheets", "in_place", "plucks")]
-    survived = [edit[0] for edit in edits if not any(play_file(wrong_stand_in(edit), path) for path in files)]
+    try:
+        files = [vectors(f"{options.wrong}/{name}.txt") for name in ("calls", "sheets", "in_place", "plucks")]
+    except argparse.ArgumentTypeError as fault:
+        parser.error(str(fault))
+    survived = [edit[0] for edit in edits if not any(play(wrong_stand_in(edit), iter(numbers)) for numbers in files)]
     print(*(f"not found: {name}" for name in survived), sep="\n", end="\n" if survived else "")
     print(len(edits) - len(survived), "wrong stand-ins found by the vectors")
     return 1 if survived else 0

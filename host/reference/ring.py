@@ -3,11 +3,10 @@
     python3 ring.py FILE..      for each file its name on a line, and what ring prints for its bytes
 """
 
-import os
 import re
-import sys
 
 import calls
+from arguments import file, parser_of
 from instrument import KINDS
 
 # "ten decimals, digits only, single spaces between"; "only force may be negative, by one leading minus".
@@ -52,11 +51,10 @@ def ring(data):
 
 
 def main():
-    if len(sys.argv) < 2:
-        raise SystemExit(__doc__)
-    for path in sys.argv[1:]:
-        with open(path, "rb") as file:
-            print(os.path.basename(path), ring(file.read()), sep="\n", end="")
+    parser = parser_of(__doc__)
+    parser.add_argument("inputs", metavar="FILE", nargs="+", type=file)
+    for path in parser.parse_args().inputs:
+        print(path.name, ring(path.read_bytes()), sep="\n", end="")
 
 
 if __name__ == "__main__":

@@ -5,10 +5,10 @@
     python3 ring_runs.py --program RING     runs the program on each of them and says what differs
 """
 
-import pathlib
 import subprocess
 import sys
 
+from arguments import folder, parser_of, program
 from instrument import CEILING
 from ring import ring
 
@@ -168,21 +168,27 @@ def write(crate):
 
 
 def differing_files(crate):
-    there = [path.relative_to(crate).as_posix() for path in (crate / "data").iterdir()]
+    there = [path.relative_to(crate).as_posix() for path in (crate / "data").glob("*")]
     return [name for name, data in files().items() if not (crate / name).is_file() or (crate / name).read_bytes() != data] + \
         [name for name in there if name not in files()]
 
 
-def differing_runs(program):
+def differing_runs(ring_program):
     return [name for name, data in RUNS.items()
-            if subprocess.run([program.resolve()], input=data, stdout=subprocess.PIPE, check=False).stdout != ring(data).encode()]
+            if subprocess.run([ring_program], input=data, stdout=subprocess.PIPE, check=False).stdout != ring(data).encode()]
 
 
 def main():
-    if len(sys.argv) not in (2, 3):
-        raise SystemExit(__doc__)
-    work = {"--check": differing_files, "--program": differing_runs}.get(sys.argv[1], write)
-    wrong = work(pathlib.Path(sys.argv[-1]))
+    parser = parser_of(__doc__)
+    group = parser.add_mutually_exclusive_group(required=True)
+    group.add_argument("crate", metavar="CRATE", nargs="?", type=folder)
+    group.add_argument("--check", metavar="CRATE", type=folder)
+    group.add_argument("--program", metavar="RING", type=program)
+    options = parser.parse_args()
+    crate = options.crate or options.check
+    if crate and not (crate / "src" / "main.rt").is_file():
+        parser.error(f"{crate} is no crate of a program")
+    wrong = differing_runs(options.program) if options.program else (write if options.crate else differing_files)(crate)
     for name in wrong:
         print("differs:", name)
     print(len(RUNS), "runs of ring,", len(wrong), "differences")

@@ -8,6 +8,7 @@ import unittest
 from fractions import Fraction
 
 import bounds
+from arguments import run_tests
 from book import Book, energy
 from instrument import D, GRID_KINDS, free_ends, moving_set
 from step import one_step, round_half_away, sample
@@ -168,4 +169,4 @@ class Bounds(unittest.TestCase):
 
 
 if __name__ == "__main__":
-    unittest.main()
+    run_tests(__doc__)

@@ -19,6 +19,7 @@ import run
 import sheet
 import step
 import tables
+from arguments import run_tests
 from instrument import CEILING, D, KINDS, LINE_KINDS
 from library import Reference, stand_in, wrong_stand_in
 from sheet import Sheet
@@ -1664,4 +1665,4 @@ class UpAndDown(unittest.TestCase):
 
 
 if __name__ == "__main__":
-    unittest.main()
+    run_tests(__doc__)

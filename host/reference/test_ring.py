@@ -3,6 +3,7 @@
 import unittest
 
 import calls
+from arguments import run_tests
 from instrument import CEILING
 from ring import request, ring
 from ring_runs import RUNS
@@ -114,4 +115,4 @@ class Input(unittest.TestCase):
 
 
 if __name__ == "__main__":
-    unittest.main()
+    run_tests(__doc__)

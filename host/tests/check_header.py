@@ -6,8 +6,13 @@ numbers, kinds, units and ceiling. example.c uses the other constants.
 
 import pathlib
 import re
+import shutil
 import subprocess
 import sys
+
+sys.path.append(str(pathlib.Path(__file__).resolve().parent.parent / "reference"))
+
+from arguments import file, parser_of
 
 TYPES = {"u64": "uint64_t", "u32": "uint32_t", "i64": "int64_t", "i16": "int16_t", "usize": "size_t", "f64": "double"}
 
@@ -70,12 +75,13 @@ def constant(header, name):
 
 
 def symbols(library):
-    said = subprocess.run(["nm", "-D", "--defined-only", library], capture_output=True, text=True, check=True).stdout
+    """The exported names; none where it is no shared library."""
+    said = subprocess.run(["nm", "-D", "--defined-only", library], capture_output=True, text=True).stdout
     return {line.split()[2] for line in said.splitlines() if " T " in line}
 
 
 def sources(paths):
-    """The header, the sources of the two libraries of exports as one, the types."""
+    """The header, the sources of the two libraries of exports as one, the types; `paths` are those four."""
     header, *exports, types = (pathlib.Path(path).read_text(encoding="utf-8") for path in paths)
     return header, "\n".join(exports), types
 
@@ -105,11 +111,21 @@ def differences(header, exports, scheme, names):
     return wrong if ours and numbers else ["the sources have no exported function or no refusal"]
 
 
+def add_sources(parser):
+    """The arguments that `sources` takes."""
+    for name in ("header", "c_api", "c_api_in_place", "types"):
+        parser.add_argument(name, type=file)
+
+
 def main():
-    if len(sys.argv) != 6:
-        raise SystemExit(__doc__)
-    header, exports, scheme = sources(sys.argv[1:5])
-    wrong = differences(header, exports, scheme, symbols(sys.argv[5]))
+    parser = parser_of(__doc__)
+    add_sources(parser)
+    parser.add_argument("library", metavar="LIBRARY.so", type=file)
+    options = parser.parse_args()
+    if not shutil.which("nm"):
+        parser.error("nm is missing: it lists what the library exports")
+    header, exports, scheme = sources((options.header, options.c_api, options.c_api_in_place, options.types))
+    wrong = differences(header, exports, scheme, symbols(options.library))
     held = f"the header declares the {len(exported(exports))} functions and {len(refusals(scheme))} refusals of the library"
     print(*wrong or [held], sep="\n")
     return 1 if wrong else 0

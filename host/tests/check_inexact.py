@@ -3,15 +3,12 @@
     python3 check_inexact.py PROGRAM HEADER.h
 """
 
-import pathlib
 import re
 import subprocess
 import sys
 
 from check_header import enumerators
-
-sys.path.append(str(pathlib.Path(__file__).resolve().parent.parent / "reference"))
-
+from arguments import file, parser_of, program
 from instrument import CEILING
 from library import Reference
 
@@ -87,8 +84,8 @@ def wanted(instrument, steps, point, force, text):
     return 0, [*lines, f"sum {total}"]
 
 
-def said_by(program, arguments):
-    said = subprocess.run([program, *map(str, arguments)], capture_output=True, text=True, timeout=60)
+def said_by(example, arguments):
+    said = subprocess.run([example, *map(str, arguments)], capture_output=True, text=True, timeout=60)
     return said.returncode, said.stdout.splitlines(), said.stderr
 
 
@@ -96,11 +93,11 @@ def counts(lines):
     return [int(line.split()[1]) for line in lines if line[0].isdigit()]
 
 
-def faults_of_runs(program, text):
+def faults_of_runs(example, text):
     """What is wrong, and the counts of each run."""
     faults, seen = [], {}
     for what, instrument, *rest in RUNS:
-        status, lines, error = said_by(program, (*instrument, *rest))
+        status, lines, error = said_by(example, (*instrument, *rest))
         seen[what] = counts(lines)
         if (status, lines) != wanted(instrument, *rest, text) or error:
             faults.append(f"{what}: status {status}\n" + "\n".join(lines) + error)
@@ -111,23 +108,25 @@ def faults_of_runs(program, text):
     return faults
 
 
-def faults_of_misuse(program):
+def faults_of_misuse(example):
     good = [*map(str, STRING), "1", "50", "1"]
     uses = [[], good[:-1], [*good, "1"], *([*good[:place], text, *good[place + 1:]] for place, text in WRONG)]
     faults = []
     for use in uses:
-        status, lines, error = said_by(program, use)
+        status, lines, error = said_by(example, use)
         if status != 2 or lines or not error.startswith("usage: inexact "):
             faults.append(f"{use}: status {status}, not 2 with the usage\n" + "\n".join(lines) + error)
     return faults, len(uses)
 
 
 def main():
-    if len(sys.argv) != 3:
-        raise SystemExit(__doc__)
-    text = words(pathlib.Path(sys.argv[2]).read_text(encoding="utf-8"))
-    misuses, uses = faults_of_misuse(sys.argv[1])
-    faults = [*faults_of_runs(sys.argv[1], text), *misuses]
+    parser = parser_of(__doc__)
+    parser.add_argument("example", metavar="PROGRAM", type=program)
+    parser.add_argument("header", metavar="HEADER.h", type=file)
+    options = parser.parse_args()
+    text = words(options.header.read_text(encoding="utf-8"))
+    misuses, uses = faults_of_misuse(options.example)
+    faults = [*faults_of_runs(options.example, text), *misuses]
     print(*faults or [f"{len(RUNS)} runs as the reference's, {uses} misuses refused"], sep="\n")
     return 1 if faults else 0
 

@@ -4,19 +4,28 @@
 """
 
 import array
+import pathlib
 import shutil
 import subprocess
 import sys
 import wave
+
+sys.path.append(str(pathlib.Path(__file__).resolve().parent.parent / "reference"))
+
+from arguments import file, parser_of
 
 RATE, LOUD = 48000, 8000
 
 
 def wrong_samples(path):
     """What Python's reader finds wrong."""
-    with wave.open(path) as file:
-        form = file.getnchannels(), file.getsampwidth(), file.getframerate(), file.getnframes()
-        samples = array.array("h", file.readframes(file.getnframes()))
+    try:
+        with wave.open(path) as sound:
+            form = sound.getnchannels(), sound.getsampwidth(), sound.getframerate(), sound.getnframes()
+            frames = sound.readframes(sound.getnframes())
+    except (wave.Error, EOFError) as fault:
+        return [f"no WAV file: {fault}"]
+    samples = array.array("h", frames[:len(frames) // 2 * 2])
     if sys.byteorder == "big":
         samples.byteswap()
     wrong = [] if form == (1, 2, RATE, RATE) else [f"channels, bytes, rate, length: {form}"]
@@ -35,14 +44,15 @@ def other_reader(path):
     for command, wanted in ((["soxi", path], ("Channels       : 1", "Sample Rate    : 48000", "48000 samples")),
                             (["file", path], ("WAVE audio", "16 bit, mono 48000 Hz"))):
         if shutil.which(command[0]):
-            return command[0], subprocess.run(command, capture_output=True, text=True, check=True).stdout, wanted
+            return command[0], subprocess.run(command, capture_output=True, text=True).stdout, wanted
     return None
 
 
 def main():
-    if len(sys.argv) != 2:
-        raise SystemExit(__doc__)
-    wrong, other = wrong_samples(sys.argv[1]), other_reader(sys.argv[1])
+    parser = parser_of(__doc__)
+    parser.add_argument("sound", metavar="FILE.wav", type=file)
+    path = str(parser.parse_args().sound)
+    wrong, other = wrong_samples(path), other_reader(path)
     if other is None:
         print("skipped: no program to read the file besides Python (apt-get install sox)")
     else:

@@ -1,5 +1,5 @@
 /* The stack that each call needs: calls of every kind and size on a painted stack, and the lowest byte that lost its paint. Prints the
- * bytes below the caller's frame, arguments and return address included, and fails where they are more than the README says. A block of
+ * bytes below the caller's frame, arguments and return address included, and fails where they are more than the header says. A block of
  * a plate keeps rows of its own, and is counted apart. */
 #include "buvcsolta.h"
 #include <stdio.h>
@@ -100,6 +100,7 @@ struct row {
     const char *name;
     void (*call)(void);
     uint64_t first, last; /* kinds */
+    size_t allowed;       /* bytes */
 };
 
 static uint64_t stiffness(uint64_t kind)
@@ -127,26 +128,26 @@ static size_t most(const struct row *r)
     return found;
 }
 
-int main(int argc, char **argv)
+int main(void)
 {
     static const struct row rows[] = {
-        {"block", call_block, 1, 6}, {"block of a plate", call_block, 7, 7},
-        {"block in place", call_block_in_place, 1, 6}, {"block in place of a plate", call_block_in_place, 7, 7},
-        {"pluck", call_pluck, 1, 7}, {"pluck by a lent table", call_pluck_with, 1, 7},
-        {"reading", call_reading, 1, 7}, {"sheet", call_sheet, 1, 7},
+        {"block", call_block, 1, 6, BUVCSOLTA_STACK_BLOCK},
+        {"block of a plate", call_block, 7, 7, BUVCSOLTA_STACK_BLOCK},
+        {"block in place", call_block_in_place, 1, 6, BUVCSOLTA_STACK_BLOCK_IN_PLACE},
+        {"block in place of a plate", call_block_in_place, 7, 7, BUVCSOLTA_STACK_BLOCK_IN_PLACE},
+        {"pluck", call_pluck, 1, 7, BUVCSOLTA_STACK_PLUCK},
+        {"pluck by a lent table", call_pluck_with, 1, 7, BUVCSOLTA_STACK_PLUCK_WITH},
+        {"reading", call_reading, 1, 7, BUVCSOLTA_STACK_READING},
+        {"sheet", call_sheet, 1, 7, BUVCSOLTA_STACK_SHEET},
     };
     enum { ROWS = sizeof rows / sizeof *rows };
     int passed = 0;
-    if (argc != ROWS + 1) {
-        fputs("usage: stack BLOCK PLATE IN_PLACE PLATE_IN_PLACE PLUCK PLUCK_WITH READING SHEET, the bytes that each may need\n", stderr);
-        return 2;
-    }
     for (int k = 0; k < ROWS; k++)
         most(&rows[k]); /* a dynamic linker looks memset up on the caller's stack in the first call */
     for (int k = 0; k < ROWS; k++) {
         size_t bytes = most(&rows[k]);
         printf("%s%s %zu", k ? ", " : "bytes of stack: ", rows[k].name, bytes);
-        passed |= bytes > strtoul(argv[k + 1], 0, 10);
+        passed |= bytes > rows[k].allowed;
     }
     puts(passed ? ": more than allowed" : "");
     return passed;

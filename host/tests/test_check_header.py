@@ -5,7 +5,8 @@
 
 import sys
 
-from check_header import differences, exported, sources
+from check_header import add_sources, differences, exported, sources
+from arguments import parser_of
 
 # How the lines of the two blocks' arguments begin.
 BLOCK, IN_PLACE = ("\n" + len(f"uint64_t {name}(") * " " for name in ("buvcsolta_block", "buvcsolta_block_in_place"))
@@ -42,9 +43,9 @@ EDITS = (
 
 
 def main():
-    if len(sys.argv) != 5:
-        raise SystemExit(__doc__)
-    header, exports, scheme = sources(sys.argv[1:])
+    parser = parser_of(__doc__)
+    add_sources(parser)
+    header, exports, scheme = sources(vars(parser.parse_args()).values())
     names = set(exported(exports))
     faults = [f"the header itself: {wrong}" for wrong in differences(header, exports, scheme, names)]
     for what, text, other in EDITS:

@@ -1,5 +1,4 @@
--- The moving columns of a row, as a run from one column to another.
--- Vocabulary between the engine's crates: no call that a maker embeds cites it.
+-- A row's moving columns, as a run from column to column. Vocabulary between the engine's crates: no call that a maker embeds cites it.
 use mathlib.Core.Bool.{Bool, not, _&&_, cond}
 use Prim.Native.Nat.{ℕ, _+_, _-_}
 use lib.Dec.{leb, ltb, eqb}

@@ -1,4 +1,4 @@
--- What is claimed of the definition. The proof is `first-bytes-tell`.
+-- What is claimed of the definition, proved as `first-bytes-tell`. Vocabulary of proofs: no promise of a public function cites it.
 use mathlib.Core.Path.{_≡_}
 use mathlib.Core.List.{List}
 use Prim.Native.Nat.{ℕ}
