@@ -17,6 +17,7 @@ use Rattle.scheme.specs.Step.{nextLevel, inexactIn, someBeyond}
 use Rattle.scheme.specs.Refusals.{notMoving, tooStrong}
 use Rattle.scheme.specs.Calls.{AfterSteps, capped}
 use Rattle.scheme.specs.Claims.{LevelPasses}
+use Rattle.pieces.specs.Pieces.{piece}
 use Rattle.steps.specs.declared.plan.Plan.{Plan}
 use Rattle.steps.specs.declared.play.Steps.{Steps}
 use Rattle.steps.specs.declared.progress.Progress.{Progress}
@@ -82,10 +83,6 @@ outOf (suc zero) a b c = a
 outOf (suc (suc zero)) a b c = b
 outOf (suc (suc (suc zero))) a b c = a
 outOf (suc (suc (suc (suc k)))) a b c = b
-
--- the most points of a piece of a row: a row of a grid has no more
-abbrev pub piece : ℕ
-piece = 64
 
 -- phases of as many levels
 pub record SameLevels (p q : ℕ) : Type 0 where

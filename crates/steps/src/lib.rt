@@ -2,7 +2,6 @@
 mod arithmetic;
 mod level;
 mod neighbours;
-mod pieces;
 mod plan;
 mod plates;
 mod play;

@@ -15,11 +15,11 @@ ghost use Rattle.steps.specs.Run.{Filled, Advanced, Stepping, Placed, fo
 ghost use Rattle.steps.specs.Pass.{Passable, Passed};
 ghost use Rattle.steps.specs.Plates.{TwoRows, InRow, Readable, secondAt};
 use crate::neighbours::around;
-use crate::pieces::base_of;
-use crate::pieces::put_piece;
 use crate::plan::Plan;
 use crate::points::next_point;
 use crate::progress::Progress;
+use pieces::base_of;
+use pieces::put_piece;
 use stretches::Stretch;
 use stretches::as_written;
 use stretches::force_at;

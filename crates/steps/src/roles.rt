@@ -7,14 +7,15 @@ ghost use lib.ListN.{length};
 ghost use Rattle.types.specs.Numbers.{ceiling};
 ghost use Rattle.scheme.specs.Lists.{point};
 ghost use Rattle.scheme.specs.Step.{sampleOf};
+ghost use Rattle.pieces.specs.Pieces.{piece};
 ghost use Rattle.steps.specs.Plan.{AtMost};
 ghost use Rattle.steps.specs.Edges.{EdgesOf};
-ghost use Rattle.steps.specs.Roles.{Steppable, SteppedInPlace, SteppedIn, Third, piece, turnedOf, olderOf, newerOf, outOf};
+ghost use Rattle.steps.specs.Roles.{Steppable, SteppedInPlace, SteppedIn, Third, turnedOf, olderOf, newerOf, outOf};
 use crate::arithmetic::sample;
 use crate::level::next_level;
-use crate::pieces::PIECE;
 use crate::plan::Plan;
 use crate::progress::Progress;
+use pieces::PIECE;
 use slices::copy;
 use types::Hit;
 
