@@ -16,7 +16,18 @@ countOf g = cond (eqb (g .rows) 1) 2 4
 
 -- no factors
 abbrev pub noFactors : Instrument → Plan
-noFactors i = record { instrument = i; own = pos 0; near = pos 0; kept = pos 0; m = pos 0; divisor = 0; half = 0; limit = 0 }
+noFactors i = record {
+  instrument = i;
+  own = pos 0;
+  near = pos 0;
+  kept = pos 0;
+  m = pos 0;
+  bend = pos 0;
+  stiff = pos 0;
+  divisor = 0;
+  half = 0;
+  limit = 0;
+}
 
 -- the factors by the settings
 abbrev pub factors : Instrument → Plan
@@ -26,6 +37,8 @@ factors i = record {
   near = pos (i .settings .q);
   kept = pos D -ℤ pos (i .settings .s);
   m = pos (i .settings .m);
+  bend = pos 2 *ℤ pos (countOf (i .grid)) *ℤ pos (i .settings .m);
+  stiff = pos (countOf (i .grid)) *ℤ pos (countOf (i .grid)) *ℤ pos (i .settings .m);
   divisor = divisor (i .settings);
   half = divisor (i .settings) / 2;
   limit = (ceiling + 1) * divisor (i .settings);

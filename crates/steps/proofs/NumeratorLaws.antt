@@ -1,5 +1,5 @@
 -- The stiffness at a point, and the numerator, as the machine adds them: by sums, by the factors of a plan, and within 2⁶³.
-use mathlib.Core.Path.{_≡_, refl, _∙_}
+use mathlib.Core.Path.{_≡_, refl, sym, ap, _∙_}
 use Prim.Native.Nat.{_*_}
 use lib.IntN.{ℤ, pos, _+ℤ_, _-ℤ_, _*ℤ_}
 use Rattle.integers.proofs.Ring.{#_, _⊕_, _⊖_, _⊗_, _≈_, ring}
@@ -10,47 +10,46 @@ use Rattle.types.specs.Numbers.{D, ceiling}
 use Rattle.plans.specs.declared.Plan.{Plan}
 use Rattle.plans.specs.Plans.{countOf}
 use Rattle.steps.specs.Plan.{bendingOf, numeratorWith, Planned, Bendable, Updatable}
-use Rattle.steps.proofs.PlanLaws.{own-is, near-is, kept-is, own-low, near-low, m-low, kept-low}
+use Rattle.steps.proofs.PlanLaws.{own-is, near-is, kept-is, m-is, bend-is, stiff-is, stiff-low, bend-low, own-low, near-low, m-low, kept-low}
 
 -- m·B by sums
-module _ {p : Plan} (h : Planned p) {pairs second sum u : ℤ} (given : Bendable p pairs second sum u) where
-  abbrev pairs# : E
-  pairs# = at pairs 2 (given .h-low)
-
+module _ {p : Plan} (h : Planned p) {second sum u : ℤ} (given : Bendable p second sum u) where
   abbrev m# : E
   m# = at (p .m) D (m-low h)
 
-  pub by-second : Num (red m# *ℤ red (at second (16 * ceiling) (given .second-low))) (p .m *ℤ second) (D * ceiling)
-  by-second = product m# (at second (16 * ceiling) (given .second-low)) (D * ceiling) tt tt (given .second-part)
+  abbrev second# : E
+  second# = at second (16 * ceiling) (given .second-low)
 
-  abbrev pub four# : E
-  four# = num 4 ⊠ pairs#
+  pub by-second : Num (red m# *ℤ red second#) (p .m *ℤ second) (D * ceiling)
+  by-second = product m# second# (D * ceiling) tt tt (given .second-part)
 
-  abbrev pub near# : E
-  near# = four# ⊠ m#
+  abbrev bend# : E
+  bend# = at (p .bend) (2 * D) (bend-low h)
 
-  pub by-sum : Num (red near# *ℤ red (at sum (4 * ceiling) (given .sum-low))) (pos 4 *ℤ pairs *ℤ p .m *ℤ sum) (2 * D * ceiling)
-  by-sum = product near# (at sum (4 * ceiling) (given .sum-low)) (2 * D * ceiling) tt tt (given .sum-part)
+  abbrev near# : E
+  near# = at sum (4 * ceiling) (given .sum-low)
+
+  pub by-sum : Num (red bend# *ℤ red near#) (p .bend *ℤ sum) (2 * D * ceiling)
+  by-sum = product bend# near# (2 * D * ceiling) tt tt (given .sum-part)
 
   abbrev pub less# : E
   less# = stored by-second tt ⊟ stored by-sum tt
 
-  abbrev pub squared# : E
-  squared# = four# ⊠ pairs#
-
   abbrev pub own# : E
-  own# = squared# ⊠ m#
-
-  pub by-own : Num (red own# *ℤ red (at u ceiling (given .u-low))) (pos 4 *ℤ pairs *ℤ pairs *ℤ p .m *ℤ u) (D * ceiling)
-  by-own = product own# (at u ceiling (given .u-low)) (D * ceiling) tt tt (given .u-part)
+  own# = at (p .stiff) D (stiff-low h) ⊠ at u ceiling (given .u-low)
 
   abbrev pub stiff# : E
-  stiff# = less# ⊞ stored by-own tt
+  stiff# = less# ⊞ own#
 
-  pub stiffness-is : val stiff# ≡ p .m *ℤ bendingOf (pos 2 *ℤ pairs) sum second u
+  abbrev c : ℤ
+  c = pos (countOf (p .instrument .grid))
+
+  pub stiffness-is : val stiff# ≡ p .m *ℤ bendingOf c sum second u
   stiffness-is =
-      ring 5 (λ m h y x u. m ⊗ y ⊖ # 4 ⊗ h ⊗ m ⊗ x ⊕ # 4 ⊗ h ⊗ h ⊗ m ⊗ u
-      ≈ m ⊗ (y ⊖ # 2 ⊗ (# 2 ⊗ h) ⊗ x ⊕ # 2 ⊗ h ⊗ (# 2 ⊗ h) ⊗ u)) refl (p .m) pairs second sum u
+      (λ j. m-is h j *ℤ second -ℤ bend-is h j *ℤ sum +ℤ stiff-is h j *ℤ u) ∙
+      ring 5 (λ m c y x u. m ⊗ y ⊖ # 2 ⊗ c ⊗ m ⊗ x ⊕ c ⊗ c ⊗ m ⊗ u ≈ m ⊗ (y ⊖ # 2 ⊗ c ⊗ x ⊕ c ⊗ c ⊗ u)) refl
+      (pos (p .instrument .settings .m)) c second sum u ∙
+      ap (λ (m : ℤ). m *ℤ bendingOf c sum second u) (sym (m-is h))
 
 -- the numerator
 module _ {p : Plan} (h : Planned p) {u sum old f stiff : ℤ} (given : Updatable p u sum old f stiff) where

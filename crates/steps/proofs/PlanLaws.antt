@@ -91,24 +91,24 @@ module _ {p : Plan} (h : Planned p) where
       e : m * (4 * (c * c)) ≡ 4 * (c * c * m)
       e = pos-inj (ring 2 (λ m c. m ⊗ (# 4 ⊗ (c ⊗ c)) ≈ # 4 ⊗ (c ⊗ c ⊗ m)) refl (pos m) (pos c))
 
-  -- with h pairs of neighbours
-  module _ (h′ : ℕ) (e : c ≡ 2 * h′) where
-    pub sum-part : (x : ℤ) → natAbs x ≤ c * ceiling → natAbs (pos 4 *ℤ pos h′ *ℤ p .m *ℤ x) ≤ 2 * D * ceiling
-    sum-part = part (4 * h′ * m) c (2 * D) (ap (λ (x : ℤ). pos 4 *ℤ pos h′ *ℤ x) m-is) (omega (arith, bent, f))
-      where
-        f : 4 * h′ * m * c ≡ 2 * (c * c * m)
-        f = pos-inj
-            (ap (λ (n : ℕ). pos (4 * h′ * m * n)) e ∙
-            ring 2 (λ h m. # 4 ⊗ h ⊗ m ⊗ (# 2 ⊗ h) ≈ # 2 ⊗ (# 2 ⊗ h ⊗ (# 2 ⊗ h) ⊗ m)) refl (pos h′) (pos m) ∙
-            ap (λ (n : ℕ). pos (2 * (n * n * m))) (sym e))
+  pub bend-is : p .bend ≡ pos 2 *ℤ pos c *ℤ pos m
+  bend-is = ap (λ (x : Plan). x .bend) (h .is)
 
-    pub u-part : (x : ℤ) → natAbs x ≤ ceiling → natAbs (pos 4 *ℤ pos h′ *ℤ pos h′ *ℤ p .m *ℤ x) ≤ D * ceiling
-    u-part x l = part (4 * h′ * h′ * m) 1 D (ap (λ (x : ℤ). pos 4 *ℤ pos h′ *ℤ pos h′ *ℤ x) m-is) (omega (arith, bent, f)) x (omega (arith, l))
-      where
-        f : 4 * h′ * h′ * m * 1 ≡ c * c * m
-        f = pos-inj
-            (ring 2 (λ h m. # 4 ⊗ h ⊗ h ⊗ m ⊗ # 1 ≈ # 2 ⊗ h ⊗ (# 2 ⊗ h) ⊗ m) refl (pos h′) (pos m) ∙
-            ap (λ (n : ℕ). pos (n * n * m)) (sym e))
+  pub stiff-is : p .stiff ≡ pos c *ℤ pos c *ℤ pos m
+  stiff-is = ap (λ (x : Plan). x .stiff) (h .is)
+
+  pub sum-part : (x : ℤ) → natAbs x ≤ c * ceiling → natAbs (p .bend *ℤ x) ≤ 2 * D * ceiling
+  sum-part = part (2 * c * m) c (2 * D) bend-is (omega (arith, bent, e))
+    where
+      e : 2 * c * m * c ≡ 2 * (c * c * m)
+      e = pos-inj (ring 2 (λ c m. # 2 ⊗ c ⊗ m ⊗ c ≈ # 2 ⊗ (c ⊗ c ⊗ m)) refl (pos c) (pos m))
+
+  pub stiff-low : natAbs (p .stiff) ≤ D
+  stiff-low = subst (λ (z : ℤ). natAbs z ≤ D) (sym stiff-is) bent
+
+  pub bend-low : natAbs (p .bend) ≤ 2 * D
+  bend-low = subst (λ (z : ℤ). natAbs z ≤ 2 * D) (sym bend-is)
+      (omega (arith, bent, N.mul-assoc 2 c m, N.mul-assoc c c m, N.mul-le-mul-right (c * m) (few .0)))
 
   pub m-low : natAbs (p .m) ≤ D
   m-low = subst (λ (z : ℤ). natAbs z ≤ D) (sym m-is) (low .1)

@@ -25,7 +25,7 @@ use Rattle.plans.specs.Plans.{countOf}
 use Rattle.steps.specs.Plan.{innerSum, bendingOf, numeratorWith, Bendable, Updatable, Ready, Summed, Neighbouring}
 use Rattle.steps.specs.Run.{nextOver, nextBy}
 use Rattle.steps.proofs.Held.{held, held-below}
-use Rattle.steps.proofs.PlanLaws.{m-is, few, near-part, second-part, sum-part, u-part, stiff-part}
+use Rattle.steps.proofs.PlanLaws.{m-is, few, near-part, second-part, sum-part, stiff-part}
 use Rattle.steps.proofs.BesideLaws.{count-is}
 
 -- ---- L and L of L by sums, of a level that is 0 where nothing moves
@@ -116,28 +116,24 @@ module _ {p : Plan} {f : ℤ} {older newer : List ℤ} {k : ℕ} {sum second : �
   summed-low = subst (λ (z : ℤ). natAbs z ≤ count * ceiling) (sym (n .sum-is))
       (over-low g in-table (point newer) (r .newer-still) ceiling (point newer) (r .newer-low) k (n .moves))
 
-  module _ (h : ℕ) (e : count ≡ 2 * h) where
-    pub bendable : Bendable p (pos h) second sum (point newer k)
-    bendable = record {
-      h-low = omega (arith, few (r .planned) .1, e);
-      second-low = N.le-trans second-low (N.mul-le-mul-right ceiling (N.mul-le-mul (few (r .planned) .1) (few (r .planned) .1)));
-      sum-low = N.le-trans summed-low (N.mul-le-mul-right ceiling (few (r .planned) .1));
-      u-low = r .newer-low k;
-      second-part = second-part (r .planned) second second-low;
-      sum-part = sum-part (r .planned) h e sum summed-low;
-      u-part = u-part (r .planned) h e (point newer k) (r .newer-low k);
-    }
+  pub bendable : Bendable p second sum (point newer k)
+  bendable = record {
+    second-low = N.le-trans second-low (N.mul-le-mul-right ceiling (N.mul-le-mul (few (r .planned) .1) (few (r .planned) .1)));
+    sum-low = N.le-trans summed-low (N.mul-le-mul-right ceiling (few (r .planned) .1));
+    u-low = r .newer-low k;
+    second-part = second-part (r .planned) second second-low;
+    sum-part = sum-part (r .planned) sum summed-low;
+  }
 
-    -- m·B is what is made of them
-    pub bent : Neighbouring (p .instrument) newer k sum (p .m *ℤ bendingOf (pos 2 *ℤ pos h) sum second (point newer k))
-    bent = record {
-      moves = n .moves;
-      sum-is = n .sum-is;
-      stiff-is = λ j. m-is (r .planned) j
-          *ℤ (ap (λ (c : ℕ). bendingOf (pos c) sum second (point newer k)) (sym e)
-          ∙ sym (bending-by-sums g in-table (point newer) (r .newer-still) k (n .moves)
-          ∙ (λ j. bendingOf (pos count) (sym (n .sum-is) j) (sym (n .second-is) j) (point newer k)))) j;
-    }
+  -- m·B is what is made of them
+  pub bent : Neighbouring (p .instrument) newer k sum (p .m *ℤ bendingOf (pos count) sum second (point newer k))
+  bent = record {
+    moves = n .moves;
+    sum-is = n .sum-is;
+    stiff-is = λ j. m-is (r .planned) j
+        *ℤ sym (bending-by-sums g in-table (point newer) (r .newer-still) k (n .moves)
+        ∙ (λ j. bendingOf (pos count) (sym (n .sum-is) j) (sym (n .second-is) j) (point newer k))) j;
+  }
 
 -- ---- a point
 

@@ -42,15 +42,13 @@ pub record Planned (p : Plan) : Type 0 where
 abbrev pub SoftGrid : Instrument → Type 0
 SoftGrid i = (i .grid .rows ≡ 1 → ⊥) → i .settings .m ≡ 0
 
--- what m·B is made of, with h pairs of neighbours
-pub record Bendable (p : Plan) (h second sum u : ℤ) : Type 0 where
-  pub h-low : natAbs h ≤ 2
+-- what m·B is made of
+pub record Bendable (p : Plan) (second sum u : ℤ) : Type 0 where
   pub second-low : natAbs second ≤ 16 * ceiling
   pub sum-low : natAbs sum ≤ 4 * ceiling
   pub u-low : natAbs u ≤ ceiling
   pub second-part : natAbs (p .m *ℤ second) ≤ D * ceiling
-  pub sum-part : natAbs (pos 4 *ℤ h *ℤ p .m *ℤ sum) ≤ 2 * D * ceiling
-  pub u-part : natAbs (pos 4 *ℤ h *ℤ h *ℤ p .m *ℤ u) ≤ D * ceiling
+  pub sum-part : natAbs (p .bend *ℤ sum) ≤ 2 * D * ceiling
 
 -- what a point's numerator is made of: stiff is m·B. No sum of it passes 2⁶³
 pub record Updatable (p : Plan) (u sum old f stiff : ℤ) : Type 0 where

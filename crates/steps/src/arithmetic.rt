@@ -32,14 +32,12 @@ pub(crate) fn sample(v: i64) -> i16
     read_out(v) as i16
 }
 
-// The stiffness m·B at a point with h pairs of neighbours, one on a line and two on a grid: B, L of L, from the sum of its neighbours'
-// sums, the sum of its neighbours, its own value.
-pub(crate) fn stiffness(plan: Plan, h: i64, second: i64, sum: i64, u: i64) -> i64
-    requires { ⌜ Planned plan × Bendable plan h second sum u ⌝ }
-    ensures { λ r. ⌜ r ≡ plan .m *ℤ bendingOf (pos 2 *ℤ h) sum second u ⌝ }
+// The stiffness m·B at a point: B, L of L, from the sum of its neighbours' sums, the sum of its neighbours, its own value.
+pub(crate) fn stiffness(plan: Plan, second: i64, sum: i64, u: i64) -> i64
+    requires { ⌜ Planned plan × Bendable plan second sum u ⌝ }
+    ensures { λ r. ⌜ r ≡ plan .m *ℤ bendingOf (pos (countOf (plan .instrument .grid))) sum second u ⌝ }
 {
-    let m = plan.m;
-    m * second - 4 * h * m * sum + 4 * h * h * m * u
+    plan.m * second - plan.bend * sum + plan.stiff * u
 }
 
 // The numerator at a point: from its last value u, the sum of its neighbours, its before-last value p, the force f, the stiffness m·B.

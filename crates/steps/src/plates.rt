@@ -93,7 +93,7 @@ fn plate_point(
     let second = second_at(sums, rows, c, below);
     let sum = sums[rows.here + c];
     sums[rows.other + c] = below;
-    let stiff = stiffness(plan, 2, second, sum, newer[at]);
+    let stiff = stiffness(plan, second, sum, newer[at]);
     next_point(plan, older, newer, at, sum, stiff, s, out)
 }
 

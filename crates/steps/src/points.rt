@@ -109,7 +109,7 @@ fn bar_run(plan: Plan, older: &[i64], newer: &[i64], s: Stretch, out: &mut [i64]
     let mut here = sum_at(newer, at);
     while at < s.to {
         let right = sum_at(newer, at + 1);
-        let stiff = stiffness(plan, 1, left + right, here, newer[at]);
+        let stiff = stiffness(plan, left + right, here, newer[at]);
         let p = next_point(plan, older, newer, at, here, stiff, s, out);
         if !p.within {
             return p;

@@ -49,18 +49,21 @@ module _ (c : tie.After-count-in) where
   abbrev own# : E
   own# = num 2 ⊠ num 65536 ⊟ count# ⊠ q#
 
+  abbrev bend# : E
+  bend# = num 2 ⊠ count# ⊠ m#
+
+  abbrev stiff# : E
+  stiff# = count# ⊠ count# ⊠ m#
+
   abbrev divisor# : E
   divisor# = num 65536 ⊞ s#
 
   abbrev limit# : E
   limit# = num 8795824586753 ⊠ divisor#
 
--- where q and s are read
-abbrev at-s : tie.After-struct-known2 → tie.After-count-in
-at-s c = c .before .before
-
-abbrev at-m : tie.After-struct-known3 → tie.After-count-in
-at-m c = c .before .before .before
+-- where the settings are read
+abbrev at-s : tie.After-struct-known3 → tie.After-count-in
+at-s c = c .before .before .before
 
 wrong-coefficient-requires : tie.Need-wrong-coefficient-requires
 wrong-coefficient-requires c κs = search needs
@@ -75,55 +78,67 @@ count-in-requires c κs = search needs
 cast-q : tie.Need-cast-q
 cast-q c = fits (q# (c .before)) tt
 
+cast-m : tie.Need-cast-m
+cast-m c = fits (m# (c .before .before)) tt
+
 cast-s : tie.Need-cast-s
 cast-s c = fits (s# (at-s c)) tt
 
 add-divisor : tie.Need-add-divisor
 add-divisor c = fits (divisor# (at-s c)) tt
 
-mul-t7 : tie.Need-mul-t7
-mul-t7 c = search needs
-
 mul-t8 : tie.Need-mul-t8
-mul-t8 c = let p = at-s c in fits (count# p ⊠ q# p) tt
+mul-t8 c = search needs
 
-sub-t9 : tie.Need-sub-t9
-sub-t9 c = fits (own# (at-s c)) tt
+mul-t9 : tie.Need-mul-t9
+mul-t9 c = let p = at-s c in fits (count# p ⊠ q# p) tt
 
 sub-t10 : tie.Need-sub-t10
-sub-t10 c = fits (num 65536 ⊟ s# (at-s c)) tt
+sub-t10 c = fits (own# (at-s c)) tt
 
-cast-t11 : tie.Need-cast-t11
-cast-t11 c = fits (m# (at-m c)) tt
+sub-t11 : tie.Need-sub-t11
+sub-t11 c = fits (num 65536 ⊟ s# (at-s c)) tt
 
--- a number that fits an unsigned width
-cast-t12 : tie.Need-cast-t12
-cast-t12 c =
-    let p = at-m c in
+mul-t12 : tie.Need-mul-t12
+mul-t12 c = fits (num 2 ⊠ count# (at-s c)) tt
+
+mul-t13 : tie.Need-mul-t13
+mul-t13 c = fits (bend# (at-s c)) tt
+
+mul-t14 : tie.Need-mul-t14
+mul-t14 c = let p = at-s c in fits (count# p ⊠ count# p) tt
+
+mul-t15 : tie.Need-mul-t15
+mul-t15 c = fits (stiff# (at-s c)) tt
+
+-- numbers that fit an unsigned width
+cast-t16 : tie.Need-cast-t16
+cast-t16 c =
+    let p = at-s c in
     said (λ (z : ℤ). T (nonNeg z) × Fits w32 (natAbs z)) (divisor# p) tt (tt, record { fits = omega (arith, low p .2) })
 
-div-t13 : tie.Need-div-t13
-div-t13 c = (omega arith, fits (divisor# (at-m c) ÷ num 2) tt)
+div-t17 : tie.Need-div-t17
+div-t17 c = (omega arith, fits (divisor# (at-s c) ÷ num 2) tt)
 
-cast-t14 : tie.Need-cast-t14
-cast-t14 c =
-    let p = at-m c in
+cast-t18 : tie.Need-cast-t18
+cast-t18 c =
+    let p = at-s c in
     said (λ (z : ℤ). T (nonNeg z) × Fits w32 (natAbs z)) (divisor# p ÷ num 2) tt (tt, record { fits = omega (arith, low p .2) })
 
-add-t15 : tie.Need-add-t15
-add-t15 c = search needs
+add-t19 : tie.Need-add-t19
+add-t19 c = search needs
 
-mul-t16 : tie.Need-mul-t16
-mul-t16 c = fits (limit# (at-m c)) tt
+mul-t20 : tie.Need-mul-t20
+mul-t20 c = fits (limit# (at-s c)) tt
 
-cast-t17 : tie.Need-cast-t17
-cast-t17 c =
-    let p = at-m c in
+cast-t21 : tie.Need-cast-t21
+cast-t21 c =
+    let p = at-s c in
     said (λ (z : ℤ). T (nonNeg z) × Fits w64 (natAbs z)) (limit# p) tt (tt, record { fits = omega (arith, low p .2) })
 
 returns-2 : tie.Need-returns-2
 returns-2 c =
-    let p = at-m c in
+    let p = at-s c in
     let i = s p .args .i in
     (λ j. record {
       instrument = i;
@@ -131,6 +146,8 @@ returns-2 c =
       near = is (q# p) tt j;
       kept = is (num 65536 ⊟ s# p) tt j;
       m = is (m# p) tt j;
+      bend = is (bend# p) tt j;
+      stiff = is (stiff# p) tt j;
       divisor = natAbs (is (divisor# p) tt j);
       half = natAbs (is (divisor# p ÷ num 2) tt j);
       limit = natAbs (is (limit# p) tt j);
@@ -144,17 +161,21 @@ make-plan-spec =
     returns
     count-in-requires
     cast-q
+    cast-m
     cast-s
     add-divisor
-    mul-t7
     mul-t8
-    sub-t9
+    mul-t9
     sub-t10
-    cast-t11
-    cast-t12
-    div-t13
-    cast-t14
-    add-t15
-    mul-t16
-    cast-t17
+    sub-t11
+    mul-t12
+    mul-t13
+    mul-t14
+    mul-t15
+    cast-t16
+    div-t17
+    cast-t18
+    add-t19
+    mul-t20
+    cast-t21
     returns-2)

@@ -15,7 +15,6 @@ use Rattle.types.specs.Numbers.{ceiling}
 use Rattle.scheme.specs.Lists.{point}
 use Rattle.scheme.proofs.Laws.Step.{moving-inside}
 use Rattle.plans.specs.Plans.{countOf}
-use Rattle.plans.proofs.PlanLaws.{four-of}
 use Rattle.steps.specs.Plan.{bendingOf, Bendable, Ready, Summed, Neighbouring}
 use Rattle.steps.specs.Plates.{TwoRows, InRow, Readable, secondAt}
 use Rattle.steps.proofs.Held.{held, held-below}
@@ -98,10 +97,7 @@ module _ (c : tie.After-second-at) where
   summed : Summed (g start) (start .args .newer .now) (k start) sum second
   summed = plate-beside (ready start) (two start) (row start) (first start) (last start)
 
-  -- as they were stored: four neighbours, the sums, and the point's own value
-  four : countOf (g start) ≡ 4
-  four = four-of (g start) (row start .grid)
-
+  -- as they were stored: the sums, and the point's own value
   second-is : toZ w64 (ofZ w64 (c .second-at .result)) ≡ second
   second-is =
       back (c .second-at .result) (c .second-at .ok) ∙ c .second-at .ensures ∙
@@ -158,8 +154,8 @@ stiffness-requires : tie.Need-stiffness-requires
 stiffness-requires c κs =
     let b = c .before .before .before .before in (
       ready (start b) .planned,
-      coe 1 0 (j. Bendable (start b .args .plan) (pos 2) (second-is b j) (sum-is b j) (u-is b j))
-          (bendable (ready (start b)) (summed b) 2 (four b)),
+      coe 1 0 (j. Bendable (start b .args .plan) (second-is b j) (sum-is b j) (u-is b j))
+          (bendable (ready (start b)) (summed b)),
     )
 
 next-point-requires : tie.Need-next-point-requires
@@ -169,11 +165,11 @@ next-point-requires c κs =
     let s = start b in
     let plan = s .args .plan in
     let stiff-is = back (e .stiffness .result) (e .stiffness .ok) ∙ e .stiffness .ensures ∙
-    (λ j. plan .m *ℤ bendingOf (pos 4) (sum-is b j) (second-is b j) (u-is b j)) in (
+    (λ j. plan .m *ℤ bendingOf (pos (countOf (plan .instrument .grid))) (sum-is b j) (second-is b j) (u-is b j)) in (
       (
         ready s,
         coe 1 0 (j. Neighbouring (plan .instrument) (s .args .newer .now) (k s) (sum-is b j) (stiff-is j))
-            (bent (ready s) (summed b) 2 (four b)),
+            (bent (ready s) (summed b)),
       ),
       (s .pre .0 .1, first s, last s),
     )

@@ -12,7 +12,6 @@ use Rattle.bounded.proofs.Num.{back}
 use Rattle.bounded.proofs.Expr.{E, _⊞_, fits, is, red}
 use Rattle.scheme.specs.Instruments.{bar, kind}
 use Rattle.plans.specs.Plans.{countOf}
-use Rattle.plans.proofs.PlanLaws.{two-of}
 use Rattle.scheme.specs.Lists.{point}
 use Rattle.steps.specs.Plan.{bendingOf, Bendable, Ready, Summed, Neighbouring}
 use Rattle.steps.specs.Run.{Next, nextBy, OnLine, barSum}
@@ -103,10 +102,7 @@ module _ (c : tie.After-sum-at3 Inv-loop μ-loop) where
   summed = bar-beside (s .args .plan .instrument .grid) (is-bar s) (s .args .newer .now) (ready s .newer-long) (on s) (k turn)
       (first turn) (last turn)
 
-  -- two neighbours, and the point's own value, as the machine has them
-  two : countOf (s .args .plan .instrument .grid) ≡ 2
-  two = two-of (s .args .plan .instrument .grid) (on s .line)
-
+  -- the point's own value, as the machine has it
   u-is : toZ w64 (ofZ w64 (point (s .args .newer .now) (k turn))) ≡ point (s .args .newer .now) (k turn)
   u-is = held (ready s .newer-low (k turn))
 
@@ -152,8 +148,8 @@ stiffness-requires : tie.Need-stiffness-requires Inv-loop μ-loop
 stiffness-requires c κs =
     let r = c .before in (
       ready (s r) .planned,
-      coe 1 0 (j. Bendable (s r .args .plan) (pos 1) (is (outer# r) tt j) (turn r .before .before .loop .inv .2 j) (u-is r j))
-          (bendable (ready (s r)) (summed r) 1 (two r)),
+      coe 1 0 (j. Bendable (s r .args .plan) (is (outer# r) tt j) (turn r .before .before .loop .inv .2 j) (u-is r j))
+          (bendable (ready (s r)) (summed r)),
     )
 
 next-point-requires : tie.Need-next-point-requires Inv-loop μ-loop
@@ -164,11 +160,11 @@ next-point-requires c κs =
     let plan = s r .args .plan in
     let here = t .before .before .loop .inv .2 in
     let stiff-is = back (b .stiffness .result) (b .stiffness .ok) ∙ b .stiffness .ensures ∙
-    (λ j. plan .m *ℤ bendingOf (pos 2) (here j) (is (outer# r) tt j) (u-is r j)) in (
+    (λ j. plan .m *ℤ bendingOf (pos (countOf (plan .instrument .grid))) (here j) (is (outer# r) tt j) (u-is r j)) in (
       (
         ready (s r),
         coe 1 0 (j. Neighbouring (plan .instrument) (s r .args .newer .now) (k t) (here j) (stiff-is j))
-            (bent (ready (s r)) (summed r) 1 (two r)),
+            (bent (ready (s r)) (summed r)),
       ),
       (placed-after (s r .pre .0 .1) (inv t .ran .long), first t, last t),
     )
