@@ -7,16 +7,7 @@ ROOT = pathlib.Path(__file__).resolve().parent.parent.parent
 SPAN = re.compile(r"(`+)(.+?)(?<!`)\1(?!`)")
 
 # Pages that neither check_lines.py nor check_names.py looks at yet. Where this is empty they look at all.
-LATER = (
-    "docs/DECISIONS.md",
-    "docs/DEMANDS.md",
-    "docs/EDITS.md",
-    "docs/PROOF.md",
-    "docs/STATEMENT.md",
-    *(f"docs/landings/{name}.md" for name in (
-        "01-scheme", "02-engine", "03-sheet", "04-ring-c-library", "05-whole-cue", "06-shape", "07-signed", "08-gate", "09-plates",
-        "10-samples", "11-counts", "12-two-levels", "13-mirror-image", "14-paper-order", "15-own-pluck")),
-)
+LATER = ()
 
 
 def all_pages():
