@@ -11,9 +11,10 @@ use lib.ListN.{length}
 use Rattle.types.specs.declared.Instrument.{Instrument}
 use Rattle.types.specs.declared.Hit.{Hit}
 use Rattle.scheme.specs.Instruments.{points}
+use Rattle.pieces.specs.Pieces.{piece}
 use Rattle.plans.specs.declared.Plan.{Plan}
 use Rattle.steps.specs.declared.progress.Progress.{Progress}
-use Rattle.steps.specs.Roles.{Steppable, Stepped, SteppedInPlace, SteppedIn, piece, turnedOf, phaseAfter, olderOf, newerOf, outOf}
+use Rattle.steps.specs.Roles.{Steppable, Stepped, SteppedInPlace, SteppedIn, turnedOf, phaseAfter, olderOf, newerOf, outOf}
 use Rattle.steps.specs.Pass.{Passable, Passed}
 
 -- ---- a phase that is none of 0 to 3

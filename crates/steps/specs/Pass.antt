@@ -9,23 +9,14 @@ use Rattle.types.specs.declared.Instrument.{Instrument}
 use Rattle.types.specs.declared.Hit.{Hit}
 use Rattle.scheme.specs.Instruments.{points}
 use Rattle.plans.specs.declared.Plan.{Plan}
+use Rattle.pieces.specs.Pieces.{piece}
 use Rattle.steps.specs.declared.progress.Progress.{Progress}
 use Rattle.steps.specs.Run.{Stepping}
-use Rattle.steps.specs.Roles.{Steppable, Stepped, piece}
+use Rattle.steps.specs.Roles.{Steppable, Stepped}
 
 -- of older and out, the one that the values are put into
 abbrev pub target : (inPlace : Bool) → (older out : List ℤ) → List ℤ
 target inPlace older out = cond inPlace older out
-
--- the point whose value goes to place 0 of out: in place the first of a piece, of a plate that of the row
-abbrev pub baseOf : (inPlace : Bool) → ℕ → ℕ
-baseOf inPlace first = cond inPlace first 0
-
--- where a piece of the points as far as `to` may end
-pub record PieceEnds (inPlace : Bool) (at to end : ℕ) : Type 0 where
-  pub some : at < end
-  pub upto : end ≤ to
-  pub few : inPlace ≡ true → end ≤ at + piece
 
 -- room in out for points as far as `to`: in place for a piece
 pub record RowRoom (inPlace : Bool) (to : ℕ) (out : List ℤ) : Type 0 where

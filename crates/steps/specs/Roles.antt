@@ -18,6 +18,7 @@ use Rattle.scheme.specs.Refusals.{notMoving, tooStrong}
 use Rattle.scheme.specs.Calls.{AfterSteps, capped}
 use Rattle.scheme.specs.Claims.{LevelPasses}
 use Rattle.plans.specs.declared.Plan.{Plan}
+use Rattle.pieces.specs.Pieces.{piece}
 use Rattle.steps.specs.declared.play.Steps.{Steps}
 use Rattle.steps.specs.declared.progress.Progress.{Progress}
 use Rattle.steps.specs.Plan.{Planned}
@@ -82,10 +83,6 @@ outOf (suc zero) a b c = a
 outOf (suc (suc zero)) a b c = b
 outOf (suc (suc (suc zero))) a b c = a
 outOf (suc (suc (suc (suc k)))) a b c = b
-
--- the most points of a piece of a row: a row of a grid has no more
-abbrev pub piece : ℕ
-piece = 64
 
 -- the phase after n steps that began in the phase `first`
 unfoldable pub phaseAfter : (first n : ℕ) → ℕ

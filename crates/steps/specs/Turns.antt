@@ -11,9 +11,10 @@ use Rattle.types.specs.declared.Refusal.{Refusal}
 use Rattle.types.specs.declared.Grid.{Grid}
 use Rattle.scheme.specs.Instruments.{points}
 use Rattle.scheme.specs.Calls.{AfterBlock, AfterInPlace, accepted}
+use Rattle.pieces.specs.Pieces.{piece}
 use Rattle.steps.specs.declared.turns.InPlace.{InPlace}
 use Rattle.steps.specs.declared.turns.InTurn.{InTurn}
-use Rattle.steps.specs.Roles.{piece, olderOf, newerOf}
+use Rattle.steps.specs.Roles.{olderOf, newerOf}
 
 -- the third slice that the steps begin with: of three levels, in phase 0, one of the grid's length; of two, in phase 3, room for a piece
 pub data Opens (g : Grid) (work : List ℤ) : ℕ → Type 0 where

@@ -2,7 +2,6 @@
 mod arithmetic;
 mod level;
 mod neighbours;
-mod pieces;
 mod plates;
 mod play;
 mod points;

@@ -68,7 +68,7 @@ put-requires c κs = tt
 cast-put-2 : tie.Need-cast-put-2 Inv-loop μ-loop
 cast-put-2 c =
     let r = c .before .before .before .before .before .before .before in
-    record { fits = omega (arith, inside r .inside, size r .columns-high) }
+    record { fits = omega (arith, inside r .rising, inside r .inside, size r .columns-high) }
 
 put-requires-2 : tie.Need-put-requires-2 Inv-loop μ-loop
 put-requires-2 c κs = tt

@@ -1,5 +1,5 @@
 -- `row_pass` meets its contract: the pieces passed have their values.
-use mathlib.Core.Path.{_≡_, ap, _∙_}
+use mathlib.Core.Path.{_≡_, sym, ap, _∙_, subst}
 use mathlib.Core.Bool.{true, false}
 use Prim.Native.Nat.{_+_, _-_, _≤_}
 use native.Mathlib.Omega.{arith}
@@ -8,9 +8,10 @@ use borrow.Author.Tests.{not-true, not-false}
 use lib.IntN.{pos}
 use lib.ListN.{length}
 use Rattle.scheme.specs.Instruments.{points}
+use Rattle.pieces.proofs.PieceLaws.{PieceEnds, piece-ends}
 use Rattle.steps.specs.Plan.{Ready}
 use Rattle.steps.specs.Run.{Placed, Moves}
-use Rattle.steps.specs.Pass.{PieceEnds, Passing}
+use Rattle.steps.specs.Pass.{Passing}
 use Rattle.steps.proofs.PlanLaws.{few-points, m-none}
 use Rattle.steps.proofs.FillLaws.{passed}
 use Rattle.steps.proofs.HitLaws.{some-move, run-inside}
@@ -34,8 +35,9 @@ module _ (c : tie.After-base-of Inv-loop μ-loop) where
   abbrev s : tie.Start Inv-loop μ-loop
   s = loop .before .before
 
-  abbrev ends : PieceEnds (s .args .in-place) (loop .loop .at) (s .args .to) (c .before .piece-end .result)
-  ends = c .before .piece-end .ensures
+  ends : PieceEnds (s .args .in-place) (loop .loop .at) (s .args .to) (c .before .piece-end .result)
+  ends = subst (PieceEnds (s .args .in-place) (loop .loop .at) (s .args .to)) (sym (c .before .piece-end .ensures))
+      (piece-ends (s .args .in-place) (c .before .before .loop-test .taken))
 
   abbrev done : Passing (s .args .plan .instrument) (s .args .hit) (s .args .write) (s .args .in-place) (s .args .older .now)
       (s .args .newer .now) (s .args .out .now) (loop .loop .older) (loop .loop .out) (s .args .from) (loop .loop .at)
@@ -91,7 +93,7 @@ loop-holds : tie.Need-loop-holds Inv-loop μ-loop
 loop-holds c = (passing-none _ _ _, omega arith, c .before .pre .1 .0 .order)
 
 piece-end-requires : tie.Need-piece-end-requires Inv-loop μ-loop
-piece-end-requires c κs = c .loop-test .taken
+piece-end-requires c κs = tt
 
 base-of-requires : tie.Need-base-of-requires Inv-loop μ-loop
 base-of-requires c κs = tt
@@ -126,14 +128,7 @@ abbrev looked : tie.Else3 Inv-loop μ-loop → tie.After-out Inv-loop μ-loop
 looked c = c .before .before
 
 put-piece-requires : tie.Need-put-piece-requires Inv-loop μ-loop
-put-piece-requires c κs =
-    let o = looked (c .before .before) in
-    let b = worked o in (
-      placed b .above,
-      placed b .order,
-      omega (arith, placed b .room, o .before .row-run .ensures .long),
-      omega (arith, inside b, ready b .older-long),
-    )
+put-piece-requires c κs = tt
 
 -- and put in its place
 module _ (c : tie.After-struct-known3 Inv-loop μ-loop) where
@@ -157,7 +152,13 @@ module _ (c : tie.After-struct-known3 Inv-loop μ-loop) where
       let within = not-false _ (seen .if3 .left) in
       passing-append (loop b .loop .inv .1) (moves b .order) (done b)
       (piece-passing (a .plan .instrument) (a .hit) (a .write) (a .in-place) (aside b) (looked seen .before .row-run .ensures) within
-      (put .put-piece .ensures .0) (put .put-piece .ensures .1)) within
+      (record {
+        above = placed b .above;
+        order = placed b .order;
+        first = omega (arith, placed b .room, looked seen .before .row-run .ensures .long);
+        second = omega (arith, inside b, ready b .older-long);
+      })
+      (put .put-piece .ensures)) within
 
 add-inexact : tie.Need-add-inexact Inv-loop μ-loop
 add-inexact c =
