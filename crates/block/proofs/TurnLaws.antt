@@ -8,13 +8,13 @@ use lib.ListN.{length, replicate}
 use Rattle.types.specs.declared.BlockAnswer.{BlockAnswer}
 use Rattle.types.specs.declared.Refusal.{Refusal}
 use Rattle.scheme.specs.Calls.{AfterBlock, AfterInPlace, blockLeft, inPlaceLeft}
-use Rattle.steps.specs.declared.turns.InPlace.{InPlace}
-use Rattle.steps.specs.declared.turns.InTurn.{InTurn}
-use Rattle.steps.specs.Roles.{olderOf, newerOf}
-use Rattle.steps.specs.Turns.{Turned, TurnedInPlace}
-use Rattle.steps.proofs.RoleLaws.{roles-at}
+use Rattle.steps.specs.declared.call.InPlace.{InPlace}
+use Rattle.steps.specs.declared.call.InTurn.{InTurn}
+use Rattle.turns.specs.Turns.{olderOf, newerOf}
+use Rattle.steps.specs.Left.{LeftInTurn, LeftInPlace}
+use Rattle.turns.proofs.TurnLaws.{turn-at}
 
-module _ {r : Refusal} {b : AfterBlock} {t : InTurn} {older newer work samples : List ℤ} (q : Turned r b t older newer work samples) where
+module _ {r : Refusal} {b : AfterBlock} {t : InTurn} {older newer work samples : List ℤ} (q : LeftInTurn r b t older newer work samples) where
   abbrev told : BlockAnswer
   told = record { steps = t .steps; inexact = t .inexact; refusal = t .refusal }
 
@@ -25,14 +25,14 @@ module _ {r : Refusal} {b : AfterBlock} {t : InTurn} {older newer work samples :
   pub left-refused : t .begun ≡ false → blockLeft told older newer work samples ≡ b
   left-refused e =
       let kept = q .refused e in
-      let roles = roles-at (t .phase) older newer work 0 (q .phase-is ∙ ap (λ (n : ℕ). n % 3) (kept .0)) in
+      let roles = turn-at (t .turn) older newer work 0 (q .turn-is ∙ ap (λ (n : ℕ). n % 3) (kept .0)) in
       let first = sym (roles .older-is) ∙ q .older-is in
       let second = sym (roles .newer-is) ∙ q .newer-is in
       λ k. blockLeft (answer k) (first k) (second k) (kept .1 k) (q .samples-are k)
 
   -- the levels were put back in their places, and work was cleared
-  pub left-carried : {older₁ newer₁ work₁ : List ℤ} → t .begun ≡ true → older₁ ≡ olderOf (t .phase) older newer work
-      → newer₁ ≡ newerOf (t .phase) older newer work → work₁ ≡ replicate (length work) (pos 0)
+  pub left-carried : {older₁ newer₁ work₁ : List ℤ} → t .begun ≡ true → older₁ ≡ olderOf (t .turn) older newer work
+      → newer₁ ≡ newerOf (t .turn) older newer work → work₁ ≡ replicate (length work) (pos 0)
       → blockLeft told older₁ newer₁ work₁ samples ≡ b
   left-carried e f g h =
       let first = f ∙ q .older-is in
@@ -40,7 +40,7 @@ module _ {r : Refusal} {b : AfterBlock} {t : InTurn} {older newer work samples :
       let third = h ∙ sym (q .carried e .zeros-are) in
       λ k. blockLeft (answer k) (first k) (second k) (third k) (q .samples-are k)
 
-module _ {b : AfterInPlace} {t : InPlace} {older newer samples : List ℤ} (q : TurnedInPlace b t older newer samples) where
+module _ {b : AfterInPlace} {t : InPlace} {older newer samples : List ℤ} (q : LeftInPlace b t older newer samples) where
   abbrev told-two : BlockAnswer
   told-two = record { steps = t .steps; inexact = t .inexact; refusal = t .refusal }
 

@@ -26,17 +26,17 @@ pub fn block(
     ensures { λ r. ⌜ blockLeft r (now (older .exit)) (now (newer .exit)) (now (work .exit)) (now (samples .exit))
         ≡ block i (now (older .entry)) (now (newer .entry)) (now (work .entry)) (now (samples .entry)) pick hit ⌝ }
 {
-    let turn = steps_in_turn(i, older, newer, work, samples, pick, hit);
-    let refusal = turn.refusal;
+    let told = steps_in_turn(i, older, newer, work, samples, pick, hit);
+    let refusal = told.refusal;
     let answer = BlockAnswer {
-        steps: turn.steps,
-        inexact: turn.inexact,
+        steps: told.steps,
+        inexact: told.inexact,
         refusal,
     };
-    if !turn.begun {
+    if !told.begun {
         return answer;
     }
-    settle(older, newer, work, turn.phase);
+    settle(older, newer, work, told.turn);
     clear(work);
     answer
 }

@@ -1,8 +1,8 @@
 -- A kind by its number.
 use mathlib.Core.Path.{_≡_, refl, sym, ap, _∙_, subst}
 use mathlib.Core.Bool.{Bool, true, false, _&&_, and-false}
-use mathlib.Core.Logic.{inl, inr, _⊎_}
 use Prim.Native.Nat.{ℕ, zero, suc, _+_, _*_, _≤_, _<_}
+use native.Mathlib.Decide.{ℕ-discrete}
 use native.Mathlib.Omega.{arith}
 use borrow.Author.Tests.{eqb-true, lt-leb}
 use lib.Dec.{T, leb, eqb, leb→le}
@@ -82,14 +82,13 @@ line-size c r =
     by-range 1 4 tt tt (λ K. sizeIn K c r ≡ (within 3 1024 c && within 1 1 r)) (λ t. e) (λ t. e) (λ t. e) (λ t. e) (λ t. absurd t)
     (λ t. absurd t) (λ t. absurd t)
 
-pub grid-size : {k : ℕ} (c r : ℕ) → (k ≡ 5) ⊎ (k ≡ 7) → sizeIn (kindOf k) c r ≡ gridSize c r
+pub grid-size : (c r k : ℕ) → (k ≡ 6 → ⊥) → 5 ≤ k → k ≤ 7 → sizeIn (kindOf k) c r ≡ gridSize c r
 unfolding sizeIn
-grid-size c r (inl e) = simp (kind-is membrane e)
-grid-size c r (inr e) = simp (kind-is plate e)
-
-pub square-size : {k : ℕ} (c r : ℕ) → k ≡ 6 → sizeIn (kindOf k) c r ≡ (within 3 64 c && within c c r)
-unfolding sizeIn
-square-size c r e = simp (kind-is roundMembrane e, within-one c r)
+grid-size c r k n l h = go (ℕ-discrete k 5)
+  where
+    go : Dec (k ≡ 5) → sizeIn (kindOf k) c r ≡ gridSize c r
+    go (yes e) = simp (kind-is membrane e)
+    go (no m) = let e : k ≡ 7 = omega (arith, n, m) in simp (kind-is plate e)
 
 pub string-stable : (q m k : ℕ) → 1 ≤ k → k ≤ 3 → stableIn (kindOf k) q m ≡ (leb q D && eqb m 0)
 unfolding stableIn

@@ -1,6 +1,7 @@
 // What goes by the kind number: sizes, and limits of stability.
 ghost use mathlib.Core.Path.{_≡_};
 ghost use mathlib.Core.Bool.{_&&_};
+ghost use Prim.Native.Nat.{_≤_};
 ghost use Rattle.scheme.specs.Instruments.{kindOf, within, sizeIn, inTable, stableIn};
 ghost use Rattle.sizes.specs.Sizes.{pointsOf};
 use types::Grid;
@@ -24,7 +25,18 @@ fn is_sized(columns: usize, most: usize, rows: usize, low: usize, high: usize) -
     }
 }
 
-// Whether the table has these columns and rows for the kind: a round membrane has as many rows as columns.
+// The same of kinds 5 to 7: a round membrane has as many rows as columns.
+fn is_grid_sized(kind: u64, columns: usize, rows: usize) -> bool
+    requires { ⌜ (5 ≤ kind) × (kind ≤ 7) ⌝ }
+    ensures { λ r. ⌜ r ≡ sizeIn (kindOf kind) columns rows ⌝ }
+{
+    match kind {
+        Grid::MEMBRANE_ROUND => is_sized(columns, 64, rows, columns, columns),
+        _ => is_sized(columns, 64, rows, 3, 64),
+    }
+}
+
+// Whether the table has these columns and rows for the kind.
 // Ruled out: two columns; 65 columns of kind 5; only square plates.
 pub fn has_size(g: Grid) -> bool
     ensures { λ r. ⌜ r ≡ inTable g ⌝ }
@@ -34,8 +46,7 @@ pub fn has_size(g: Grid) -> bool
     let rows = g.rows;
     match kind {
         Grid::STRING_FIXED..=Grid::BAR => is_sized(columns, 1024, rows, 1, 1),
-        Grid::MEMBRANE_RECTANGULAR | Grid::PLATE => is_sized(columns, 64, rows, 3, 64),
-        Grid::MEMBRANE_ROUND => is_sized(columns, 64, rows, columns, columns),
+        Grid::MEMBRANE_RECTANGULAR..=Grid::PLATE => is_grid_sized(kind, columns, rows),
         _ => false,
     }
 }

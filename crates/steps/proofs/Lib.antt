@@ -6,7 +6,7 @@ pub mod PlanLaws
 pub mod NumeratorLaws
 pub mod BesideLaws
 pub mod PointLaws
-pub mod RoleLaws
+pub mod StepLaws
 pub mod BendLaws
 pub mod LineLaws
 pub mod HitLaws
@@ -15,4 +15,4 @@ pub mod RowLaws
 pub mod PlateLaws
 pub mod PlateRowLaws
 pub mod PlayLaws
-pub mod TurnLaws
+pub mod CallLaws

@@ -26,7 +26,7 @@ use Rattle.steps.specs.declared.plates.SumRows.{SumRows}
 use Rattle.steps.specs.declared.progress.Progress.{Progress}
 use Rattle.steps.specs.Plan.{AtMost, innerSum}
 use Rattle.steps.specs.Run.{Filled, fourBeside}
-use Rattle.steps.specs.Roles.{Steppable}
+use Rattle.steps.specs.Steps.{Steppable}
 use Rattle.steps.specs.Pass.{target, Passable, Passing, Passed}
 use Rattle.steps.specs.Plates.{SumRow, TwoRows, InRow}
 use Rattle.steps.proofs.KindLaws.{Edge, at-edge, wide, plate-sized}

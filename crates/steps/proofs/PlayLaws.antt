@@ -25,8 +25,9 @@ use Rattle.scheme.proofs.Laws.Calls.{play-ends, play-goes, next-passes, capped-
 use Rattle.plans.specs.declared.Plan.{Plan}
 use Rattle.steps.specs.declared.play.Steps.{Steps}
 use Rattle.steps.specs.declared.progress.Progress.{Progress}
-use Rattle.steps.specs.Roles.{Room, Steppable, Stepped, SteppedIn, Played, turnedOf, olderOf, newerOf, outOf}
-use Rattle.steps.proofs.RoleLaws.{turned-older, turned-newer, turned-room}
+use Rattle.turns.specs.Turns.{nextTurn, olderOf, newerOf, outOf}
+use Rattle.steps.specs.Steps.{Room, Steppable, Stepped, SteppedIn, Played}
+use Rattle.turns.proofs.TurnLaws.{turned-older, turned-newer, turned-room}
 
 -- ---- steps done before the rest
 
@@ -140,11 +141,11 @@ module _ {i : Instrument} {pick n j held : ℕ} {hit : Hit} {whole : AfterSteps}
   samples-long = ap length (g .samples-are) ∙ length-append (g .vs) (g .places) ∙ omega (arith, g .count, g .long)
 
   -- no further step
-  ended-by : (phase : ℕ) (r : Refusal) (places : List ℤ) → samples ≡ g .vs ++ places
+  ended-by : (turn : ℕ) (r : Refusal) (places : List ℤ) → samples ≡ g .vs ++ places
       → whole ≡ after (g .vs) (g .inexact) (ended r older newer places)
       → r ≡ cond (ltb j n) NextBeyond Nothing
-      → Played whole n (record { done = j; inexact = held; phase = phase }) older newer samples
-  ended-by phase r places a w e =
+      → Played whole n (record { done = j; inexact = held; turn = turn }) older newer samples
+  ended-by turn r places a w e =
       let steps : j ≡ length (g .vs) + 0 = omega (arith, g .count) in
       let none : g .inexact ≡ g .inexact + 0 = omega arith in
       record {
@@ -206,36 +207,36 @@ module _ {i : Instrument} {pick n j held : ℕ} {hit : Hit} {whole : AfterSteps}
         }
 
     -- the next step would pass the ceiling
-    pub playing-ends : (phase : ℕ) → not (x .within) ≡ true
-        → Played whole n (record { done = j; inexact = held; phase = phase }) older newer samples
-    playing-ends phase d = go (g .places) (g .samples-are) (g .long) (g .whole-is)
+    pub playing-ends : (turn : ℕ) → not (x .within) ≡ true
+        → Played whole n (record { done = j; inexact = held; turn = turn }) older newer samples
+    playing-ends turn d = go (g .places) (g .samples-are) (g .long) (g .whole-is)
       where
         go : (places : List ℤ) → samples ≡ g .vs ++ places → j + length places ≡ n → whole
             ≡ after (g .vs) (g .inexact) (play i pick (hitAfter hit j) older newer places)
-            → Played whole n (record { done = j; inexact = held; phase = phase }) older newer samples
+            → Played whole n (record { done = j; inexact = held; turn = turn }) older newer samples
         go [] a l w = absurd (omega (arith, l, h))
         go (y ∷ xs) a l w =
             let beyond-next : someBeyond next ≡ true = not-false (someBeyond next) (sym (t .within-is) ∙ not-true (x .within) d) in
-            ended-by phase NextBeyond (y ∷ xs) a
+            ended-by turn NextBeyond (y ∷ xs) a
             (w ∙ ap (after (g .vs) (g .inexact)) (play-ends i pick (hitAfter hit j) older newer y xs beyond-next))
             (sym (ap (λ (t : Bool). cond t NextBeyond Nothing) (lt-ltb j n h)))
 
   -- every place has its sample
-  pub playing-done : (phase : ℕ) → n ≤ j → Played whole n (record { done = j; inexact = held; phase = phase }) older newer samples
+  pub playing-done : (turn : ℕ) → n ≤ j → Played whole n (record { done = j; inexact = held; turn = turn }) older newer samples
   unfolding play
-  playing-done phase h = go (g .places) (g .samples-are) (g .long) (g .whole-is)
+  playing-done turn h = go (g .places) (g .samples-are) (g .long) (g .whole-is)
     where
       go : (places : List ℤ) → samples ≡ g .vs ++ places → j + length places ≡ n → whole
           ≡ after (g .vs) (g .inexact) (play i pick (hitAfter hit j) older newer places)
-          → Played whole n (record { done = j; inexact = held; phase = phase }) older newer samples
+          → Played whole n (record { done = j; inexact = held; turn = turn }) older newer samples
       go (y ∷ xs) a l w = absurd (omega (arith, l, h))
-      go [] a l w = ended-by phase Nothing [] a w (sym (ap (λ (t : Bool). cond t NextBeyond Nothing) (le-ltb j n h)))
+      go [] a l w = ended-by turn Nothing [] a w (sym (ap (λ (t : Bool). cond t NextBeyond Nothing) (le-ltb j n h)))
 
 -- ---- the slices by their roles
 
 module _ {p : ℕ} {i : Instrument} {h : Hit} {a₀ b₀ c₀ a b c : List ℤ} {x : Progress} (s : SteppedIn p i h a₀ b₀ c₀ a b c x) where
   -- after a step
-  pub playing-turned : {p′ pick n j held : ℕ} {hit : Hit} {whole : AfterSteps} {samples : List ℤ} → p′ ≡ turnedOf p
+  pub playing-turned : {p′ pick n j held : ℕ} {hit : Hit} {whole : AfterSteps} {samples : List ℤ} → p′ ≡ nextTurn p
       → Playing i pick hit whole n (newerOf p a₀ b₀ c₀) (outOf p a b c) samples j held
       → Playing i pick hit whole n (olderOf p′ a b c) (newerOf p′ a b c) samples j held
   playing-turned {p′} {pick} {n} {j} {held} {hit} {whole} {samples} e g =
@@ -244,7 +245,7 @@ module _ {p : ℕ} {i : Instrument} {h : Hit} {a₀ b₀ c₀ a b c : List ℤ} 
       coe 1 0 (k. Playing i pick hit whole n (older k) (newer k) samples j held) g
 
   -- there is room for the next one
-  pub room-turned : {p′ : ℕ} → p′ ≡ turnedOf p → LevelPasses (i .grid) (olderOf p a₀ b₀ c₀) → LevelPasses (i .grid) (newerOf p a₀ b₀ c₀)
+  pub room-turned : {p′ : ℕ} → p′ ≡ nextTurn p → LevelPasses (i .grid) (olderOf p a₀ b₀ c₀) → LevelPasses (i .grid) (newerOf p a₀ b₀ c₀)
       → Room (i .grid) (outOf p′ a b c)
   room-turned e older newer =
       subst (λ (q : ℕ). Room (i .grid) (outOf q a b c)) (sym e)

@@ -32,7 +32,7 @@ use Rattle.steps.specs.declared.progress.Progress.{Progress}
 use Rattle.steps.specs.Plan.{Ready}
 use Rattle.steps.specs.Run.{Next, nextOf, Ran, Counted, Moves}
 use Rattle.steps.specs.Edges.{EdgesOf}
-use Rattle.steps.specs.Roles.{Steppable}
+use Rattle.steps.specs.Steps.{Steppable}
 use Rattle.steps.specs.Pass.{target, Passable, Passing, Passed}
 use Rattle.steps.proofs.CountLaws.{counted-not, counted-all}
 use Rattle.steps.proofs.FillLaws.{filled-there, passed, ran-all, ran-append}

@@ -3,6 +3,6 @@ pub mod Plan
 pub mod Run
 pub mod Plates
 pub mod Edges
-pub mod Roles
+pub mod Steps
 pub mod Pass
-pub mod Turns
+pub mod Left

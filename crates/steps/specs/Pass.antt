@@ -12,7 +12,7 @@ use Rattle.plans.specs.declared.Plan.{Plan}
 use Rattle.pieces.specs.Pieces.{piece}
 use Rattle.steps.specs.declared.progress.Progress.{Progress}
 use Rattle.steps.specs.Run.{Stepping}
-use Rattle.steps.specs.Roles.{Steppable, Stepped}
+use Rattle.steps.specs.Steps.{Steppable, Stepped}
 
 -- of older and out, the one that the values are put into
 abbrev pub target : (inPlace : Bool) → (older out : List ℤ) → List ℤ

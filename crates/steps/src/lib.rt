@@ -1,16 +1,16 @@
 // The steps of a block, on three levels or on two whose roles turn.
 mod arithmetic;
+mod call;
 mod level;
 mod neighbours;
 mod plates;
 mod play;
 mod points;
 mod progress;
-mod roles;
-mod turns;
+mod step;
 mod within;
 
-pub use turns::InPlace;
-pub use turns::InTurn;
-pub use turns::steps_in_place;
-pub use turns::steps_in_turn;
+pub use call::InPlace;
+pub use call::InTurn;
+pub use call::steps_in_place;
+pub use call::steps_in_turn;

@@ -29,7 +29,7 @@ settle-requires c κs =
     let e = c .before .before .before in
     let q = e .before .before .before .before .before .before .steps-in-turn .ensures in
     let x = q .carried (not-false _ (e .if1 .left)) in
-    (x .newer-long, x .work-long, omega (arith, q .phase-is))
+    (x .newer-long, x .work-long, omega (arith, q .turn-is))
 
 clear-requires : tie.Need-clear-requires
 clear-requires c κs = search needs

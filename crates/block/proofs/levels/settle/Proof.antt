@@ -2,7 +2,7 @@
 use mathlib.Core.Path.{sym, _∙_}
 use borrow.Author.Needs.{needs}
 use Rattle.slices.proofs.SliceLaws.{copied-whole}
-use Rattle.steps.proofs.RoleLaws.{roles-at, roles-2}
+use Rattle.turns.proofs.TurnLaws.{turn-at, turn-2}
 use Rattle.block.proofs.levels.settle.Statement.{statement}
 use Rattle.block.proofs.levels.settle.Tie as tie
 
@@ -31,7 +31,7 @@ returns-2 : tie.Need-returns-2
 returns-2 c =
     let m = c .before .before .before .before .before .before .before in
     let a = m .before .args in
-    let r = roles-at (a .phase) (a .older .now) (a .newer .now) (a .work .now) 1 (m .match .keys2) in (
+    let r = turn-at (a .turn) (a .older .now) (a .newer .now) (a .work .now) 1 (m .match .keys2) in (
       c .before .before .before .before .copy .ensures ∙ copied-whole _ _ (search needs) ∙ sym (r .older-is),
       c .before .copy2 .ensures ∙ copied-whole _ _ (search needs) ∙ sym (r .newer-is),
     )
@@ -46,7 +46,7 @@ returns-3 : tie.Need-returns-3
 returns-3 c =
     let m = c .before .before .before .before .before .before .before in
     let a = m .before .args in
-    let r = roles-2 (a .phase) (a .older .now) (a .newer .now) (a .work .now) (m .before .pre .2) (m .match .rest .0 .1)
+    let r = turn-2 (a .turn) (a .older .now) (a .newer .now) (a .work .now) (m .before .pre .2) (m .match .rest .0 .1)
     (m .match .rest .1) in (
       c .before .copy4 .ensures ∙ copied-whole _ _ (search needs) ∙ sym (r .older-is),
       c .before .before .before .before .copy3 .ensures ∙ copied-whole _ _ (search needs) ∙ sym (r .newer-is),

@@ -5,7 +5,7 @@ use borrow.Author.Needs.{needs}
 use Rattle.scheme.specs.Instruments.{plate, kind}
 use Rattle.steps.proofs.KindLaws.{grid-stiff}
 use Rattle.steps.proofs.PlanLaws.{m-none, m-some}
-use Rattle.steps.proofs.RoleLaws.{given-as, stepped-as}
+use Rattle.steps.proofs.StepLaws.{given-as, stepped-as}
 use Rattle.steps.proofs.level.next_level.Statement.{statement}
 use Rattle.steps.proofs.level.next_level.Tie as tie
 

@@ -1,0 +1,2 @@
+-- The turns of the slices of a block.
+pub mod Turns
