@@ -6,7 +6,7 @@ use mathlib.Core.Logic.{_⊎_, inl, inr}
 use Prim.Native.Nat.{ℕ, _+_, _-_, _*_, _≤_, _<_, zero-le}
 use native.Mathlib.Decide.{ℕ-discrete}
 use native.Mathlib.Omega.{arith}
-use lib.IntN.{ℤ, pos, _+ℤ_}
+use lib.IntN.{ℤ, pos, _+ℤ_, _*ℤ_, zero-*ℤ}
 use lib.ListN.{length}
 use Rattle.integers.specs.Sum.{sumOver}
 use Rattle.integers.proofs.Ring.{#_, _⊕_, _≈_, ring}
@@ -16,7 +16,7 @@ use Rattle.types.specs.declared.Instrument.{Instrument}
 use Rattle.types.specs.Numbers.{ceiling}
 use Rattle.scheme.specs.Lists.{point}
 use Rattle.scheme.specs.Instruments.{bar, kind, points, inTable, moving}
-use Rattle.scheme.specs.Step.{neighbours}
+use Rattle.scheme.specs.Step.{neighbours, biharmonic}
 use Rattle.scheme.specs.Passing.{InstrumentPasses}
 use Rattle.scheme.proofs.Laws.Neighbours.{line-inner, line-first, line-last, grid-inner, grid-above, grid-below}
 use Rattle.plans.specs.Plans.{countOf}
@@ -111,7 +111,7 @@ module _ (i : Instrument) (ok : InstrumentPasses i) where
   soft-beside newer k sum js mk soft e s = record {
     moves = mk;
     sum-is = s ∙ ap (λ (js : List ℕ). sumOver js (point newer)) (sym e);
-    b-is = inl (soft, refl);
+    stiff-is = sym (ap (λ (m : ℕ). pos m *ℤ biharmonic g (point newer) k) soft ∙ zero-*ℤ (biharmonic g (point newer) k));
   }
 
   -- ---- a line

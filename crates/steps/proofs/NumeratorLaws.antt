@@ -1,4 +1,4 @@
--- L of L at a point, and the numerator, as the machine adds them: by sums, by the factors of a plan, and within 2⁶³.
+-- The stiffness at a point, and the numerator, as the machine adds them: by sums, by the factors of a plan, and within 2⁶³.
 use mathlib.Core.Path.{_≡_, refl, _∙_}
 use Prim.Native.Nat.{_*_}
 use lib.IntN.{ℤ, pos, _+ℤ_, _-ℤ_, _*ℤ_}
@@ -7,49 +7,60 @@ use Rattle.bounded.proofs.Num.{Num}
 use Rattle.bounded.proofs.Expr.{E, at, num, _⊞_, _⊟_, _⊠_, red, val, product, stored}
 use Rattle.types.specs.declared.Instrument.{Instrument}
 use Rattle.types.specs.Numbers.{D, ceiling}
-use Rattle.scheme.specs.Step.{numeratorOf}
 use Rattle.plans.specs.declared.Plan.{Plan}
 use Rattle.plans.specs.Plans.{countOf}
-use Rattle.steps.specs.Plan.{bendingOf, Planned, Summable, Updatable}
-use Rattle.steps.proofs.PlanLaws.{own-is, near-is, kept-is, m-is, own-low, near-low, m-low, kept-low}
+use Rattle.steps.specs.Plan.{bendingOf, numeratorWith, Planned, Bendable, Updatable}
+use Rattle.steps.proofs.PlanLaws.{own-is, near-is, kept-is, own-low, near-low, m-low, kept-low}
 
--- L of L by sums
-module _ {h second sum u : ℤ} (given : Summable h second sum u) where
-  abbrev h# : E
-  h# = at h 2 (given .h-low)
+-- m·B by sums
+module _ {p : Plan} (h : Planned p) {pairs second sum u : ℤ} (given : Bendable p pairs second sum u) where
+  abbrev pairs# : E
+  pairs# = at pairs 2 (given .h-low)
 
-  abbrev pub factor# : E
-  factor# = num 4 ⊠ h#
+  abbrev m# : E
+  m# = at (p .m) D (m-low h)
 
-  abbrev pub own# : E
-  own# = h# ⊠ at u ceiling (given .u-low)
+  pub by-second : Num (red m# *ℤ red (at second (16 * ceiling) (given .second-low))) (p .m *ℤ second) (D * ceiling)
+  by-second = product m# (at second (16 * ceiling) (given .second-low)) (D * ceiling) tt tt (given .second-part)
+
+  abbrev pub four# : E
+  four# = num 4 ⊠ pairs#
+
+  abbrev pub near# : E
+  near# = four# ⊠ m#
+
+  pub by-sum : Num (red near# *ℤ red (at sum (4 * ceiling) (given .sum-low))) (pos 4 *ℤ pairs *ℤ p .m *ℤ sum) (2 * D * ceiling)
+  by-sum = product near# (at sum (4 * ceiling) (given .sum-low)) (2 * D * ceiling) tt tt (given .sum-part)
 
   abbrev pub less# : E
-  less# = own# ⊟ at sum (4 * ceiling) (given .sum-low)
+  less# = stored by-second tt ⊟ stored by-sum tt
 
-  abbrev pub times# : E
-  times# = factor# ⊠ less#
+  abbrev pub squared# : E
+  squared# = four# ⊠ pairs#
 
-  abbrev pub bending# : E
-  bending# = at second (16 * ceiling) (given .second-low) ⊞ times#
+  abbrev pub own# : E
+  own# = squared# ⊠ m#
 
-  pub bending-is : val bending# ≡ bendingOf (pos 2 *ℤ h) sum second u
-  bending-is = ring 4 (λ h y x u. y ⊕ # 4 ⊗ h ⊗ (h ⊗ u ⊖ x) ≈ y ⊖ # 2 ⊗ (# 2 ⊗ h) ⊗ x ⊕ # 2 ⊗ h ⊗ (# 2 ⊗ h) ⊗ u) refl h second sum u
+  pub by-own : Num (red own# *ℤ red (at u ceiling (given .u-low))) (pos 4 *ℤ pairs *ℤ pairs *ℤ p .m *ℤ u) (D * ceiling)
+  by-own = product own# (at u ceiling (given .u-low)) (D * ceiling) tt tt (given .u-part)
 
-module _ {p : Plan} (h : Planned p) {u sum b old f : ℤ} (given : Updatable p u sum b old f) where
+  abbrev pub stiff# : E
+  stiff# = less# ⊞ stored by-own tt
+
+  pub stiffness-is : val stiff# ≡ p .m *ℤ bendingOf (pos 2 *ℤ pairs) sum second u
+  stiffness-is =
+      ring 5 (λ m h y x u. m ⊗ y ⊖ # 4 ⊗ h ⊗ m ⊗ x ⊕ # 4 ⊗ h ⊗ h ⊗ m ⊗ u
+      ≈ m ⊗ (y ⊖ # 2 ⊗ (# 2 ⊗ h) ⊗ x ⊕ # 2 ⊗ h ⊗ (# 2 ⊗ h) ⊗ u)) refl (p .m) pairs second sum u
+
+-- the numerator
+module _ {p : Plan} (h : Planned p) {u sum old f stiff : ℤ} (given : Updatable p u sum old f stiff) where
   abbrev q# : E
   q# = at (p .near) D (near-low h)
 
   abbrev sum# : E
   sum# = at sum (4 * ceiling) (given .sum-low)
 
-  abbrev m# : E
-  m# = at (p .m) D (m-low h)
-
-  abbrev b# : E
-  b# = at b (64 * ceiling) (given .b-low)
-
-  -- ---- the terms, in the order of the code; the bounds of neighbours and stiffness are stability's
+  -- ---- the terms, in the order of the code; the bound of the neighbours is stability's
 
   abbrev pub own-last# : E
   own-last# = at (p .own) (2 * D) (own-low h) ⊠ at u ceiling (given .u-low)
@@ -63,9 +74,6 @@ module _ {p : Plan} (h : Planned p) {u sum b old f : ℤ} (given : Updatable p u
   abbrev pub force# : E
   force# = num 65536 ⊠ at f ceiling (given .f-low)
 
-  pub stiffness : Num (red m# *ℤ red b#) (p .m *ℤ b) (4 * D * ceiling)
-  stiffness = product m# b# (4 * D * ceiling) tt tt (given .stiff-part)
-
   -- ---- their sums
 
   abbrev pub two# : E
@@ -74,11 +82,11 @@ module _ {p : Plan} (h : Planned p) {u sum b old f : ℤ} (given : Updatable p u
   abbrev pub three# : E
   three# = two# ⊟ before-last#
 
-  abbrev pub four# : E
-  four# = three# ⊞ force#
+  abbrev pub with-force# : E
+  with-force# = three# ⊞ force#
 
   abbrev pub n# : E
-  n# = four# ⊟ stored stiffness tt
+  n# = with-force# ⊟ at stiff (4 * D * ceiling) (given .stiff-low)
 
   -- ---- it is the scheme's
 
@@ -96,17 +104,17 @@ module _ {p : Plan} (h : Planned p) {u sum b old f : ℤ} (given : Updatable p u
 
   -- "in the order of that text: own last value, neighbours, before-last value, force"; "The stiffness term follows the force"
   abbrev inOrder : ℤ
-  inOrder = (pos (2 * D) -ℤ count *ℤ q) *ℤ u +ℤ q *ℤ sum -ℤ kept *ℤ old +ℤ pos D *ℤ f -ℤ pos (i .settings .m) *ℤ b
+  inOrder = (pos (2 * D) -ℤ count *ℤ q) *ℤ u +ℤ q *ℤ sum -ℤ kept *ℤ old +ℤ pos D *ℤ f -ℤ stiff
 
   -- the code's terms, one by one
   by-terms : val n# ≡ inOrder
-  by-terms = λ j. own-is h j *ℤ u +ℤ near-is h j *ℤ sum -ℤ kept-is h j *ℤ old +ℤ pos 65536 *ℤ f -ℤ m-is h j *ℤ b
+  by-terms = λ j. own-is h j *ℤ u +ℤ near-is h j *ℤ sum -ℤ kept-is h j *ℤ old +ℤ pos 65536 *ℤ f -ℤ stiff
 
   -- L is the sum less c times u
-  reordered : inOrder ≡ numeratorOf (i .settings) u (sum -ℤ count *ℤ u) b old f
+  reordered : inOrder ≡ numeratorWith (i .settings) u (sum -ℤ count *ℤ u) stiff old f
   reordered =
       ring 8 (λ d c q u x b p f. (d ⊖ c ⊗ q) ⊗ u ⊕ q ⊗ x ⊖ p ⊕ f ⊖ b ≈ d ⊗ u ⊕ q ⊗ (x ⊖ c ⊗ u) ⊖ b ⊖ p ⊕ f) refl
-      (pos (2 * D)) count q u sum (pos (i .settings .m) *ℤ b) (kept *ℤ old) (pos D *ℤ f)
+      (pos (2 * D)) count q u sum stiff (kept *ℤ old) (pos D *ℤ f)
 
-  pub numerator-is : val n# ≡ numeratorOf (i .settings) u (sum -ℤ count *ℤ u) b old f
+  pub numerator-is : val n# ≡ numeratorWith (i .settings) u (sum -ℤ count *ℤ u) stiff old f
   numerator-is = by-terms ∙ reordered

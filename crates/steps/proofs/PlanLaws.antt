@@ -79,11 +79,36 @@ module _ {p : Plan} (h : Planned p) where
   pub near-part : (sum : ℤ) → natAbs sum ≤ c * ceiling → natAbs (p .near *ℤ sum) ≤ 2 * D * ceiling
   near-part = part q c (2 * D) near-is (omega (arith, stable, N.mul-comm q c))
 
-  pub stiff-part : (b : ℤ) → natAbs b ≤ 4 * (c * c) * ceiling → natAbs (p .m *ℤ b) ≤ 4 * D * ceiling
-  stiff-part = part m (4 * (c * c)) (4 * D) m-is (omega (arith, stable, e))
+  bent : c * c * m ≤ D
+  bent = omega (arith, stable, N.mul-assoc 2 (c * c) m)
+
+  pub second-part : (x : ℤ) → natAbs x ≤ c * c * ceiling → natAbs (p .m *ℤ x) ≤ D * ceiling
+  second-part = part m (c * c) D m-is (omega (arith, bent, N.mul-comm m (c * c)))
+
+  pub stiff-part : (x : ℤ) → natAbs x ≤ 4 * (c * c) * ceiling → natAbs (pos m *ℤ x) ≤ 4 * D * ceiling
+  stiff-part = part m (4 * (c * c)) (4 * D) refl (omega (arith, bent, e))
     where
-      e : m * (4 * (c * c)) ≡ 2 * (2 * (c * c) * m)
-      e = pos-inj (ring 2 (λ m c. m ⊗ (# 4 ⊗ (c ⊗ c)) ≈ # 2 ⊗ (# 2 ⊗ (c ⊗ c) ⊗ m)) refl (pos m) (pos c))
+      e : m * (4 * (c * c)) ≡ 4 * (c * c * m)
+      e = pos-inj (ring 2 (λ m c. m ⊗ (# 4 ⊗ (c ⊗ c)) ≈ # 4 ⊗ (c ⊗ c ⊗ m)) refl (pos m) (pos c))
+
+  -- with h pairs of neighbours
+  module _ (h′ : ℕ) (e : c ≡ 2 * h′) where
+    pub sum-part : (x : ℤ) → natAbs x ≤ c * ceiling → natAbs (pos 4 *ℤ pos h′ *ℤ p .m *ℤ x) ≤ 2 * D * ceiling
+    sum-part = part (4 * h′ * m) c (2 * D) (ap (λ (x : ℤ). pos 4 *ℤ pos h′ *ℤ x) m-is) (omega (arith, bent, f))
+      where
+        f : 4 * h′ * m * c ≡ 2 * (c * c * m)
+        f = pos-inj
+            (ap (λ (n : ℕ). pos (4 * h′ * m * n)) e ∙
+            ring 2 (λ h m. # 4 ⊗ h ⊗ m ⊗ (# 2 ⊗ h) ≈ # 2 ⊗ (# 2 ⊗ h ⊗ (# 2 ⊗ h) ⊗ m)) refl (pos h′) (pos m) ∙
+            ap (λ (n : ℕ). pos (2 * (n * n * m))) (sym e))
+
+    pub u-part : (x : ℤ) → natAbs x ≤ ceiling → natAbs (pos 4 *ℤ pos h′ *ℤ pos h′ *ℤ p .m *ℤ x) ≤ D * ceiling
+    u-part x l = part (4 * h′ * h′ * m) 1 D (ap (λ (x : ℤ). pos 4 *ℤ pos h′ *ℤ pos h′ *ℤ x) m-is) (omega (arith, bent, f)) x (omega (arith, l))
+      where
+        f : 4 * h′ * h′ * m * 1 ≡ c * c * m
+        f = pos-inj
+            (ring 2 (λ h m. # 4 ⊗ h ⊗ h ⊗ m ⊗ # 1 ≈ # 2 ⊗ h ⊗ (# 2 ⊗ h) ⊗ m) refl (pos h′) (pos m) ∙
+            ap (λ (n : ℕ). pos (n * n * m)) (sym e))
 
   pub m-low : natAbs (p .m) ≤ D
   m-low = subst (λ (z : ℤ). natAbs z ≤ D) (sym m-is) (low .1)

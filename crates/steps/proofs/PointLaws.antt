@@ -19,13 +19,13 @@ use Rattle.types.specs.declared.Instrument.{Instrument}
 use Rattle.types.specs.Numbers.{D, ceiling}
 use Rattle.scheme.specs.Lists.{point}
 use Rattle.scheme.specs.Instruments.{inTable, moving}
-use Rattle.scheme.specs.Step.{neighbours, laplacian, innerLaplacian, biharmonic, numeratorOf, numerator, divisor}
+use Rattle.scheme.specs.Step.{neighbours, laplacian, innerLaplacian, biharmonic, numerator, divisor}
 use Rattle.plans.specs.declared.Plan.{Plan}
 use Rattle.plans.specs.Plans.{countOf}
-use Rattle.steps.specs.Plan.{innerSum, bendingOf, Summable, Updatable, Ready, Summed, Neighbouring}
+use Rattle.steps.specs.Plan.{innerSum, bendingOf, numeratorWith, Bendable, Updatable, Ready, Summed, Neighbouring}
 use Rattle.steps.specs.Run.{nextOver, nextBy}
 use Rattle.steps.proofs.Held.{held, held-below}
-use Rattle.steps.proofs.PlanLaws.{few, near-part, stiff-part}
+use Rattle.steps.proofs.PlanLaws.{m-is, few, near-part, second-part, sum-part, u-part, stiff-part}
 use Rattle.steps.proofs.BesideLaws.{count-is}
 
 -- ---- L and L of L by sums, of a level that is 0 where nothing moves
@@ -116,27 +116,33 @@ module _ {p : Plan} {f : ℤ} {older newer : List ℤ} {k : ℕ} {sum second : �
   summed-low = subst (λ (z : ℤ). natAbs z ≤ count * ceiling) (sym (n .sum-is))
       (over-low g in-table (point newer) (r .newer-still) ceiling (point newer) (r .newer-low) k (n .moves))
 
-  pub summable : (h : ℤ) → natAbs h ≤ 2 → Summable h second sum (point newer k)
-  summable h low = record {
-    h-low = low;
-    second-low = N.le-trans second-low (N.mul-le-mul-right ceiling (N.mul-le-mul (few (r .planned) .1) (few (r .planned) .1)));
-    sum-low = N.le-trans summed-low (N.mul-le-mul-right ceiling (few (r .planned) .1));
-    u-low = r .newer-low k;
-  }
+  module _ (h : ℕ) (e : count ≡ 2 * h) where
+    pub bendable : Bendable p (pos h) second sum (point newer k)
+    bendable = record {
+      h-low = omega (arith, few (r .planned) .1, e);
+      second-low = N.le-trans second-low (N.mul-le-mul-right ceiling (N.mul-le-mul (few (r .planned) .1) (few (r .planned) .1)));
+      sum-low = N.le-trans summed-low (N.mul-le-mul-right ceiling (few (r .planned) .1));
+      u-low = r .newer-low k;
+      second-part = second-part (r .planned) second second-low;
+      sum-part = sum-part (r .planned) h e sum summed-low;
+      u-part = u-part (r .planned) h e (point newer k) (r .newer-low k);
+    }
 
-  -- L of L is what is made of them
-  pub bent : Neighbouring (p .instrument) newer k sum (bendingOf (pos count) sum second (point newer k))
-  bent = record {
-    moves = n .moves;
-    sum-is = n .sum-is;
-    b-is = inr (sym (bending-by-sums g in-table (point newer) (r .newer-still) k (n .moves) ∙
-        (λ j. bendingOf (pos count) (sym (n .sum-is) j) (sym (n .second-is) j) (point newer k))));
-  }
+    -- m·B is what is made of them
+    pub bent : Neighbouring (p .instrument) newer k sum (p .m *ℤ bendingOf (pos 2 *ℤ pos h) sum second (point newer k))
+    bent = record {
+      moves = n .moves;
+      sum-is = n .sum-is;
+      stiff-is = λ j. m-is (r .planned) j
+          *ℤ (ap (λ (c : ℕ). bendingOf (pos c) sum second (point newer k)) (sym e)
+          ∙ sym (bending-by-sums g in-table (point newer) (r .newer-still) k (n .moves)
+          ∙ (λ j. bendingOf (pos count) (sym (n .sum-is) j) (sym (n .second-is) j) (point newer k)))) j;
+    }
 
 -- ---- a point
 
-module _ {p : Plan} {f : ℤ} {older newer : List ℤ} {k : ℕ} {sum b : ℤ} (r : Ready p f older newer)
-    (n : Neighbouring (p .instrument) newer k sum b) where
+module _ {p : Plan} {f : ℤ} {older newer : List ℤ} {k : ℕ} {sum stiff : ℤ} (r : Ready p f older newer)
+    (n : Neighbouring (p .instrument) newer k sum stiff) where
   abbrev i : Instrument
   i = p .instrument
 
@@ -184,22 +190,17 @@ module _ {p : Plan} {f : ℤ} {older newer : List ℤ} {k : ℕ} {sum b : ℤ} (
         N.mul-assoc 4 (number * number) ceiling,
       ))
 
-  b-low : natAbs b ≤ 4 * (number * number) * ceiling
-  b-low = go (n .b-is)
-    where
-      go : ((s .m ≡ 0) × (b ≡ pos 0)) ⊎ (b ≡ biharmonic (i .grid) (point newer) k) → natAbs b ≤ 4 * (number * number) * ceiling
-      go (inl e) = subst (λ (z : ℤ). natAbs z ≤ 4 * (number * number) * ceiling) (sym (e .1)) zero-le
-      go (inr e) = subst (λ (z : ℤ). natAbs z ≤ 4 * (number * number) * ceiling) (sym e) bending-low
+  stiff-low : natAbs stiff ≤ 4 * D * ceiling
+  stiff-low = subst (λ (z : ℤ). natAbs z ≤ 4 * D * ceiling) (sym (n .stiff-is)) (stiff-part (r .planned) (biharmonic (i .grid) (point newer) k) bending-low)
 
-  pub updatable : Updatable p u sum b (point older k) f
+  pub updatable : Updatable p u sum (point older k) f stiff
   updatable = record {
     u-low = r .newer-low k;
     sum-low = N.le-trans sum-low (N.mul-le-mul-right ceiling (few (r .planned) .1));
-    b-low = N.le-trans b-low (N.mul-le-mul-right ceiling (N.mul-le-mul-left 4 (N.mul-le-mul (few (r .planned) .1) (few (r .planned) .1))));
     older-low = r .older-low k;
     f-low = r .f-low;
     near-part = near-part (r .planned) sum sum-low;
-    stiff-part = stiff-part (r .planned) b b-low;
+    stiff-low = stiff-low;
   }
 
   -- ---- what is made of it
@@ -210,39 +211,27 @@ module _ {p : Plan} {f : ℤ} {older newer : List ℤ} {k : ℕ} {sum b : ℤ} (
   laplacian-is : laplacian (i .grid) (point newer) k ≡ l
   laplacian-is = by-sum (i .grid) size (point newer) (r .newer-still) k (n .moves) ∙ ap (λ (z : ℤ). z -ℤ pos number *ℤ u) (sym (n .sum-is))
 
-  -- L of L, as far as the stiffness counts
-  stiff : pos (s .m) *ℤ biharmonic (i .grid) (point newer) k ≡ pos (s .m) *ℤ b
-  stiff = go (n .b-is)
-    where
-      go : ((s .m ≡ 0) × (b ≡ pos 0)) ⊎ (b ≡ biharmonic (i .grid) (point newer) k)
-          → pos (s .m) *ℤ biharmonic (i .grid) (point newer) k ≡ pos (s .m) *ℤ b
-      go (inl e) =
-          ap (λ (m : ℕ). pos m *ℤ biharmonic (i .grid) (point newer) k) (e .0) ∙ zero-*ℤ (biharmonic (i .grid) (point newer) k) ∙
-          sym (ap (λ (m : ℕ). pos m *ℤ b) (e .0) ∙ zero-*ℤ b)
-      go (inr e) = ap (λ (z : ℤ). pos (s .m) *ℤ z) (sym e)
-
-  pub numerator-is : numeratorOf s u l b (point older k) f ≡ numerator i (point newer) (point older) (λ j. f) k
+  pub numerator-is : numeratorWith s u l stiff (point older k) f ≡ numerator i (point newer) (point older) (λ j. f) k
   unfolding numerator
-  numerator-is = λ j. pos (2 * D) *ℤ u +ℤ pos (s .q) *ℤ sym laplacian-is j -ℤ sym stiff j
-      -ℤ (pos D -ℤ pos (s .s)) *ℤ point older k +ℤ pos D *ℤ f
+  numerator-is = λ j. numeratorWith s u (sym laplacian-is j) (n .stiff-is j) (point older k) f
 
-  pub next-is : nextOver (numeratorOf s u l b (point older k) f) (divisor s) ≡ nextBy i f older newer k
+  pub next-is : nextOver (numeratorWith s u l stiff (point older k) f) (divisor s) ≡ nextBy i f older newer k
   unfolding nextBy
   next-is = ap (λ (n : ℤ). nextOver n (divisor s)) numerator-is
 
 -- ---- the same, each number as the machine has it
 
-module _ {p : Plan} {f : ℤ} {older newer : List ℤ} {k : ℕ} {sum b : ℤ} (r : Ready p f older newer)
-    (n : Neighbouring (p .instrument) newer k sum b) where
+module _ {p : Plan} {f : ℤ} {older newer : List ℤ} {k : ℕ} {sum stiff : ℤ} (r : Ready p f older newer)
+    (n : Neighbouring (p .instrument) newer k sum stiff) where
   pub force-held : toZ w64 (ofZ w64 f) ≡ f
   force-held = held (r .f-low)
 
   pub ready-held : Ready p (toZ w64 (ofZ w64 f)) older newer
   ready-held = subst (λ (z : ℤ). Ready p z older newer) (sym force-held) r
 
-  pub beside-held : Neighbouring (p .instrument) newer k (toZ w64 (ofZ w64 sum)) (toZ w64 (ofZ w64 b))
+  pub beside-held : Neighbouring (p .instrument) newer k (toZ w64 (ofZ w64 sum)) (toZ w64 (ofZ w64 stiff))
   beside-held =
       let u = updatable r n in
       let x : toZ w64 (ofZ w64 sum) ≡ sum = held-below (4 * ceiling) tt (u .sum-low) in
-      let y : toZ w64 (ofZ w64 b) ≡ b = held-below (64 * ceiling) tt (u .b-low) in
+      let y : toZ w64 (ofZ w64 stiff) ≡ stiff = held-below (4 * D * ceiling) tt (u .stiff-low) in
       coe 1 0 (j. Neighbouring (p .instrument) newer k (x j) (y j)) n

@@ -6,8 +6,8 @@ ghost use lib.IntN.{pos, natAbs, _-ℤ_, _*ℤ_};
 ghost use Rattle.types.specs.Numbers.{ceiling};
 ghost use Rattle.plans.specs.Plans.{countOf};
 ghost use Rattle.scheme.specs.Instruments.{beyond};
-ghost use Rattle.scheme.specs.Step.{roundAway, sampleOf, numeratorOf, divisor};
-ghost use Rattle.steps.specs.Plan.{bendingOf, Planned, Summable, Updatable};
+ghost use Rattle.scheme.specs.Step.{roundAway, sampleOf, divisor};
+ghost use Rattle.steps.specs.Plan.{bendingOf, numeratorWith, Planned, Bendable, Updatable};
 use plans::Plan;
 use rounding::raised;
 use rounding::read_out;
@@ -32,26 +32,26 @@ pub(crate) fn sample(v: i64) -> i16
     read_out(v) as i16
 }
 
-// L of L at a point with h pairs of neighbours, one on a line and two on a grid: from the sum of its neighbours' sums, the sum of its
-// neighbours, its own value.
-pub(crate) fn bending(h: i64, second: i64, sum: i64, u: i64) -> i64
-    requires { ⌜ Summable h second sum u ⌝ }
-    ensures { λ r. ⌜ r ≡ bendingOf (pos 2 *ℤ h) sum second u ⌝ }
+// The stiffness m·B at a point with h pairs of neighbours, one on a line and two on a grid: B, L of L, from the sum of its neighbours'
+// sums, the sum of its neighbours, its own value.
+pub(crate) fn stiffness(plan: Plan, h: i64, second: i64, sum: i64, u: i64) -> i64
+    requires { ⌜ Planned plan × Bendable plan h second sum u ⌝ }
+    ensures { λ r. ⌜ r ≡ plan .m *ℤ bendingOf (pos 2 *ℤ h) sum second u ⌝ }
 {
-    second + 4 * h * (h * u - sum)
+    let m = plan.m;
+    m * second - 4 * h * m * sum + 4 * h * h * m * u
 }
 
-// The numerator at a point: from its last value u, the sum of its neighbours, L of L, its before-last value p, the force f.
+// The numerator at a point: from its last value u, the sum of its neighbours, its before-last value p, the force f, the stiffness m·B.
 // The terms stand in the order of the string in document 003 (van Walstijn's slides), y' = a10·y + a11·(y₊ + y₋) + a20·y_before + aF·F,
 // each times the divisor D + s; the stiffness follows the force.
-pub(crate) fn numerator(plan: Plan, u: i64, sum: i64, b: i64, p: i64, f: i64) -> i64
-    requires { ⌜ Planned plan × Updatable plan u sum b p f ⌝ }
-    ensures { λ r. ⌜ r ≡ numeratorOf (plan .instrument .settings) u (sum -ℤ pos (countOf (plan .instrument .grid)) *ℤ u) b p f ⌝ }
+pub(crate) fn numerator(plan: Plan, u: i64, sum: i64, p: i64, f: i64, stiff: i64) -> i64
+    requires { ⌜ Planned plan × Updatable plan u sum p f stiff ⌝ }
+    ensures { λ r. ⌜ r ≡ numeratorWith (plan .instrument .settings) u (sum -ℤ pos (countOf (plan .instrument .grid)) *ℤ u) stiff p f ⌝ }
 {
     let own_last = plan.own * u; // a10·y
     let neighbours = plan.near * sum; // a11·(y₊ + y₋)
     let before_last = plan.kept * p; // −a20·y_before
     let force = D * f; // aF·F
-    let stiffness = plan.m * b; // m·B
-    own_last + neighbours - before_last + force - stiffness
+    own_last + neighbours - before_last + force - stiff
 }

@@ -13,7 +13,7 @@ ghost use Rattle.steps.specs.Plan.{AtMost, Ready};
 ghost use Rattle.steps.specs.Run.{Filled, Advanced, Stepping, Placed, fourBeside};
 ghost use Rattle.steps.specs.Pass.{Passable, Passed};
 ghost use Rattle.steps.specs.Plates.{TwoRows, InRow, Readable, secondAt};
-use crate::arithmetic::bending;
+use crate::arithmetic::stiffness;
 use crate::neighbours::around;
 use crate::points::next_point;
 use crate::progress::Progress;
@@ -93,8 +93,8 @@ fn plate_point(
     let second = second_at(sums, rows, c, below);
     let sum = sums[rows.here + c];
     sums[rows.other + c] = below;
-    let b = bending(2, second, sum, newer[at]);
-    next_point(plan, older, newer, at, sum, b, s, out)
+    let stiff = stiffness(plan, 2, second, sum, newer[at]);
+    next_point(plan, older, newer, at, sum, stiff, s, out)
 }
 
 // Points of a row, one force on all of them.

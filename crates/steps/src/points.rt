@@ -7,9 +7,9 @@ ghost use Rattle.steps.specs.Plan.{Ready, SoftGrid, Neighbouring};
 ghost use Rattle.scheme.specs.Instruments.{bar, kind};
 ghost use Rattle.scheme.specs.Step.{divisor};
 ghost use Rattle.steps.specs.Run.{nextOver, nextBy, Advanced, Placed, Moves, OnLine, FreeEnd};
-use crate::arithmetic::bending;
 use crate::arithmetic::is_below_limit;
 use crate::arithmetic::numerator;
+use crate::arithmetic::stiffness;
 use crate::neighbours::around;
 use crate::neighbours::beside;
 use crate::neighbours::sum_at;
@@ -19,21 +19,21 @@ use rounding::round_by;
 use stretches::Stretch;
 use stretches::part;
 
-// The numerator at a point: sum is that of its neighbours, b is L of L.
+// The numerator at a point: sum is that of its neighbours, stiff is m·B.
 pub(crate) fn numerator_at(
     plan: Plan,
     older: &[i64],
     newer: &[i64],
     at: usize,
     sum: i64,
-    b: i64,
+    stiff: i64,
     force: i64,
 ) -> i64
-    requires { ⌜ Ready plan force (now older) (now newer) × Neighbouring (plan .instrument) (now newer) at sum b ⌝ }
+    requires { ⌜ Ready plan force (now older) (now newer) × Neighbouring (plan .instrument) (now newer) at sum stiff ⌝ }
     ensures { λ r. ⌜ nextOver r (divisor (plan .instrument .settings))
         ≡ nextBy (plan .instrument) force (now (older .entry)) (now (newer .entry)) at ⌝ }
 {
-    numerator(plan, newer[at], sum, b, older[at], force)
+    numerator(plan, newer[at], sum, older[at], force, stiff)
 }
 
 // One point: its next value.
@@ -43,15 +43,15 @@ pub(crate) fn next_point(
     newer: &[i64],
     at: usize,
     sum: i64,
-    b: i64,
+    stiff: i64,
     s: Stretch,
     out: &mut [i64],
 ) -> Progress
-    requires { ⌜ Ready plan (s .force) (now older) (now newer) × Neighbouring (plan .instrument) (now newer) at sum b ⌝ }
+    requires { ⌜ Ready plan (s .force) (now older) (now newer) × Neighbouring (plan .instrument) (now newer) at sum stiff ⌝ }
     requires { ⌜ Placed s (length (now out)) × (s .from ≤ at) × (at < s .to) ⌝ }
     ensures { λ r. ⌜ Advanced plan s (now (older .entry)) (now (newer .entry)) (now (out .entry)) (now (out .exit)) at (at + 1) r ⌝ }
 {
-    let n = numerator_at(plan, older, newer, at, sum, b, s.force);
+    let n = numerator_at(plan, older, newer, at, sum, stiff, s.force);
     if !is_below_limit(plan, n) {
         return Progress {
             within: false,
@@ -109,8 +109,8 @@ fn bar_run(plan: Plan, older: &[i64], newer: &[i64], s: Stretch, out: &mut [i64]
     let mut here = sum_at(newer, at);
     while at < s.to {
         let right = sum_at(newer, at + 1);
-        let b = bending(1, left + right, here, newer[at]);
-        let p = next_point(plan, older, newer, at, here, b, s, out);
+        let stiff = stiffness(plan, 1, left + right, here, newer[at]);
+        let p = next_point(plan, older, newer, at, here, stiff, s, out);
         if !p.within {
             return p;
         }

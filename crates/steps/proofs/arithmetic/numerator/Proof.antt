@@ -7,15 +7,12 @@ use Rattle.steps.proofs.NumeratorLaws as N
 use Rattle.steps.proofs.arithmetic.numerator.Statement.{statement}
 use Rattle.steps.proofs.arithmetic.numerator.Tie as tie
 
--- where near, D − s and m are read
+-- where near and D − s are read
 abbrev at-near : tie.After-struct-told2 → tie.Start
 at-near c = c .before .before .before .before
 
 abbrev at-kept : tie.After-struct-told3 → tie.Start
 at-kept c = at-near (c .before .before)
-
-abbrev at-m : tie.After-struct-told4 → tie.Start
-at-m c = at-kept (c .before .before)
 
 mul-own-last : tie.Need-mul-own-last
 mul-own-last c = let s = c .before .before in fits (N.own-last# (s .pre .0) (s .pre .1)) tt
@@ -29,23 +26,20 @@ mul-before-last c = let s = at-kept c in fits (N.before-last# (s .pre .0) (s .pr
 mul-force : tie.Need-mul-force
 mul-force c = let s = at-kept c in fits (N.force# (s .pre .0) (s .pre .1)) tt
 
-mul-stiffness : tie.Need-mul-stiffness
-mul-stiffness c = let s = at-m c in Num.fits (N.stiffness (s .pre .0) (s .pre .1)) tt
-
 add-result : tie.Need-add-result
-add-result c = let s = at-m c in fits (N.two# (s .pre .0) (s .pre .1)) tt
+add-result c = let s = at-kept c in fits (N.two# (s .pre .0) (s .pre .1)) tt
 
 sub-result : tie.Need-sub-result
-sub-result c = let s = at-m c in fits (N.three# (s .pre .0) (s .pre .1)) tt
+sub-result c = let s = at-kept c in fits (N.three# (s .pre .0) (s .pre .1)) tt
 
 add-result-2 : tie.Need-add-result-2
-add-result-2 c = let s = at-m c in fits (N.four# (s .pre .0) (s .pre .1)) tt
+add-result-2 c = let s = at-kept c in fits (N.with-force# (s .pre .0) (s .pre .1)) tt
 
 sub-result-2 : tie.Need-sub-result-2
-sub-result-2 c = let s = at-m c in fits (N.n# (s .pre .0) (s .pre .1)) tt
+sub-result-2 c = let s = at-kept c in fits (N.n# (s .pre .0) (s .pre .1)) tt
 
 returns : tie.Need-returns
-returns c = let s = at-m c in is (N.n# (s .pre .0) (s .pre .1)) tt ∙ N.numerator-is (s .pre .0) (s .pre .1)
+returns c = let s = at-kept c in is (N.n# (s .pre .0) (s .pre .1)) tt ∙ N.numerator-is (s .pre .0) (s .pre .1)
 
 pub numerator-spec : {M : Type 1} → statement M
 numerator-spec =
@@ -55,7 +49,6 @@ numerator-spec =
     mul-neighbours
     mul-before-last
     mul-force
-    mul-stiffness
     add-result
     sub-result
     add-result-2

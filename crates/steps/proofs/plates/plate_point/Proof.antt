@@ -1,11 +1,11 @@
--- `plate_point` meets its contract: the point has the sum of its neighbours, and L of L by that of their sums.
+-- `plate_point` meets its contract: the point has the sum of its neighbours, and the stiffness by that of their sums.
 use mathlib.Core.Path.{_≡_, sym, ap, _∙_, subst}
 use mathlib.Core.Bool.{false, not}
 use mathlib.Core.List.{List}
 use Prim.Native.Nat.{ℕ, _+_, _-_, _*_, _≤_, _<_}
 use native.Mathlib.Omega.{arith}
 use borrow.Author.Needs.{needs}
-use lib.IntN.{ℤ, pos}
+use lib.IntN.{ℤ, pos, _*ℤ_}
 use lib.ListN.{length, set}
 use mir.Syntax.{w64}
 use mir.Val.{Fits, toZ, ofZ}
@@ -16,12 +16,12 @@ use Rattle.scheme.specs.Lists.{point}
 use Rattle.scheme.proofs.Laws.Step.{moving-inside}
 use Rattle.plans.specs.Plans.{countOf}
 use Rattle.plans.proofs.PlanLaws.{four-of}
-use Rattle.steps.specs.Plan.{bendingOf, Summable, Ready, Summed, Neighbouring}
+use Rattle.steps.specs.Plan.{bendingOf, Bendable, Ready, Summed, Neighbouring}
 use Rattle.steps.specs.Plates.{TwoRows, InRow, Readable, secondAt}
 use Rattle.steps.proofs.Held.{held, held-below}
 use Rattle.steps.proofs.KindLaws.{wide}
 use Rattle.steps.proofs.BesideLaws.{around-below}
-use Rattle.steps.proofs.PointLaws.{summable, bent}
+use Rattle.steps.proofs.PointLaws.{bendable, bent}
 use Rattle.steps.proofs.PlateLaws.{below, readable, plate-beside, two-next}
 use Rattle.steps.proofs.plates.plate_point.Statement.{statement}
 use Rattle.steps.proofs.plates.plate_point.Tie as tie
@@ -99,8 +99,8 @@ module _ (c : tie.After-second-at) where
   summed = plate-beside (ready start) (two start) (row start) (first start) (last start)
 
   -- as they were stored: four neighbours, the sums, and the point's own value
-  four : pos 4 ≡ pos (countOf (g start))
-  four = ap pos (sym (four-of (g start) (row start .grid)))
+  four : countOf (g start) ≡ 4
+  four = four-of (g start) (row start .grid)
 
   second-is : toZ w64 (ofZ w64 (c .second-at .result)) ≡ second
   second-is =
@@ -148,28 +148,32 @@ slice-set-from-below c = read (c .before .before .before .before .before .before
 inside : (s : tie.Start) → k s < length (s .args .newer .now)
 inside s = omega (arith, ready s .newer-long, moving-inside (g s) (k s) (row s .moves .each (k s) (first s) (last s)))
 
-mul-bending : tie.Need-mul-bending
-mul-bending c = let h = inside (c .before .before .before .before .before .before .before) in search needs
+mul-stiffness : tie.Need-mul-stiffness
+mul-stiffness c = let h = inside (c .before .before .before .before .before .before .before) in search needs
 
-shared-slice-copy-out-bending : tie.Need-shared-slice-copy-out-bending
-shared-slice-copy-out-bending c = inside (c .before .before .before .before .before .before .before)
+shared-slice-copy-out-stiffness : tie.Need-shared-slice-copy-out-stiffness
+shared-slice-copy-out-stiffness c = inside (c .before .before .before .before .before .before .before)
 
-bending-requires : tie.Need-bending-requires
-bending-requires c κs =
-    let b = c .before .before .before .before in
-    coe 1 0 (j. Summable (pos 2) (second-is b j) (sum-is b j) (u-is b j)) (summable (ready (start b)) (summed b) (pos 2) (omega arith))
+stiffness-requires : tie.Need-stiffness-requires
+stiffness-requires c κs =
+    let b = c .before .before .before .before in (
+      ready (start b) .planned,
+      coe 1 0 (j. Bendable (start b .args .plan) (pos 2) (second-is b j) (sum-is b j) (u-is b j))
+          (bendable (ready (start b)) (summed b) 2 (four b)),
+    )
 
 next-point-requires : tie.Need-next-point-requires
 next-point-requires c κs =
     let e = c .before in
     let b = e .before .before .before .before .before in
     let s = start b in
-    let bent-is = back (e .bending .result) (e .bending .ok) ∙ e .bending .ensures ∙
-    (λ j. bendingOf (four b j) (sum-is b j) (second-is b j) (u-is b j)) in (
+    let plan = s .args .plan in
+    let stiff-is = back (e .stiffness .result) (e .stiffness .ok) ∙ e .stiffness .ensures ∙
+    (λ j. plan .m *ℤ bendingOf (pos 4) (sum-is b j) (second-is b j) (u-is b j)) in (
       (
         ready s,
-        coe 1 0 (j. Neighbouring (s .args .plan .instrument) (s .args .newer .now) (k s) (sum-is b j) (bent-is j))
-            (bent (ready s) (summed b)),
+        coe 1 0 (j. Neighbouring (plan .instrument) (s .args .newer .now) (k s) (sum-is b j) (stiff-is j))
+            (bent (ready s) (summed b) 2 (four b)),
       ),
       (s .pre .0 .1, first s, last s),
     )
@@ -202,9 +206,9 @@ plate-point-spec =
     add-below
     mul-below
     slice-set-from-below
-    mul-bending
-    shared-slice-copy-out-bending
-    bending-requires
+    mul-stiffness
+    shared-slice-copy-out-stiffness
+    stiffness-requires
     next-point-requires
     same-length
     same-length-2

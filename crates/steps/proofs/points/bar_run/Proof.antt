@@ -1,10 +1,10 @@
--- `bar_run` meets its contract: each point has the sum of its neighbours, and L of L by those on either side.
-use mathlib.Core.Path.{_≡_, sym, ap, _∙_}
+-- `bar_run` meets its contract: each point has the sum of its neighbours, and the stiffness by those on either side.
+use mathlib.Core.Path.{_≡_, ap, _∙_}
 use Prim.Native.Nat.{ℕ, _+_, _-_, _≤_, _<_}
 use native.Mathlib.Omega.{arith}
 use borrow.Author.Needs.{needs}
 use borrow.Author.Tests.{not-true, not-false}
-use lib.IntN.{ℤ, pos, _+ℤ_}
+use lib.IntN.{ℤ, pos, _+ℤ_, _*ℤ_}
 use lib.ListN.{length}
 use mir.Syntax.{w64}
 use mir.Val.{toZ, ofZ}
@@ -14,12 +14,12 @@ use Rattle.scheme.specs.Instruments.{bar, kind}
 use Rattle.plans.specs.Plans.{countOf}
 use Rattle.plans.proofs.PlanLaws.{two-of}
 use Rattle.scheme.specs.Lists.{point}
-use Rattle.steps.specs.Plan.{bendingOf, Summable, Ready, Summed, Neighbouring}
+use Rattle.steps.specs.Plan.{bendingOf, Bendable, Ready, Summed, Neighbouring}
 use Rattle.steps.specs.Run.{Next, nextBy, OnLine, barSum}
 use Rattle.steps.proofs.PlanLaws.{few-points}
 use Rattle.steps.proofs.KindLaws.{line-long}
 use Rattle.steps.proofs.Held.{held}
-use Rattle.steps.proofs.PointLaws.{summable, bent}
+use Rattle.steps.proofs.PointLaws.{bendable, bent}
 use Rattle.steps.proofs.BendLaws.{bar#, bar-beside}
 use Rattle.steps.proofs.FillLaws.{placed-after, Running, running-start, running-on, running-most, running-stops, running-done}
 use Rattle.steps.proofs.points.bar_run.Statement.{statement}
@@ -104,8 +104,8 @@ module _ (c : tie.After-sum-at3 Inv-loop μ-loop) where
       (first turn) (last turn)
 
   -- two neighbours, and the point's own value, as the machine has them
-  two : pos 2 ≡ pos (countOf (s .args .plan .instrument .grid))
-  two = ap pos (sym (two-of (s .args .plan .instrument .grid) (on s .line)))
+  two : countOf (s .args .plan .instrument .grid) ≡ 2
+  two = two-of (s .args .plan .instrument .grid) (on s .line)
 
   u-is : toZ w64 (ofZ w64 (point (s .args .newer .now) (k turn))) ≡ point (s .args .newer .now) (k turn)
   u-is = held (ready s .newer-low (k turn))
@@ -139,31 +139,37 @@ add-sum-at c = let h = inside c in search needs
 sum-at-requires-3 : tie.Need-sum-at-requires-3 Inv-loop μ-loop
 sum-at-requires-3 c κs = (inside c, ready (start c) .newer-low)
 
-add-bending : tie.Need-add-bending Inv-loop μ-loop
-add-bending c = fits (outer# c) tt
+add-stiffness : tie.Need-add-stiffness Inv-loop μ-loop
+add-stiffness c = fits (outer# c) tt
 
-mul-bending : tie.Need-mul-bending Inv-loop μ-loop
-mul-bending c = let h = inside (turn c) in search needs
+mul-stiffness : tie.Need-mul-stiffness Inv-loop μ-loop
+mul-stiffness c = let h = inside (turn c) in search needs
 
-shared-slice-copy-out-bending : tie.Need-shared-slice-copy-out-bending Inv-loop μ-loop
-shared-slice-copy-out-bending c = omega (arith, inside (turn c))
+shared-slice-copy-out-stiffness : tie.Need-shared-slice-copy-out-stiffness Inv-loop μ-loop
+shared-slice-copy-out-stiffness c = omega (arith, inside (turn c))
 
-bending-requires : tie.Need-bending-requires Inv-loop μ-loop
-bending-requires c κs =
-    let r = c .before in
-    coe 1 0 (j. Summable (pos 1) (is (outer# r) tt j) (turn r .before .before .loop .inv .2 j) (u-is r j))
-    (summable (ready (s r)) (summed r) (pos 1) (omega arith))
+stiffness-requires : tie.Need-stiffness-requires Inv-loop μ-loop
+stiffness-requires c κs =
+    let r = c .before in (
+      ready (s r) .planned,
+      coe 1 0 (j. Bendable (s r .args .plan) (pos 1) (is (outer# r) tt j) (turn r .before .before .loop .inv .2 j) (u-is r j))
+          (bendable (ready (s r)) (summed r) 1 (two r)),
+    )
 
 next-point-requires : tie.Need-next-point-requires Inv-loop μ-loop
 next-point-requires c κs =
     let b = c .before in
     let r = b .before .before in
     let t = turn r in
-    let i = s r .args .plan .instrument in
+    let plan = s r .args .plan in
     let here = t .before .before .loop .inv .2 in
-    let bent-is = back (b .bending .result) (b .bending .ok) ∙ b .bending .ensures ∙
-    (λ j. bendingOf (two r j) (here j) (is (outer# r) tt j) (u-is r j)) in (
-      (ready (s r), coe 1 0 (j. Neighbouring i (s r .args .newer .now) (k t) (here j) (bent-is j)) (bent (ready (s r)) (summed r))),
+    let stiff-is = back (b .stiffness .result) (b .stiffness .ok) ∙ b .stiffness .ensures ∙
+    (λ j. plan .m *ℤ bendingOf (pos 2) (here j) (is (outer# r) tt j) (u-is r j)) in (
+      (
+        ready (s r),
+        coe 1 0 (j. Neighbouring (plan .instrument) (s r .args .newer .now) (k t) (here j) (stiff-is j))
+            (bent (ready (s r)) (summed r) 1 (two r)),
+      ),
       (placed-after (s r .pre .0 .1) (inv t .ran .long), first t, last t),
     )
 
@@ -223,10 +229,10 @@ bar-run-spec =
     loop-holds
     add-sum-at
     sum-at-requires-3
-    add-bending
-    mul-bending
-    shared-slice-copy-out-bending
-    bending-requires
+    add-stiffness
+    mul-stiffness
+    shared-slice-copy-out-stiffness
+    stiffness-requires
     next-point-requires
     same-length
     returns

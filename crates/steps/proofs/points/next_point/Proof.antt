@@ -31,7 +31,7 @@ module _ (s : tie.Start) where
   ready : Ready (s .args .plan) (s .args .s .force) (s .args .older .now) (s .args .newer .now)
   ready = s .pre .0 .0
 
-  beside : Neighbouring (s .args .plan .instrument) (s .args .newer .now) (s .args .at) (s .args .sum) (s .args .b)
+  beside : Neighbouring (s .args .plan .instrument) (s .args .newer .now) (s .args .at) (s .args .sum) (s .args .stiff)
   beside = s .pre .0 .1
 
   abbrev next : ℕ → Next

@@ -8,12 +8,12 @@ use lib.ListN.{length}
 use mir.Syntax.{w64}
 use mir.Val.{toZ, ofZ}
 use Rattle.bounded.proofs.Num.{back}
-use Rattle.types.specs.Numbers.{ceiling}
+use Rattle.types.specs.Numbers.{D, ceiling}
 use Rattle.scheme.specs.Lists.{point}
-use Rattle.scheme.specs.Step.{numeratorOf, divisor}
+use Rattle.scheme.specs.Step.{divisor}
 use Rattle.scheme.proofs.Laws.Step.{moving-inside}
 use Rattle.plans.specs.Plans.{countOf}
-use Rattle.steps.specs.Plan.{Updatable, Ready, Neighbouring}
+use Rattle.steps.specs.Plan.{numeratorWith, Updatable, Ready, Neighbouring}
 use Rattle.steps.specs.Run.{nextOver}
 use Rattle.steps.proofs.Held.{held, held-below}
 use Rattle.steps.proofs.PointLaws.{updatable, next-is}
@@ -25,7 +25,7 @@ module _ (s : tie.Start) where
   ready : Ready (s .args .plan) (s .args .force) (s .args .older .now) (s .args .newer .now)
   ready = s .pre .0
 
-  beside : Neighbouring (s .args .plan .instrument) (s .args .newer .now) (s .args .at) (s .args .sum) (s .args .b)
+  beside : Neighbouring (s .args .plan .instrument) (s .args .newer .now) (s .args .at) (s .args .sum) (s .args .stiff)
   beside = s .pre .1
 
   -- the point is in both levels
@@ -45,7 +45,7 @@ module _ (s : tie.Start) where
   abbrev f : ℤ
   f = s .args .force
 
-  given : Updatable (s .args .plan) u (s .args .sum) (s .args .b) p f
+  given : Updatable (s .args .plan) u (s .args .sum) p f (s .args .stiff)
   given = updatable ready beside
 
   u-is : toZ w64 (ofZ w64 u) ≡ u
@@ -54,8 +54,8 @@ module _ (s : tie.Start) where
   sum-is : toZ w64 (ofZ w64 (s .args .sum)) ≡ s .args .sum
   sum-is = held-below (4 * ceiling) tt (given .sum-low)
 
-  b-is : toZ w64 (ofZ w64 (s .args .b)) ≡ s .args .b
-  b-is = held-below (64 * ceiling) tt (given .b-low)
+  stiff-is : toZ w64 (ofZ w64 (s .args .stiff)) ≡ s .args .stiff
+  stiff-is = held-below (4 * D * ceiling) tt (given .stiff-low)
 
   p-is : toZ w64 (ofZ w64 p) ≡ p
   p-is = held (given .older-low)
@@ -68,7 +68,7 @@ module _ (s : tie.Start) where
 
   abbrev numerator-there : ℤ
   numerator-there =
-      numeratorOf (s .args .plan .instrument .settings) u (s .args .sum -ℤ count *ℤ u) (s .args .b) p f
+      numeratorWith (s .args .plan .instrument .settings) u (s .args .sum -ℤ count *ℤ u) (s .args .stiff) p f
 
 -- the numerator, as it was stored
 module _ (c : tie.After-numerator) where
@@ -79,7 +79,7 @@ module _ (c : tie.After-numerator) where
   numerator-is =
       let s = start in
       c .numerator .ensures ∙
-      (λ j. numeratorOf (s .args .plan .instrument .settings) (u-is s j) (sum-is s j -ℤ count s *ℤ u-is s j) (b-is s j) (p-is s j)
+      (λ j. numeratorWith (s .args .plan .instrument .settings) (u-is s j) (sum-is s j -ℤ count s *ℤ u-is s j) (stiff-is s j) (p-is s j)
       (f-is s j))
 
 mul-numerator : tie.Need-mul-numerator
@@ -98,7 +98,7 @@ numerator-requires : tie.Need-numerator-requires
 numerator-requires c κs =
     let s = c .before .before in (
       ready s .planned,
-      coe 1 0 (j. Updatable (s .args .plan) (u-is s j) (sum-is s j) (b-is s j) (p-is s j) (f-is s j)) (given s),
+      coe 1 0 (j. Updatable (s .args .plan) (u-is s j) (sum-is s j) (p-is s j) (f-is s j) (stiff-is s j)) (given s),
     )
 
 returns : tie.Need-returns
