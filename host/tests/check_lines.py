@@ -1,6 +1,6 @@
 """Whether the pages in Markdown are easy to compare line by line: a line of prose has at most 120 characters, or is one sentence.
 
-    python3 check_lines.py [--every] [PAGE.md ..]     without a page all, with --every those of LATER in pages.py too
+    python3 check_lines.py [PAGE.md ..]     without a page all
 
 Prose is what is no table, heading, comment or code block. The target of a link does not count, nor does a line that is one span of code or
 one link. A longer line must begin and end with its sentence: it stands first in its paragraph or list item, or after a line that ends a
@@ -64,10 +64,9 @@ def faults_of(text):
 
 def main():
     parser = parser_of(__doc__)
-    parser.add_argument("--every", action="store_true")
     parser.add_argument("pages", metavar="PAGE.md", nargs="*", type=file)
     options = parser.parse_args()
-    pages = chosen(options.pages, options.every)
+    pages = chosen(options.pages)
     wrong = [f"{page}:{number}: {what}" for page in pages for number, what in faults_of((ROOT / page).read_text(encoding="utf-8"))]
     print(*wrong or [f"the lines of {len(pages)} pages are sentences or at most {MOST} characters"], sep="\n")
     return 1 if wrong else 0

@@ -1,6 +1,6 @@
 """Whether the names and paths that the pages mention in `code` exist, and the targets of their links.
 
-    python3 check_names.py [--every] [PAGE.md ..]     without a page all, with --every those of LATER in pages.py too
+    python3 check_names.py [PAGE.md ..]     without a page all
 
 A span of code with a slash, or that ends as a file does, is a path: from the root, the page's folder, crates/, a crate, or a folder of
 host/. NAME, LABEL, FILE and * stand for any name, and .antt, .rt, .edit and .md may be left out. What is built is not looked for: target/,
@@ -100,10 +100,9 @@ def faults_of(text, page):
 
 def main():
     parser = parser_of(__doc__)
-    parser.add_argument("--every", action="store_true")
     parser.add_argument("pages", metavar="PAGE.md", nargs="*", type=file)
     options = parser.parse_args()
-    pages = [str(page) for page in chosen(options.pages, options.every)]
+    pages = [str(page) for page in chosen(options.pages)]
     wrong = [f"{page}:{number}: does not exist: {what}"
              for page in pages for number, what in faults_of((ROOT / page).read_text(encoding="utf-8"), page)]
     print(*wrong or [f"the names, paths and links of {len(pages)} pages exist"], sep="\n")

@@ -6,18 +6,6 @@ import re
 ROOT = pathlib.Path(__file__).resolve().parent.parent.parent
 SPAN = re.compile(r"(`+)(.+?)(?<!`)\1(?!`)")
 
-# Pages that neither check_lines.py nor check_names.py looks at yet. Where this is empty they look at all.
-LATER = (
-    "docs/DECISIONS.md",
-    "docs/DEMANDS.md",
-    "docs/EDITS.md",
-    "docs/PROOF.md",
-    "docs/STATEMENT.md",
-    *(f"docs/landings/{name}.md" for name in (
-        "01-scheme", "02-engine", "03-sheet", "04-ring-c-library", "05-whole-cue", "06-shape", "07-signed", "08-gate", "09-plates",
-        "10-samples", "11-counts", "12-two-levels", "13-mirror-image", "14-paper-order", "15-own-pluck")),
-)
-
 
 def all_pages():
     """Every page of the repository, by its path from the root."""
@@ -25,9 +13,9 @@ def all_pages():
     return sorted(path.relative_to(ROOT).as_posix() for path in found)
 
 
-def chosen(names, every):
-    """The pages named; without a name all, but those of LATER only where `every` is true."""
-    return names or [name for name in all_pages() if every or name not in LATER]
+def chosen(names):
+    """The pages named; without a name all."""
+    return names or all_pages()
 
 
 def outside_code(text):

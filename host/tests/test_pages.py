@@ -7,7 +7,7 @@ import sys
 
 import check_lines
 import check_names
-from pages import LATER, ROOT, all_pages
+from pages import ROOT, all_pages
 
 from arguments import parser_of
 
@@ -67,9 +67,6 @@ def faults():
             yield f"names, {text!r}: {found}, not {wanted}"
     if list(check_names.faults_of("`no_such_function` [x](no-such.md)", "docs/landings/x.md")) != [(1, "link to no-such.md")]:
         yield "names, a landing's note: its links alone are looked at"
-    for page in LATER:
-        if page not in all_pages():
-            yield f"LATER has a page that does not exist: {page}"
     if "README.md" not in all_pages() or "docs/STATEMENT.md" not in all_pages() or not (ROOT / "README.md").is_file():
         yield "not all pages are found"
 
