@@ -34,7 +34,7 @@ fn count_in(g: Grid) -> i64
     if g.rows == 1 { 2 } else { 4 }
 }
 
-// The factors, zeros where a setting is above D. Ruled out: own and near exchanged; the divisor without the loss.
+// The factors, zeros where a setting is above D. Ruled out: own and near exchanged; bend and stiff exchanged.
 pub fn make_plan(i: Instrument) -> Plan
     ensures { λ r. ⌜ r ≡ planOf i ⌝ }
 {

@@ -25,7 +25,7 @@ use stretches::stretch_end;
 use types::Hit;
 
 // The moving points of a row.
-fn row_run(
+fn row_stretches(
     plan: Plan,
     older: &[i64],
     newer: &[i64],
@@ -99,7 +99,7 @@ fn row_pass(
             base,
             write,
         };
-        let p = row_run(plan, older, newer, piece, hit, out);
+        let p = row_stretches(plan, older, newer, piece, hit, out);
         if !p.within {
             return p;
         }

@@ -8,7 +8,7 @@ ghost use Rattle.steps.specs.Plan.{AtMost};
 ghost use Rattle.steps.specs.Run.{twoBeside, fourBeside, barSum};
 
 // The points to the left and to the right.
-pub(crate) fn beside(xs: &[i64], k: usize) -> i64
+pub(crate) fn sum_beside(xs: &[i64], k: usize) -> i64
     requires { ⌜ (1 ≤ k) × (k + 1 < length (now xs)) × AtMost ceiling (point (now xs)) ⌝ }
     ensures { λ r. ⌜ r ≡ twoBeside (now (xs .entry)) k ⌝ }
 {
@@ -16,11 +16,11 @@ pub(crate) fn beside(xs: &[i64], k: usize) -> i64
 }
 
 // These, and the points above and below in a grid.
-pub(crate) fn around(xs: &[i64], k: usize, columns: usize) -> i64
+pub(crate) fn sum_around(xs: &[i64], k: usize, columns: usize) -> i64
     requires { ⌜ (1 ≤ columns) × (columns ≤ k) × (k + columns < length (now xs)) × AtMost ceiling (point (now xs)) ⌝ }
     ensures { λ r. ⌜ r ≡ fourBeside (now (xs .entry)) columns k ⌝ }
 {
-    beside(xs, k) + xs[k - columns] + xs[k + columns]
+    sum_beside(xs, k) + xs[k - columns] + xs[k + columns]
 }
 
 // The sum of a point's neighbours on a bar: 0 at its supported ends.
@@ -34,5 +34,5 @@ pub(crate) fn sum_at(xs: &[i64], k: usize) -> i64
     if k + 1 == xs.len() {
         return 0;
     }
-    beside(xs, k)
+    sum_beside(xs, k)
 }

@@ -14,7 +14,7 @@ ghost use Rattle.steps.specs.Run.{Filled, Advanced, Stepping, Placed, fo
 ghost use Rattle.steps.specs.Pass.{Passable, Passed};
 ghost use Rattle.steps.specs.Plates.{TwoRows, InRow, Readable, secondAt};
 use crate::arithmetic::stiffness;
-use crate::neighbours::around;
+use crate::neighbours::sum_around;
 use crate::points::next_point;
 use crate::progress::Progress;
 use pieces::base_of;
@@ -45,7 +45,7 @@ fn put_first(xs: &[i64], columns: usize, place: usize, sums: &mut [i64])
     let last = columns - 1;
     let mut c = 1;
     while c < last {
-        sums[place + c] = around(xs, columns + c, columns);
+        sums[place + c] = sum_around(xs, columns + c, columns);
         c += 1;
     }
 }
@@ -58,7 +58,7 @@ fn sum_below(xs: &[i64], at: usize, columns: usize, last: bool) -> i64
     if last {
         return 0;
     }
-    around(xs, at + columns, columns)
+    sum_around(xs, at + columns, columns)
 }
 
 // The sum of the sums around column c: that of the point below it is given.

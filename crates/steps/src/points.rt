@@ -10,9 +10,9 @@ ghost use Rattle.steps.specs.Run.{nextOver, nextBy, Advanced, Placed, Mo
 use crate::arithmetic::is_below_limit;
 use crate::arithmetic::numerator;
 use crate::arithmetic::stiffness;
-use crate::neighbours::around;
-use crate::neighbours::beside;
+use crate::neighbours::sum_around;
 use crate::neighbours::sum_at;
+use crate::neighbours::sum_beside;
 use crate::progress::Progress;
 use plans::Plan;
 use rounding::round_by;
@@ -83,7 +83,7 @@ fn line_run(plan: Plan, older: &[i64], newer: &[i64], s: Stretch, out: &mut [i64
     let mut inexact = 0;
     let mut at = s.from;
     while at < s.to {
-        let sum = beside(newer, at);
+        let sum = sum_beside(newer, at);
         let p = next_point(plan, older, newer, at, sum, 0, s, out);
         if !p.within {
             return p;
@@ -196,7 +196,7 @@ fn grid_run(plan: Plan, older: &[i64], newer: &[i64], s: Stretch, out: &mut [i64
     let mut inexact = 0;
     let mut at = s.from;
     while at < s.to {
-        let sum = around(newer, at, columns);
+        let sum = sum_around(newer, at, columns);
         let p = next_point(plan, older, newer, at, sum, 0, s, out);
         if !p.within {
             return p;

@@ -9,8 +9,8 @@ ghost use Rattle.scheme.specs.Refusals.{tooStrong};
 ghost use Rattle.steps.specs.Plan.{Ready, Neighbouring};
 ghost use Rattle.steps.specs.Run.{nextOf, Tested, Moves, OnLine, FreeEnd};
 use crate::arithmetic::is_below_limit;
-use crate::neighbours::around;
-use crate::neighbours::beside;
+use crate::neighbours::sum_around;
+use crate::neighbours::sum_beside;
 use crate::points::numerator_at;
 use plans::Plan;
 use stretches::clamped;
@@ -42,7 +42,7 @@ fn is_line_within(
 {
     let mut at = from;
     while at < to {
-        let sum = beside(newer, at);
+        let sum = sum_beside(newer, at);
         if !is_point_within(plan, older, newer, at, sum, hit) {
             return false;
         }
@@ -113,7 +113,7 @@ fn is_grid_within(
     let columns = plan.instrument.grid.columns;
     let mut at = from;
     while at < to {
-        let sum = around(newer, at, columns);
+        let sum = sum_around(newer, at, columns);
         if !is_point_within(plan, older, newer, at, sum, hit) {
             return false;
         }

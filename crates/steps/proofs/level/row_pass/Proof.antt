@@ -98,8 +98,8 @@ piece-end-requires c κs = tt
 base-of-requires : tie.Need-base-of-requires Inv-loop μ-loop
 base-of-requires c κs = tt
 
-row-run-requires : tie.Need-row-run-requires Inv-loop μ-loop
-row-run-requires c κs =
+row-stretches-requires : tie.Need-row-stretches-requires Inv-loop μ-loop
+row-stretches-requires c κs =
     let b = c .before .before in
     ((ready b, placed b), (moves b, s b .pre .1 .1, s b .pre .1 .2))
 
@@ -111,7 +111,7 @@ same-length-2 : tie.Need-same-length-2 Inv-loop μ-loop
 same-length-2 c = done (worked (c .before .before)) .older-long
 
 same-length-3 : tie.Need-same-length-3 Inv-loop μ-loop
-same-length-3 c = let o = c .before .before in o .before .row-run .ensures .long ∙ done (worked o) .out-long
+same-length-3 c = let o = c .before .before in o .before .row-stretches .ensures .long ∙ done (worked o) .out-long
 
 returns-2 : tie.Need-returns-2 Inv-loop μ-loop
 returns-2 c =
@@ -120,7 +120,7 @@ returns-2 c =
     let beyond = not-true _ (c .if3 .taken) in
     let a = s b .args in
     passing-stops (loop b .loop .inv .1) (moves b .order) (done b)
-    (piece-stops (a .plan .instrument) (a .hit) (a .write) (a .in-place) (aside b) (o .before .row-run .ensures) beyond) (ends b .upto)
+    (piece-stops (a .plan .instrument) (a .hit) (a .write) (a .in-place) (aside b) (o .before .row-stretches .ensures) beyond) (ends b .upto)
     beyond
 
 -- and looked at
@@ -143,19 +143,19 @@ module _ (c : tie.After-struct-known3 Inv-loop μ-loop) where
 
   one-more : Passing (s at-piece .args .plan .instrument) (s at-piece .args .hit) (s at-piece .args .write) (s at-piece .args .in-place)
       (s at-piece .args .older .now) (s at-piece .args .newer .now) (s at-piece .args .out .now)
-      (put .put-piece .last .1 .1 .1 .1 .0) (looked seen .before .row-run .last .1 .1 .1 .1 .1 .0) (s at-piece .args .from)
+      (put .put-piece .last .1 .1 .1 .1 .0) (looked seen .before .row-stretches .last .1 .1 .1 .1 .1 .0) (s at-piece .args .from)
       (at-piece .before .piece-end .result)
-      (passed (loop at-piece .loop .inexact + looked seen .before .row-run .result .inexact))
+      (passed (loop at-piece .loop .inexact + looked seen .before .row-stretches .result .inexact))
   one-more =
       let b = at-piece in
       let a = s b .args in
       let within = not-false _ (seen .if3 .left) in
       passing-append (loop b .loop .inv .1) (moves b .order) (done b)
-      (piece-passing (a .plan .instrument) (a .hit) (a .write) (a .in-place) (aside b) (looked seen .before .row-run .ensures) within
+      (piece-passing (a .plan .instrument) (a .hit) (a .write) (a .in-place) (aside b) (looked seen .before .row-stretches .ensures) within
       (record {
         above = placed b .above;
         order = placed b .order;
-        first = omega (arith, placed b .room, looked seen .before .row-run .ensures .long);
+        first = omega (arith, placed b .room, looked seen .before .row-stretches .ensures .long);
         second = omega (arith, inside b, ready b .older-long);
       })
       (put .put-piece .ensures)) within
@@ -192,7 +192,7 @@ row-pass-spec =
     loop-holds
     piece-end-requires
     base-of-requires
-    row-run-requires
+    row-stretches-requires
     same-length-2
     same-length-3
     returns-2

@@ -28,14 +28,14 @@ add-if2 c = search needs
 returns-2 : tie.Need-returns-2
 returns-2 c = value (c .before .before) (at-edge _ _ (inr (c .if2 .taken)))
 
-beside-requires : tie.Need-beside-requires
-beside-requires c κs = search needs
+sum-beside-requires : tie.Need-sum-beside-requires
+sum-beside-requires c κs = search needs
 
 returns-3 : tie.Need-returns-3
 returns-3 c =
     let s = c .before .before .before in
-    back (c .beside .result) (c .beside .ok) ∙ c .beside .ensures ∙
+    back (c .sum-beside .result) (c .sum-beside .ok) ∙ c .sum-beside .ensures ∙
     value s (neither-or (ne-eqb _ 0 (c .before .before .if1 .left)) (ne-eqb _ _ (c .before .if2 .left)))
 
 pub sum-at-spec : {M : Type 1} → statement M
-sum-at-spec = tie.close (tie.spec returns add-if2 returns-2 beside-requires returns-3)
+sum-at-spec = tie.close (tie.spec returns add-if2 returns-2 sum-beside-requires returns-3)

@@ -38,11 +38,11 @@ sub-last c = omega (arith, c .pre .0)
 loop-holds : tie.Need-loop-holds Inv-loop μ-loop
 loop-holds c = putting-start _ _ _ (omega (arith, c .pre .0))
 
-add-around : tie.Need-add-around Inv-loop μ-loop
-add-around c = let h = below c in search needs
+add-sum-around : tie.Need-add-sum-around Inv-loop μ-loop
+add-sum-around c = let h = below c in search needs
 
-around-requires : tie.Need-around-requires Inv-loop μ-loop
-around-requires c κs = (omega (arith, s c .pre .0), omega arith, below c, s c .pre .1)
+sum-around-requires : tie.Need-sum-around-requires Inv-loop μ-loop
+sum-around-requires c κs = (omega (arith, s c .pre .0), omega arith, below c, s c .pre .1)
 
 add-t10 : tie.Need-add-t10 Inv-loop μ-loop
 add-t10 c = let h = inside (c .before) in search needs
@@ -63,7 +63,7 @@ loop-again : tie.Need-loop-again Inv-loop μ-loop
 loop-again c =
     let t = c .before in
     putting-on (t .before .loop .inv) (omega arith) (omega (arith, last t)) (omega (arith, s t .pre .0)) _
-    (back (c .around .result) (c .around .ok) ∙ c .around .ensures ∙
+    (back (c .sum-around .result) (c .sum-around .ok) ∙ c .sum-around .ensures ∙
     ap (fourBeside (s t .args .xs .now) (s t .args .columns)) (omega arith))
 
 same-length : tie.Need-same-length Inv-loop μ-loop
@@ -80,8 +80,8 @@ put-first-spec =
     μ-loop
     sub-last
     loop-holds
-    add-around
-    around-requires
+    add-sum-around
+    sum-around-requires
     add-t10
     mul-t11
     slice-set-from-sums

@@ -19,16 +19,16 @@ returns : tie.Need-returns
 returns c = let s = c .before .args in
     ap (λ (t : Bool). cond t (pos 0) (fourBeside (s .xs .now) (s .columns) (s .at + s .columns))) (sym (c .if1 .taken))
 
-add-around : tie.Need-add-around
-add-around c = let h = inside c in search needs
+add-sum-around : tie.Need-add-sum-around
+add-sum-around c = let h = inside c in search needs
 
-around-requires : tie.Need-around-requires
-around-requires c κs = let p = c .before .pre in (p .0, omega arith, inside c, p .1)
+sum-around-requires : tie.Need-sum-around-requires
+sum-around-requires c κs = let p = c .before .pre in (p .0, omega arith, inside c, p .1)
 
 returns-2 : tie.Need-returns-2
 returns-2 c = let s = c .before .before .args in
-    back (c .around .result) (c .around .ok) ∙ c .around .ensures ∙
+    back (c .sum-around .result) (c .sum-around .ok) ∙ c .sum-around .ensures ∙
     ap (λ (t : Bool). cond t (pos 0) (fourBeside (s .xs .now) (s .columns) (s .at + s .columns))) (sym (c .before .if1 .left))
 
 pub sum-below-spec : {M : Type 1} → statement M
-sum-below-spec = tie.close (tie.spec returns add-around around-requires returns-2)
+sum-below-spec = tie.close (tie.spec returns add-sum-around sum-around-requires returns-2)

@@ -78,13 +78,13 @@ module _ (c : tie.Then1 Inv-loop μ-loop) where
   below = omega (arith, ready start .newer-long, around-below (g start) size (grid start) k moves-here)
 
 -- its neighbours, as they were stored
-beside : (c : tie.After-around Inv-loop μ-loop) → let t = c .before in
-    Neighbouring (start t .args .plan .instrument) (start t .args .newer .now) (k t) (toZ w64 (ofZ w64 (c .around .result))) (pos 0)
+beside : (c : tie.After-sum-around Inv-loop μ-loop) → let t = c .before in
+    Neighbouring (start t .args .plan .instrument) (start t .args .newer .now) (k t) (toZ w64 (ofZ w64 (c .sum-around .result))) (pos 0)
 beside c =
     let t = c .before in
     let s = start t in
     subst (λ (z : ℤ). Neighbouring (s .args .plan .instrument) (s .args .newer .now) (k t) z (pos 0))
-    (sym (back (c .around .result) (c .around .ok) ∙ c .around .ensures))
+    (sym (back (c .sum-around .result) (c .sum-around .ok) ∙ c .sum-around .ensures))
     (grid-beside (s .args .plan .instrument) (ready s .planned .passes) (grid s) (s .pre .1 .1) (s .args .newer .now) (k t)
     (moves-here t))
 
@@ -95,8 +95,8 @@ turn c = c .before .before .before .before
 loop-holds : tie.Need-loop-holds Inv-loop μ-loop
 loop-holds c = let p = c .pre .0 .1 in running-start _ _ _ (p .above) (p .order)
 
-around-requires : tie.Need-around-requires Inv-loop μ-loop
-around-requires c κs = (omega (arith, wide (g (start c)) (size c)), above c, below c, ready (start c) .newer-low)
+sum-around-requires : tie.Need-sum-around-requires Inv-loop μ-loop
+sum-around-requires c κs = (omega (arith, wide (g (start c)) (size c)), above c, below c, ready (start c) .newer-low)
 
 next-point-requires : tie.Need-next-point-requires Inv-loop μ-loop
 next-point-requires c κs =
@@ -151,7 +151,7 @@ grid-run-spec =
     Inv-loop
     μ-loop
     loop-holds
-    around-requires
+    sum-around-requires
     next-point-requires
     same-length
     returns

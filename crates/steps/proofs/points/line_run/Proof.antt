@@ -69,13 +69,13 @@ module _ (c : tie.Then1 Inv-loop μ-loop) where
   inside = omega (arith, last, room start)
 
 -- its neighbours, as they were stored
-beside : (c : tie.After-beside Inv-loop μ-loop) → let t = c .before in
-    Neighbouring (start t .args .plan .instrument) (start t .args .newer .now) (k t) (toZ w64 (ofZ w64 (c .beside .result))) (pos 0)
+beside : (c : tie.After-sum-beside Inv-loop μ-loop) → let t = c .before in
+    Neighbouring (start t .args .plan .instrument) (start t .args .newer .now) (k t) (toZ w64 (ofZ w64 (c .sum-beside .result))) (pos 0)
 beside c =
     let t = c .before in
     let s = start t in
     subst (λ (z : ℤ). Neighbouring (s .args .plan .instrument) (s .args .newer .now) (k t) z (pos 0))
-    (sym (back (c .beside .result) (c .beside .ok) ∙ c .beside .ensures))
+    (sym (back (c .sum-beside .result) (c .sum-beside .ok) ∙ c .sum-beside .ensures))
     (line-beside (s .args .plan .instrument) (ready s .planned .passes) (on s) (soft s) (s .args .newer .now) (k t) (first t) (last t))
 
 -- the same, once the point is done
@@ -85,8 +85,8 @@ turn c = c .before .before .before .before
 loop-holds : tie.Need-loop-holds Inv-loop μ-loop
 loop-holds c = let p = c .pre .0 .1 in running-start _ _ _ (p .above) (p .order)
 
-beside-requires : tie.Need-beside-requires Inv-loop μ-loop
-beside-requires c κs = (above c, inside c, ready (start c) .newer-low)
+sum-beside-requires : tie.Need-sum-beside-requires Inv-loop μ-loop
+sum-beside-requires c κs = (above c, inside c, ready (start c) .newer-low)
 
 next-point-requires : tie.Need-next-point-requires Inv-loop μ-loop
 next-point-requires c κs =
@@ -141,7 +141,7 @@ line-run-spec =
     Inv-loop
     μ-loop
     loop-holds
-    beside-requires
+    sum-beside-requires
     next-point-requires
     same-length
     returns

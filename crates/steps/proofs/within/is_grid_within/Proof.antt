@@ -58,8 +58,8 @@ module _ (c : tie.In-loop Inv-loop μ-loop) where
 loop-holds : tie.Need-loop-holds Inv-loop μ-loop
 loop-holds c = (tested-none refl, omega arith, c .pre .1 .1 .order)
 
-around-requires : tie.Need-around-requires Inv-loop μ-loop
-around-requires c κs = (omega (arith, wide (g c) (size c)), above c, below c, start c .pre .0 .0 .newer-low)
+sum-around-requires : tie.Need-sum-around-requires Inv-loop μ-loop
+sum-around-requires c κs = (omega (arith, wide (g c) (size c)), above c, below c, start c .pre .0 .0 .newer-low)
 
 is-point-within-requires : tie.Need-is-point-within-requires Inv-loop μ-loop
 is-point-within-requires c κs =
@@ -68,7 +68,7 @@ is-point-within-requires c κs =
       s .pre .0 .0,
       s .pre .0 .1,
       subst (λ (z : ℤ). Neighbouring (s .args .plan .instrument) (s .args .newer .now) (k t) z (pos 0))
-          (sym (back (c .around .result) (c .around .ok) ∙ c .around .ensures))
+          (sym (back (c .sum-around .result) (c .sum-around .ok) ∙ c .sum-around .ensures))
           (grid-beside (s .args .plan .instrument) (s .pre .0 .0 .planned .passes) (s .pre .1 .0) (s .pre .0 .2) (s .args .newer .now) (k t)
           (moves-here t)),
     )
@@ -112,7 +112,7 @@ is-grid-within-spec =
     Inv-loop
     μ-loop
     loop-holds
-    around-requires
+    sum-around-requires
     is-point-within-requires
     returns
     add-at

@@ -49,8 +49,8 @@ module _ (c : tie.In-loop Inv-loop μ-loop) where
 loop-holds : tie.Need-loop-holds Inv-loop μ-loop
 loop-holds c = (tested-none refl, omega arith, c .pre .0 .2)
 
-beside-requires : tie.Need-beside-requires Inv-loop μ-loop
-beside-requires c κs = (above c, inside c, start c .pre .0 .0 .newer-low)
+sum-beside-requires : tie.Need-sum-beside-requires Inv-loop μ-loop
+sum-beside-requires c κs = (above c, inside c, start c .pre .0 .0 .newer-low)
 
 is-point-within-requires : tie.Need-is-point-within-requires Inv-loop μ-loop
 is-point-within-requires c κs =
@@ -59,7 +59,7 @@ is-point-within-requires c κs =
       s .pre .0 .0,
       s .pre .0 .1,
       subst (λ (z : ℤ). Neighbouring (s .args .plan .instrument) (s .args .newer .now) (k t) z (pos 0))
-          (sym (back (c .beside .result) (c .beside .ok) ∙ c .beside .ensures))
+          (sym (back (c .sum-beside .result) (c .sum-beside .ok) ∙ c .sum-beside .ensures))
           (line-beside (s .args .plan .instrument) (s .pre .0 .0 .planned .passes) (on t) (s .pre .1 .1) (s .args .newer .now) (k t)
           (first t) (last t)),
     )
@@ -103,7 +103,7 @@ is-line-within-spec =
     Inv-loop
     μ-loop
     loop-holds
-    beside-requires
+    sum-beside-requires
     is-point-within-requires
     returns
     add-at

@@ -1,9 +1,9 @@
--- `beside` meets its contract.
+-- `sum_beside` meets its contract.
 use borrow.Author.Needs.{needs}
 use Rattle.bounded.proofs.Expr.{E, fits, is}
 use Rattle.steps.proofs.BesideLaws.{beside#}
-use Rattle.steps.proofs.neighbours.beside.Statement.{statement}
-use Rattle.steps.proofs.neighbours.beside.Tie as tie
+use Rattle.steps.proofs.neighbours.sum_beside.Statement.{statement}
+use Rattle.steps.proofs.neighbours.sum_beside.Tie as tie
 
 -- the sum, as the machine adds it
 abbrev sum# : tie.Start → E
@@ -33,8 +33,8 @@ add-result-2 c = fits (sum# (c .before .before)) tt
 returns : tie.Need-returns
 returns c = is (sum# (c .before .before)) tt
 
-pub beside-spec : {M : Type 1} → statement M
-beside-spec =
+pub sum-beside-spec : {M : Type 1} → statement M
+sum-beside-spec =
     tie.close
     (tie.spec
     sub-result

@@ -1,26 +1,26 @@
--- `around` meets its contract.
+-- `sum_around` meets its contract.
 use mathlib.Core.Path.{_∙_}
 use Prim.Native.Nat.{_+_, _-_}
 use borrow.Author.Needs.{needs}
 use Rattle.bounded.proofs.Num.{back}
 use Rattle.bounded.proofs.Expr.{E, _⊞_, fits, is}
 use Rattle.steps.proofs.BesideLaws.{at#, two#}
-use Rattle.steps.proofs.neighbours.around.Statement.{statement}
-use Rattle.steps.proofs.neighbours.around.Tie as tie
+use Rattle.steps.proofs.neighbours.sum_around.Statement.{statement}
+use Rattle.steps.proofs.neighbours.sum_around.Tie as tie
 
 -- the sum, as the machine adds it
-module _ (c : tie.After-beside) where
+module _ (c : tie.After-sum-beside) where
   abbrev three# : E
   three# =
       let s = c .before in
-      two# (s .args .xs .now) (s .pre .3) (s .args .k) (back (c .beside .result) (c .beside .ok) ∙ c .beside .ensures)
+      two# (s .args .xs .now) (s .pre .3) (s .args .k) (back (c .sum-beside .result) (c .sum-beside .ok) ∙ c .sum-beside .ensures)
       ⊞ at# (s .args .xs .now) (s .pre .3) (s .args .k - s .args .columns)
 
   abbrev four# : E
   four# = let s = c .before in three# ⊞ at# (s .args .xs .now) (s .pre .3) (s .args .k + s .args .columns)
 
-beside-requires : tie.Need-beside-requires
-beside-requires c κs = search needs
+sum-beside-requires : tie.Need-sum-beside-requires
+sum-beside-requires c κs = search needs
 
 sub-result : tie.Need-sub-result
 sub-result c = search needs
@@ -49,11 +49,11 @@ add-result-3 c = fits (four# (c .before .before)) tt
 returns : tie.Need-returns
 returns c = is (four# (c .before .before)) tt
 
-pub around-spec : {M : Type 1} → statement M
-around-spec =
+pub sum-around-spec : {M : Type 1} → statement M
+sum-around-spec =
     tie.close
     (tie.spec
-    beside-requires
+    sum-beside-requires
     sub-result
     mul-result
     shared-slice-copy-out-result

@@ -1,4 +1,4 @@
--- `row_run` meets its contract: stretch by stretch, one force on the points of each.
+-- `row_stretches` meets its contract: stretch by stretch, one force on the points of each.
 use mathlib.Core.Path.{sym, _∙_, subst}
 use Prim.Native.Nat.{_-_}
 use native.Mathlib.Omega.{arith}
@@ -12,8 +12,8 @@ use Rattle.steps.specs.Run.{nextOf}
 use Rattle.steps.proofs.PlanLaws.{few-points}
 use Rattle.steps.proofs.FillLaws.{Running, running-start, running-done}
 use Rattle.steps.proofs.HitLaws.{Struck, struck-ready, struck-placed, struck-moves, struck-on, struck-most, struck-stops, run-inside}
-use Rattle.steps.proofs.level.row_run.Statement.{statement}
-use Rattle.steps.proofs.level.row_run.Tie as tie
+use Rattle.steps.proofs.level.row_stretches.Statement.{statement}
+use Rattle.steps.proofs.level.row_stretches.Tie as tie
 
 abbrev Inv-loop : tie.InvT-loop
 Inv-loop plan older newer row hit out₀ inexact₀ at₀ out inexact at =
@@ -90,8 +90,8 @@ same-length-2 c = search needs
 returns-2 : tie.Need-returns-2 Inv-loop μ-loop
 returns-2 c = running-done (c .before .before .loop .inv) (c .if1 .left)
 
-pub row-run-spec : {M : Type 1} → statement M
-row-run-spec =
+pub row-stretches-spec : {M : Type 1} → statement M
+row-stretches-spec =
     tie.close
     (tie.spec
     Inv-loop
