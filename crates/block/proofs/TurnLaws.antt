@@ -14,7 +14,8 @@ use Rattle.turns.specs.Turns.{olderOf, newerOf}
 use Rattle.steps.specs.Left.{LeftInTurn, LeftInPlace}
 use Rattle.turns.proofs.TurnLaws.{turn-at}
 
-module _ {r : Refusal} {b : AfterBlock} {t : InTurn} {older newer work samples : List ℤ} (q : LeftInTurn r b t older newer work samples) where
+module _ {r : Refusal} {b : AfterBlock} {t : InTurn} {older newer work samples : List ℤ}
+    (q : LeftInTurn r b t older newer work samples) where
   abbrev told : BlockAnswer
   told = record { steps = t .steps; inexact = t .inexact; refusal = t .refusal }
 
@@ -25,9 +26,9 @@ module _ {r : Refusal} {b : AfterBlock} {t : InTurn} {older newer work samples :
   pub left-refused : t .begun ≡ false → blockLeft told older newer work samples ≡ b
   left-refused e =
       let kept = q .refused e in
-      let roles = turn-at (t .turn) older newer work 0 (q .turn-is ∙ ap (λ (n : ℕ). n % 3) (kept .0)) in
-      let first = sym (roles .older-is) ∙ q .older-is in
-      let second = sym (roles .newer-is) ∙ q .newer-is in
+      let there = turn-at (t .turn) older newer work 0 (q .turn-is ∙ ap (λ (n : ℕ). n % 3) (kept .0)) in
+      let first = sym (there .older-is) ∙ q .older-is in
+      let second = sym (there .newer-is) ∙ q .newer-is in
       λ k. blockLeft (answer k) (first k) (second k) (kept .1 k) (q .samples-are k)
 
   -- the levels were put back in their places, and work was cleared

@@ -81,7 +81,7 @@ module _ (i : Instrument) (older newer : List ℤ) (pick : ℕ) (h : Hit) (e : b
   own-steps samples {n} {r} {older₁} {newer₁} {samples₁} s =
       subst (λ (i : Instrument). Played (play i pick h older newer samples) n r older₁ newer₁ samples₁) own s
 
--- the steps begin with the slices in the roles that they were lent for
+-- the steps begin with each level in the slice that it was lent in
 pub opened : {g : Grid} {work : List ℤ} {first : ℕ} → Opens g work first → (i : Instrument) (pick : ℕ) (h : Hit)
     (older newer cleared samples : List ℤ) {n : ℕ} {r : Steps} {older₁ newer₁ samples₁ : List ℤ}
     → Played (play i pick h (olderOf first older newer cleared) (newerOf first older newer cleared) samples) n r older₁ newer₁ samples₁
@@ -107,7 +107,8 @@ module _ (i : Instrument) (older newer work samples : List ℤ) (pick : ℕ) (h 
 
   -- one that is refused
   pub turned-down : {r : Refusal} → r ≡ refuses → accepted refuses ≡ false
-      → LeftInTurn refuses (block i older newer work samples pick h) (record { begun = false; steps = 0; inexact = 0; refusal = r; turn = 0 })
+      → LeftInTurn refuses (block i older newer work samples pick h)
+      (record { begun = false; steps = 0; inexact = 0; refusal = r; turn = 0 })
       older newer work samples
   turned-down e f =
       let b = sym (block-refused i older newer work samples pick h f) in
@@ -125,7 +126,8 @@ module _ (i : Instrument) (older newer work samples : List ℤ) (pick : ℕ) (h 
       }
 
   -- one that is carried out: 13 where places are left
-  module _ (e : refuses ≡ Nothing) {r : Steps} {older₁ newer₁ work₁ samples₁ : List ℤ} {refusal : Refusal} (turn : r .turn ≡ turnAfter 0 (r .done))
+  module _ (e : refuses ≡ Nothing) {r : Steps} {older₁ newer₁ work₁ samples₁ : List ℤ} {refusal : Refusal}
+      (turn : r .turn ≡ turnAfter 0 (r .done))
       (older-kept : length older₁ ≡ length older) (newer-kept : length newer₁ ≡ length newer) (work-kept : length work₁ ≡ length work)
       (s : Played (play i pick h older newer samples) (length samples) r (olderOf (r .turn) older₁ newer₁ work₁)
       (newerOf (r .turn) older₁ newer₁ work₁) samples₁) where

@@ -10,7 +10,8 @@ use Rattle.types.specs.Numbers.{D, ceiling}
 use Rattle.plans.specs.declared.Plan.{Plan}
 use Rattle.plans.specs.Plans.{countOf}
 use Rattle.steps.specs.Plan.{bendingOf, numeratorWith, Planned, Bendable, Updatable}
-use Rattle.steps.proofs.PlanLaws.{own-is, near-is, kept-is, m-is, bend-is, stiff-is, stiff-low, bend-low, own-low, near-low, m-low, kept-low}
+use Rattle.steps.proofs.PlanLaws.{own-is, near-is, kept-is, m-is, bend-is, stiff-is}
+use Rattle.steps.proofs.PlanLaws.{own-low, near-low, kept-low, m-low, bend-low, stiff-low}
 
 -- m·B by sums
 module _ {p : Plan} (h : Planned p) {second sum u : ℤ} (given : Bendable p second sum u) where

@@ -232,7 +232,7 @@ module _ {i : Instrument} {pick n j held : ℕ} {hit : Hit} {whole : AfterSteps}
       go (y ∷ xs) a l w = absurd (omega (arith, l, h))
       go [] a l w = ended-by turn Nothing [] a w (sym (ap (λ (t : Bool). cond t NextBeyond Nothing) (le-ltb j n h)))
 
--- ---- the slices by their roles
+-- ---- the slices in their turn
 
 module _ {p : ℕ} {i : Instrument} {h : Hit} {a₀ b₀ c₀ a b c : List ℤ} {x : Progress} (s : SteppedIn p i h a₀ b₀ c₀ a b c x) where
   -- after a step

@@ -187,7 +187,8 @@ module _ {p : Plan} {f : ℤ} {older newer : List ℤ} {k : ℕ} {sum stiff : �
       ))
 
   stiff-low : natAbs stiff ≤ 4 * D * ceiling
-  stiff-low = subst (λ (z : ℤ). natAbs z ≤ 4 * D * ceiling) (sym (n .stiff-is)) (stiff-part (r .planned) (biharmonic (i .grid) (point newer) k) bending-low)
+  stiff-low = subst (λ (z : ℤ). natAbs z ≤ 4 * D * ceiling) (sym (n .stiff-is))
+      (stiff-part (r .planned) (biharmonic (i .grid) (point newer) k) bending-low)
 
   pub updatable : Updatable p u sum (point older k) f stiff
   updatable = record {

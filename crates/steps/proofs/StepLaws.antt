@@ -1,11 +1,10 @@
 -- A step of whole levels, in place or beside them, in any turn.
 use mathlib.Core.Path.{_≡_, refl, sym, ap, _∙_, subst}
-use mathlib.Core.Bool.{Bool, true, false, not, true≢false}
+use mathlib.Core.Bool.{Bool, true, false, true≢false}
 use mathlib.Core.List.{List}
 use mathlib.Core.Logic.{⊎-elim}
-use Prim.Native.Nat.{ℕ, zero, suc, _+_, _%_, _≤_, _<_}
+use Prim.Native.Nat.{ℕ, _≤_}
 use native.Mathlib.Omega.{arith}
-use lib.Dec.{eqb}
 use lib.IntN.{ℤ}
 use lib.ListN.{length}
 use Rattle.types.specs.declared.Instrument.{Instrument}
@@ -15,7 +14,7 @@ use Rattle.pieces.specs.Pieces.{piece}
 use Rattle.turns.proofs.TurnLaws.{AtTurn}
 use Rattle.plans.specs.declared.Plan.{Plan}
 use Rattle.steps.specs.declared.progress.Progress.{Progress}
-use Rattle.turns.specs.Turns.{nextTurn, turnAfter, olderOf, newerOf, outOf}
+use Rattle.turns.specs.Turns.{olderOf, newerOf, outOf}
 use Rattle.steps.specs.Steps.{Steppable, Stepped, SteppedInPlace, SteppedIn}
 use Rattle.steps.specs.Pass.{Passable, Passed}
 
@@ -79,7 +78,7 @@ module _ {i : Instrument} {h : Hit} {older₀ newer room₀ older₁ room₁ : L
     kept = λ t. absurd (true≢false (sym e ∙ t));
   }
 
--- ---- what a step is given and leaves, by the slices that have the roles
+-- ---- what a step is given and leaves, by the slices that hold its levels
 
 module _ {p : ℕ} {a₀ b₀ c₀ older newer out₀ : List ℤ} (r₀ : AtTurn p a₀ b₀ c₀ older newer out₀) where
   pub given-in : {q : Plan} {h : Hit} → Steppable q h (olderOf p a₀ b₀ c₀) (newerOf p a₀ b₀ c₀) (outOf p a₀ b₀ c₀)

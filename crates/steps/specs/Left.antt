@@ -1,4 +1,4 @@
--- What the steps of a call leave in slices whose roles turn. Vocabulary between the engine's crates: no call that a maker embeds
+-- What the steps of a call leave in slices that take turns. Vocabulary between the engine's crates: no call that a maker embeds
 -- cites it. What the calls themselves promise is `block` and `blockInPlace` of crate scheme.
 use mathlib.Core.Path.{_≡_}
 use mathlib.Core.Bool.{true, false, cond}

@@ -115,7 +115,7 @@ pub fn steps_in_turn(
 }
 
 // The same on two levels: no third one is lent.
-// Ruled out: older written over though a later point passes the ceiling; the levels' roles kept after a step.
+// Ruled out: older written over though a later point passes the ceiling; two levels that keep their turn after a step.
 pub fn steps_in_place(
     i: Instrument,
     older: &mut [i64],

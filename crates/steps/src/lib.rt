@@ -1,4 +1,4 @@
-// The steps of a block, on three levels or on two whose roles turn.
+// The steps of a block, on three levels or on two, in slices that take turns.
 mod arithmetic;
 mod call;
 mod level;

@@ -217,7 +217,7 @@ fn struck_row(
     plate_run(plan, older, newer, rows, row, sums, out)
 }
 
-// Every moving point of a plate, in a step without a hit. After a row the two places of the sums change roles.
+// Every moving point of a plate, in a step without a hit. After a row the two places of the sums are exchanged.
 pub(crate) fn plate_level(
     plan: Plan,
     older: &mut [i64],

@@ -67,7 +67,7 @@ fn step_in_place(
     next_level(plan, from, to, older, newer, room, hit, true, true)
 }
 
-// A step with the slices in their roles.
+// A step in the turn that the slices are in.
 pub(crate) fn step_in_turn(
     plan: Plan,
     from: &[u16; 64],

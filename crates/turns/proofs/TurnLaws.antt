@@ -18,7 +18,7 @@ later P f (suc (suc zero)) n₀ n₁ n₂ n₃ = absurd (n₂ refl)
 later P f (suc (suc (suc zero))) n₀ n₁ n₂ n₃ = absurd (n₃ refl)
 later P f (suc (suc (suc (suc k)))) n₀ n₁ n₂ n₃ = f k
 
--- ---- which slice has which role
+-- ---- which slice holds which level
 
 module _ (p : ℕ) (a b c : List ℤ) where
   pub record AtTurn (older newer out : List ℤ) : Type 0 where
@@ -45,7 +45,7 @@ module _ (p : ℕ) (a b c : List ℤ) where
 pub turn-2 : (p : ℕ) (a b c : List ℤ) → p < 3 → (p ≡ 0 → ⊥) → (p ≡ 1 → ⊥) → AtTurn p a b c c a b
 turn-2 p a b c l n₀ n₁ = turn-at p a b c 2 (omega (arith, n₀, n₁))
 
--- ---- after a step the level in the role of newer is older, and the next level newer
+-- ---- after a step the newer level is older, and the next level newer
 
 pub turned-older : (p : ℕ) (a b c : List ℤ) → olderOf (nextTurn p) a b c ≡ newerOf p a b c
 turned-older zero a b c = refl

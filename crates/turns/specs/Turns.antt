@@ -3,10 +3,10 @@ use mathlib.Core.List.{List}
 use Prim.Native.Nat.{ℕ, zero, suc}
 use lib.IntN.{ℤ}
 
--- ---- slices in turn: after a step the newer level is older, and the next one newer. Of three levels the older one's place is free then;
+-- After a step the newer level is older, and the next one newer. Of three levels the older one's place is free then;
 -- of two the next one stands there.
 
--- the turn: 0, 1 or 2 of three levels, 3 or 4 of two
+-- the turn after a step: 0, 1 or 2 of three levels, 3 or 4 of two
 abbrev pub nextTurn : ℕ → ℕ
 nextTurn zero = 1
 nextTurn (suc zero) = 2
@@ -14,7 +14,7 @@ nextTurn (suc (suc zero)) = 0
 nextTurn (suc (suc (suc zero))) = 4
 nextTurn (suc (suc (suc (suc k)))) = 3
 
--- of the slices, the one in the role of older
+-- of the slices a, b and c, the one that holds the older level
 abbrev pub olderOf : ℕ → (a b c : List ℤ) → List ℤ
 olderOf zero a b c = a
 olderOf (suc zero) a b c = b
@@ -22,7 +22,7 @@ olderOf (suc (suc zero)) a b c = c
 olderOf (suc (suc (suc zero))) a b c = a
 olderOf (suc (suc (suc (suc k)))) a b c = b
 
--- in the role of newer
+-- that holds the newer level
 abbrev pub newerOf : ℕ → (a b c : List ℤ) → List ℤ
 newerOf zero a b c = b
 newerOf (suc zero) a b c = c

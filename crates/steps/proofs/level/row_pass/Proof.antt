@@ -120,7 +120,8 @@ returns-2 c =
     let beyond = not-true _ (c .if3 .taken) in
     let a = s b .args in
     passing-stops (loop b .loop .inv .1) (moves b .order) (done b)
-    (piece-stops (a .plan .instrument) (a .hit) (a .write) (a .in-place) (aside b) (o .before .row-stretches .ensures) beyond) (ends b .upto)
+    (piece-stops (a .plan .instrument) (a .hit) (a .write) (a .in-place) (aside b) (o .before .row-stretches .ensures) beyond)
+    (ends b .upto)
     beyond
 
 -- and looked at

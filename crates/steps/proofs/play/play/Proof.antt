@@ -92,7 +92,8 @@ module _ (c : tie.After-work Inv-loop μ-loop) where
   abbrev work : List ℤ
   work = stepped .step-in-turn .last .1 .1 .1 .1 .1 .0
 
-  abbrev left : SteppedIn (at .loop .turn) (start at .args .plan .instrument) (struck .hit-after .result) (at .loop .older) (at .loop .newer)
+  abbrev left : SteppedIn (at .loop .turn) (start at .args .plan .instrument) (struck .hit-after .result) (at .loop .older)
+      (at .loop .newer)
       (at .loop .work)
       older newer work (stepped .step-in-turn .result)
   left = stepped .step-in-turn .ensures
@@ -199,7 +200,8 @@ loop-again c =
           (playing-on (inv (at w)) (place w) (struck w .hit-after .ensures) (left w .stepped) (e .if1 .left) _
           (toZ-ofZ w16 (r .result) (record { sfits = r .ok }) ∙ r .ensures) _ (h .ensures))),
       room-turned (left w) (c .next-turn .ensures) (inv (at w) .older-passes) (inv (at w) .newer-passes),
-      c .next-turn .ensures ∙ ap nextTurn (at w .loop .inv .2) ∙ turn-next (s .args .first) (at w .loop .j) (at w .loop .j + 1) (omega arith),
+      c .next-turn .ensures ∙ ap nextTurn (at w .loop .inv .2)
+          ∙ turn-next (s .args .first) (at w .loop .j) (at w .loop .j + 1) (omega arith),
       step-longs w,
     )
 

@@ -1,4 +1,4 @@
--- `step_in_turn` meets its contract: the arms of the match hand the slices over in their roles.
+-- `step_in_turn` meets its contract: the arms of the match hand the slices over in their turn.
 use mathlib.Core.List.{List}
 use Prim.Native.Nat.{_≤_}
 use native.Mathlib.Omega.{arith}
