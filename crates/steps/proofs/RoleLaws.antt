@@ -11,7 +11,7 @@ use lib.ListN.{length}
 use Rattle.types.specs.declared.Instrument.{Instrument}
 use Rattle.types.specs.declared.Hit.{Hit}
 use Rattle.scheme.specs.Instruments.{points}
-use Rattle.pieces.specs.Pieces.{piece}
+use Rattle.stretches.specs.Pieces.{piece}
 use Rattle.steps.specs.declared.plan.Plan.{Plan}
 use Rattle.steps.specs.declared.progress.Progress.{Progress}
 use Rattle.steps.specs.Roles.{Steppable, Stepped, SteppedInPlace, SteppedIn, SameLevels, turnedOf, olderOf, newerOf, outOf}

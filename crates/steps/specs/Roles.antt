@@ -17,7 +17,7 @@ use Rattle.scheme.specs.Step.{nextLevel, inexactIn, someBeyond}
 use Rattle.scheme.specs.Refusals.{notMoving, tooStrong}
 use Rattle.scheme.specs.Calls.{AfterSteps, capped}
 use Rattle.scheme.specs.Claims.{LevelPasses}
-use Rattle.pieces.specs.Pieces.{piece}
+use Rattle.stretches.specs.Pieces.{piece}
 use Rattle.steps.specs.declared.plan.Plan.{Plan}
 use Rattle.steps.specs.declared.play.Steps.{Steps}
 use Rattle.steps.specs.declared.progress.Progress.{Progress}

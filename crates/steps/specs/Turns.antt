@@ -10,7 +10,7 @@ use Rattle.types.specs.declared.Refusal.{Refusal}
 use Rattle.types.specs.declared.Grid.{Grid}
 use Rattle.scheme.specs.Instruments.{points}
 use Rattle.scheme.specs.Calls.{AfterBlock, AfterInPlace, accepted}
-use Rattle.pieces.specs.Pieces.{piece}
+use Rattle.stretches.specs.Pieces.{piece}
 use Rattle.steps.specs.declared.turns.InPlace.{InPlace}
 use Rattle.steps.specs.declared.turns.InTurn.{InTurn}
 use Rattle.steps.specs.Roles.{olderOf, newerOf}

@@ -2,6 +2,7 @@
 mod arithmetic;
 mod level;
 mod neighbours;
+mod pieces;
 mod plan;
 mod plates;
 mod play;

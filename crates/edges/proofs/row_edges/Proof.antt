@@ -1,17 +1,11 @@
 -- `row_edges` meets its contract: the rows passed have their moving columns.
-use mathlib.Core.Path.{_≡_, sym, ap, _∙_, subst}
-use mathlib.Core.Bool.{true}
-use mathlib.Core.List.{List}
-use Prim.Native.Nat.{ℕ, _+_, _-_, _≤_}
+use mathlib.Core.Path.{_≡_, sym, ap, subst}
+use Prim.Native.Nat.{_-_, _≤_, _<_}
 use native.Mathlib.Omega.{arith}
 use borrow.Author.Needs.{needs}
-use borrow.Author.Tests.{not-true, not-false}
-use Rattle.scheme.specs.Instruments.{kind, inTable}
-use Rattle.scheme.proofs.Laws.Kinds.{Sized, sized}
 use Rattle.kinds.specs.declared.runs.Run.{Run}
-use Rattle.kinds.specs.Runs.{runOf}
-use Rattle.kinds.proofs.RunLaws.{RunIn, run-bounds, row-is}
-use Rattle.edges.proofs.EdgeLaws.{Passed, passed-none, passed-more, passed-all, none-put}
+use Rattle.edges.proofs.EdgeLaws.{Short, row-short, Passed, passed-none, passed-more, passed-all, none-put}
+use Rattle.edges.proofs.EdgeLaws.{few, many-rows, many-columns}
 use Rattle.edges.proofs.row_edges.Statement.{statement}
 use Rattle.edges.proofs.row_edges.Tie as tie
 
@@ -23,35 +17,24 @@ Inv-loop g from₀ to₀ rows row₀ from to row = (row ≤ g .rows)
 abbrev μ-loop : tie.MeasureT-loop
 μ-loop g from₀ to₀ rows row₀ from to row = g .rows - row
 
--- a turn of the loop: a row of a grid of the table
+-- a turn of the loop: a row of at most 64, and its run
 module _ (c : tie.After-row-run Inv-loop μ-loop) where
   abbrev loop : tie.At-loop Inv-loop μ-loop
   loop = c .before .before
 
-  abbrev tested : tie.After-has-size Inv-loop μ-loop
-  tested = loop .before .before
+  in-row : loop .loop .row < 64
+  in-row = omega (arith, loop .before .before .before .if1 .left, c .before .loop-test .taken)
 
-  abbrev start : tie.Start Inv-loop μ-loop
-  start = tested .before .before .before
-
-  in-table : inTable (start .args .g) ≡ true
-  in-table = sym (tested .has-size .ensures) ∙ not-false _ (loop .before .if1 .left)
-
-  size : Sized (start .args .g .columns) (start .args .g .rows)
-  size = sized (kind (start .args .g)) _ _ in-table
-
-  run-is : c .row-run .result ≡ runOf (start .args .g) (loop .loop .row)
-  run-is = c .row-run .ensures ∙ row-is (start .args .g) (loop .loop .row) in-table (c .before .loop-test .taken)
-
-  -- its run lies in it
-  inside : RunIn (start .args .g .columns) (c .row-run .result)
-  inside = subst (RunIn (start .args .g .columns)) (sym run-is) (run-bounds (start .args .g) (loop .loop .row))
-
-has-size-requires : tie.Need-has-size-requires Inv-loop μ-loop
-has-size-requires c κs = tt
+  short : Short (c .row-run .result)
+  short =
+      let g = loop .before .before .before .before .args .g in
+      subst Short (sym (c .row-run .ensures)) (row-short (g .columns) (g .rows) (loop .loop .row) (loop .before .if2 .left) (g .kind))
 
 returns : tie.Need-returns Inv-loop μ-loop
-returns c = let none = sym (c .before .has-size .ensures) ∙ not-true _ (c .if1 .taken) in (none-put _ _ _ none, none-put _ _ _ none)
+returns c = let many = many-rows (c .before .args .g) (c .if1 .taken) in (none-put _ _ _ many, none-put _ _ _ many)
+
+returns-2 : tie.Need-returns-2 Inv-loop μ-loop
+returns-2 c = let many = many-columns (c .before .before .before .args .g) (c .before .before .if1 .left) (c .if2 .taken) in (none-put _ _ _ many, none-put _ _ _ many)
 
 loop-holds : tie.Need-loop-holds Inv-loop μ-loop
 loop-holds c = (search needs, passed-none _ _ _, passed-none _ _ _)
@@ -59,19 +42,23 @@ loop-holds c = (search needs, passed-none _ _ _, passed-none _ _ _)
 row-run-requires : tie.Need-row-run-requires Inv-loop μ-loop
 row-run-requires c κs = tt
 
-cast-put : tie.Need-cast-put Inv-loop μ-loop
-cast-put c = let r = c .before .before in record { fits = omega (arith, inside r .rising, inside r .inside, size r .columns-high) }
+cast-from : tie.Need-cast-from Inv-loop μ-loop
+cast-from c = let r = short (c .before) in record { fits = omega (arith, r .first, r .last) }
 
-put-requires : tie.Need-put-requires Inv-loop μ-loop
-put-requires c κs = tt
+mul-from : tie.Need-mul-from Inv-loop μ-loop
+mul-from c = let h = in-row (c .before) in search needs
 
-cast-put-2 : tie.Need-cast-put-2 Inv-loop μ-loop
-cast-put-2 c =
-    let r = c .before .before .before .before .before .before .before in
-    record { fits = omega (arith, inside r .rising, inside r .inside, size r .columns-high) }
+element-write-from : tie.Need-element-write-from Inv-loop μ-loop
+element-write-from c = in-row (c .before)
 
-put-requires-2 : tie.Need-put-requires-2 Inv-loop μ-loop
-put-requires-2 c κs = tt
+cast-to : tie.Need-cast-to Inv-loop μ-loop
+cast-to c = let r = short (c .before .before) in record { fits = omega (arith, r .first, r .last) }
+
+mul-to : tie.Need-mul-to Inv-loop μ-loop
+mul-to c = let h = in-row (c .before .before) in search needs
+
+element-write-to : tie.Need-element-write-to Inv-loop μ-loop
+element-write-to c = in-row (c .before .before)
 
 add-row : tie.Need-add-row Inv-loop μ-loop
 add-row c = search needs
@@ -81,31 +68,21 @@ loop-less c = search needs
 
 loop-again : tie.Need-loop-again Inv-loop μ-loop
 loop-again c =
-    let second = c .before .before in
-    let first = second .before .before .before .before .before in
-    let r = first .before .before .before in
-    let inv = loop r .loop .inv in
-    let g = start r .args .g in (
+    let r = c .before .before in
+    let inv = loop r .loop .inv in (
       search needs,
-      subst (λ (xs : List ℕ). Passed g (λ (x : Run). x .from) (start r .args .from .now) xs (loop r .loop .row + 1))
-          (sym (first .put .ensures)) (passed-more (inv .1) _ (ap (λ (x : Run). x .from) (run-is r))),
-      subst (λ (xs : List ℕ). Passed g (λ (x : Run). x .to) (start r .args .to .now) xs (loop r .loop .row + 1))
-          (sym (second .put2 .ensures)) (passed-more (inv .2) _ (ap (λ (x : Run). x .to) (run-is r))),
+      passed-more (inv .1) _ (ap (λ (x : Run). x .from) (r .row-run .ensures)),
+      passed-more (inv .2) _ (ap (λ (x : Run). x .to) (r .row-run .ensures)),
     )
 
-same-length : tie.Need-same-length Inv-loop μ-loop
-same-length c = c .before .loop .inv .1 .long
-
-same-length-2 : tie.Need-same-length-2 Inv-loop μ-loop
-same-length-2 c = c .before .loop .inv .2 .long
-
-returns-2 : tie.Need-returns-2 Inv-loop μ-loop
-returns-2 c =
+returns-3 : tie.Need-returns-3 Inv-loop μ-loop
+returns-3 c =
     let l = c .before .loop in
-    let tested = c .before .before .before in
-    let size = sym (tested .has-size .ensures) ∙ not-false _ (c .before .before .if1 .left) in
-    let end : l .row ≡ tested .before .before .before .args .g .rows = omega (arith, l .inv .0, c .loop-test .left) in
-    (passed-all size end (l .inv .1), passed-all size end (l .inv .2))
+    let b = c .before .before in
+    let g = b .before .before .before .args .g in
+    let small = few g (b .before .before .if1 .left) (b .if2 .left) in
+    let end : l .row ≡ g .rows = omega (arith, l .inv .0, c .loop-test .left) in
+    (passed-all small end (l .inv .1), passed-all small end (l .inv .2))
 
 pub row-edges-spec : {M : Type 1} → statement M
 row-edges-spec =
@@ -113,17 +90,17 @@ row-edges-spec =
     (tie.spec
     Inv-loop
     μ-loop
-    has-size-requires
     returns
+    returns-2
     loop-holds
     row-run-requires
-    cast-put
-    put-requires
-    cast-put-2
-    put-requires-2
+    cast-from
+    mul-from
+    element-write-from
+    cast-to
+    mul-to
+    element-write-to
     add-row
     loop-less
     loop-again
-    same-length
-    same-length-2
-    returns-2)
+    returns-3)

@@ -15,7 +15,7 @@ use Rattle.steps.proofs.turns.begin.Tie as tie
 -- where the steps begin: how the call began, and the plan
 module _ (c : tie.After-play-arg4) where
   abbrev edged : tie.After-row-edges
-  edged = c .before .before .before .before .before .before .before .before .before .before .before
+  edged = c .before .before .before .before .before .before .before .before .before
 
   abbrev planned : tie.After-make-plan
   planned = edged .before .before .before
@@ -36,12 +36,6 @@ make-plan-requires c κs =
     let a = c .args in
     instrument-passes (a .i)
     (block-passes (a .i) (a .older .now) (a .newer .now) false (a .pick) (a .hit) (c .pre .0) .instrument)
-
-slice-aggregate-row-edges : tie.Need-slice-aggregate-row-edges
-slice-aggregate-row-edges c = search needs
-
-slice-aggregate-row-edges-2 : tie.Need-slice-aggregate-row-edges-2
-slice-aggregate-row-edges-2 c = search needs
 
 row-edges-requires : tie.Need-row-edges-requires
 row-edges-requires c κs = tt
@@ -91,8 +85,6 @@ begin-spec =
     tie.close
     (tie.spec
     make-plan-requires
-    slice-aggregate-row-edges
-    slice-aggregate-row-edges-2
     row-edges-requires
     clear-requires
     play-requires
