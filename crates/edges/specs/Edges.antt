@@ -1,7 +1,7 @@
 -- The moving columns of every row, kept in two lists. Vocabulary between the engine's crates: no call that a maker embeds cites it.
-use mathlib.Core.Bool.{Bool, cond, _&&_}
+use mathlib.Core.Bool.{cond, _&&_}
 use mathlib.Core.List.{List}
-use Prim.Native.Nat.{ℕ}
+use Prim.Native.Nat.{ℕ, _%_}
 use lib.Dec.{leb, ltb}
 use lib.ListN.{length, getD}
 use Rattle.types.specs.declared.Grid.{Grid}
@@ -9,14 +9,13 @@ use Rattle.scheme.specs.Lists.{tabulate}
 use Rattle.kinds.specs.declared.runs.Run.{Run}
 use Rattle.kinds.specs.Runs.{rowRun}
 
--- a grid of at most 64 rows, whose columns are counted in 16 bits
-abbrev pub fewRows : Grid → Bool
-fewRows g = leb (g .rows) 64 && leb (g .columns) 65535
+-- one end of the run of a row, in 16 bits
+abbrev pub columnOf : Grid → (Run → ℕ) → ℕ → ℕ
+columnOf g end row = end (rowRun (g .kind) (g .columns) (g .rows) row) % 65536
 
--- of such a grid one end of the run of each row; the rest of xs as it was
+-- of a grid of at most 64 rows the column of each row; the rest of xs as it was
 unfoldable pub columnsOf : Grid → (Run → ℕ) → (xs : List ℕ) → List ℕ
-columnsOf g end xs =
-    tabulate (length xs) (λ row. cond (fewRows g && ltb row (g .rows)) (end (rowRun (g .kind) (g .columns) (g .rows) row)) (getD xs row 0))
+columnsOf g end xs = tabulate (length xs) (λ row. cond (leb (g .rows) 64 && ltb row (g .rows)) (columnOf g end row) (getD xs row 0))
 
 -- the first moving columns
 abbrev pub firstsOf : Grid → (xs : List ℕ) → List ℕ

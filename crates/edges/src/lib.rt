@@ -4,7 +4,7 @@ ghost use Rattle.edges.specs.Edges.{firstsOf, endsOf};
 use runs::row_run;
 use types::Grid;
 
-// For each row its first moving column, and the column after its last; nothing where there are more than 64 rows or 65,535 columns.
+// For each row its first moving column, and the column after its last; nothing where there are more than 64 rows.
 // Ruled out: every row taken as the first; the first column put for the column after the last.
 pub fn row_edges(g: Grid, from: &mut [u16; 64], to: &mut [u16; 64])
     ensures { λ _. ⌜ (now (from .exit) ≡ firstsOf g (now (from .entry))) × (now (to .exit) ≡ endsOf g (now (to .entry))) ⌝ }
@@ -13,14 +13,11 @@ pub fn row_edges(g: Grid, from: &mut [u16; 64], to: &mut [u16; 64])
     if 64 < rows {
         return;
     }
-    if 65535 < g.columns {
-        return;
-    }
     let mut row = 0;
     while row < rows {
         let run = row_run(g.kind, g.columns, rows, row);
-        from[row] = run.from as u16;
-        to[row] = run.to as u16;
+        from[row] = (run.from % 65536) as u16;
+        to[row] = (run.to % 65536) as u16;
         row += 1;
     }
 }
