@@ -1,25 +1,25 @@
 -- One end of the runs of the rows, put row by row, and what is left of a list.
 use mathlib.Core.Path.{_≡_, refl, sym, ap, _∙_, subst}
-use mathlib.Core.Bool.{Bool, true, false, cond, _&&_}
+use mathlib.Core.Bool.{Bool, true, cond}
 use mathlib.Core.List.{List}
 use Prim.Native.Nat.{ℕ, _+_, _%_, _≤_, _<_}
 use native.Mathlib.Decide.{ℕ-discrete}
 use native.Mathlib.Nat.{mod-eq-of-lt}
 use native.Mathlib.Omega.{arith}
-use borrow.Author.Tests.{ltb-true, ltb-false, lt-ltb, le-leb, lt-leb}
-use lib.Dec.{leb, ltb}
+use borrow.Author.Tests.{ltb-true, ltb-false, lt-ltb, le-ltb}
+use lib.Dec.{ltb}
 use lib.ListN.{length, getD, set, length-set}
 use lib.Seq.{getD-set-same, getD-set-other}
 use Rattle.types.specs.declared.Grid.{Grid}
 use Rattle.scheme.specs.Lists.{tabulate}
 use Rattle.scheme.specs.Instruments.{kind, inTable}
-use Rattle.scheme.proofs.Laws.Bools.{cases, and-yes, and-no}
+use Rattle.scheme.proofs.Laws.Bools.{cases}
 use Rattle.scheme.proofs.Laws.Kinds.{sized}
 use Rattle.scheme.proofs.Laws.Lists.{is-tabulate, getD-tabulate}
 use Rattle.kinds.specs.declared.runs.Run.{Run}
 use Rattle.kinds.specs.Runs.{runOf}
 use Rattle.kinds.proofs.RunLaws.{run-bounds, row-is}
-use Rattle.edges.specs.Edges.{columnOf, columnsOf, firstsOf, endsOf}
+use Rattle.edges.specs.Edges.{columnOf, keptRows, columnsOf, firstsOf, endsOf}
 
 -- the rows before `row` have their columns, the others are as they were
 pub record Passed (g : Grid) (end : Run → ℕ) (xs₀ xs : List ℕ) (row : ℕ) : Type 0 where
@@ -44,24 +44,29 @@ passed-more {g} {end} {xs₀} {xs} {row} p x e = record {
         (getD-set-same xs row x 0 (omega (arith, p .long)) ∙ e)
     go b l m (no s) = getD-set-other xs row b x 0 s ∙ p .put b (omega (arith, s)) m
 
--- all rows
-pub passed-all : {g : Grid} {end : Run → ℕ} {xs₀ xs : List ℕ} {row : ℕ} → g .rows ≤ 64 → row ≡ g .rows → Passed g end xs₀ xs row
+-- all that have places
+pub passed-all : {g : Grid} {end : Run → ℕ} {xs₀ xs : List ℕ} {row : ℕ} → row ≡ keptRows (g .rows) → Passed g end xs₀ xs row
     → xs ≡ columnsOf g end xs₀
 unfolding columnsOf
-passed-all {g} {end} {xs₀} {xs} {row} few e p =
-    is-tabulate (length xs₀) (λ b. cond (leb (g .rows) 64 && ltb b (g .rows)) (columnOf g end b) (getD xs₀ b 0)) 0 xs (p .long)
-    (λ b l. subst (λ (t : Bool). getD xs b 0 ≡ cond (t && ltb b (g .rows)) (columnOf g end b) (getD xs₀ b 0))
-    (sym (le-leb (g .rows) 64 few))
-    (cases (λ t. getD xs b 0 ≡ cond t (columnOf g end b) (getD xs₀ b 0)) (ltb b (g .rows))
-    (λ t. p .put b (omega (arith, e, ltb-true b (g .rows) t)) l)
-    (λ f. p .kept b (omega (arith, e, ltb-false b (g .rows) f)))))
+passed-all {g} {end} {xs₀} {xs} {row} e p =
+    is-tabulate (length xs₀) (λ b. cond (ltb b (keptRows (g .rows))) (columnOf g end b) (getD xs₀ b 0)) 0 xs (p .long)
+    (λ b l. cases (λ t. getD xs b 0 ≡ cond t (columnOf g end b) (getD xs₀ b 0)) (ltb b (keptRows (g .rows)))
+    (λ t. p .put b (omega (arith, e, ltb-true b (keptRows (g .rows)) t)) l)
+    (λ f. p .kept b (omega (arith, e, ltb-false b (keptRows (g .rows)) f))))
 
--- none
-pub none-put : (g : Grid) (end : Run → ℕ) (xs : List ℕ) → 64 < g .rows → xs ≡ columnsOf g end xs
-unfolding columnsOf
-none-put g end xs h =
-    is-tabulate (length xs) (λ b. cond (leb (g .rows) 64 && ltb b (g .rows)) (columnOf g end b) (getD xs b 0)) 0 xs refl
-    (λ b l. ap (λ (t : Bool). cond (t && ltb b (g .rows)) (columnOf g end b) (getD xs b 0)) (sym (lt-leb (g .rows) 64 h)))
+-- ---- the rows that have places
+
+pub kept-few : (rows : ℕ) → rows < 64 → rows ≡ keptRows rows
+kept-few rows h = ap (λ (t : Bool). cond t rows 64) (sym (lt-ltb rows 64 h))
+
+pub kept-many : (rows : ℕ) → 64 ≤ rows → 64 ≡ keptRows rows
+kept-many rows h = ap (λ (t : Bool). cond t rows 64) (sym (le-ltb rows 64 h))
+
+pub kept-most : (rows : ℕ) → keptRows rows ≤ 64
+kept-most rows = cases (λ t. cond t rows 64 ≤ 64) (ltb rows 64) (λ t. omega (arith, ltb-true rows 64 t)) (λ t. omega arith)
+
+pub kept-all : (rows : ℕ) → rows ≤ 64 → rows ≡ keptRows rows
+kept-all rows h = cases (λ t. rows ≡ cond t rows 64) (ltb rows 64) (λ t. refl) (λ t. omega (arith, ltb-false rows 64 t))
 
 -- ---- what stands there for a row of a grid of the table
 
@@ -70,9 +75,9 @@ module _ (g : Grid) (size : inTable g ≡ true) (row : ℕ) (h : row < g .rows) 
       → getD (columnsOf g end xs) row 0 ≡ end (runOf g row)
   unfolding columnsOf
   column-is end xs l low =
-      getD-tabulate (length xs) (λ b. cond (leb (g .rows) 64 && ltb b (g .rows)) (columnOf g end b) (getD xs b 0)) row 0 l ∙
+      getD-tabulate (length xs) (λ b. cond (ltb b (keptRows (g .rows))) (columnOf g end b) (getD xs b 0)) row 0 l ∙
       ap (λ (t : Bool). cond t (columnOf g end row) (getD xs row 0))
-      (and-yes (le-leb (g .rows) 64 (sized (kind g) (g .columns) (g .rows) size .rows-high)) ∙ lt-ltb row (g .rows) h) ∙
+      (lt-ltb row (keptRows (g .rows)) (omega (arith, h, kept-all (g .rows) (sized (kind g) (g .columns) (g .rows) size .rows-high)))) ∙
       ap (λ (r : Run). end r % 65536) (row-is g row size h) ∙ mod-eq-of-lt low
 
   short : g .columns ≤ 1024

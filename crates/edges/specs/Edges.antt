@@ -1,8 +1,8 @@
 -- The moving columns of every row, kept in two lists. Vocabulary between the engine's crates: no call that a maker embeds cites it.
-use mathlib.Core.Bool.{cond, _&&_}
+use mathlib.Core.Bool.{cond}
 use mathlib.Core.List.{List}
 use Prim.Native.Nat.{ℕ, _%_}
-use lib.Dec.{leb, ltb}
+use lib.Dec.{ltb}
 use lib.ListN.{length, getD}
 use Rattle.types.specs.declared.Grid.{Grid}
 use Rattle.scheme.specs.Lists.{tabulate}
@@ -13,9 +13,13 @@ use Rattle.kinds.specs.Runs.{rowRun}
 abbrev pub columnOf : Grid → (Run → ℕ) → ℕ → ℕ
 columnOf g end row = end (rowRun (g .kind) (g .columns) (g .rows) row) % 65536
 
--- of a grid of at most 64 rows the column of each row; the rest of xs as it was
+-- 64 rows have places
+abbrev pub keptRows : ℕ → ℕ
+keptRows rows = cond (ltb rows 64) rows 64
+
+-- the column of each row that has a place; the rest of xs as it was
 unfoldable pub columnsOf : Grid → (Run → ℕ) → (xs : List ℕ) → List ℕ
-columnsOf g end xs = tabulate (length xs) (λ row. cond (leb (g .rows) 64 && ltb row (g .rows)) (columnOf g end row) (getD xs row 0))
+columnsOf g end xs = tabulate (length xs) (λ row. cond (ltb row (keptRows (g .rows))) (columnOf g end row) (getD xs row 0))
 
 -- the first moving columns
 abbrev pub firstsOf : Grid → (xs : List ℕ) → List ℕ

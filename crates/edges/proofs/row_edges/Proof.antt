@@ -1,21 +1,21 @@
 -- `row_edges` meets its contract: the rows passed have their moving columns.
-use mathlib.Core.Path.{_≡_, ap}
+use mathlib.Core.Path.{_≡_, ap, _∙_}
 use Prim.Native.Nat.{_-_, _%_, _≤_, _<_}
 use native.Mathlib.Nat.{mod-lt}
 use native.Mathlib.Omega.{arith}
 use borrow.Author.Needs.{needs}
 use Rattle.kinds.specs.declared.runs.Run.{Run}
-use Rattle.edges.proofs.EdgeLaws.{Passed, passed-none, passed-more, passed-all, none-put}
+use Rattle.edges.proofs.EdgeLaws.{Passed, passed-none, passed-more, passed-all, kept-most}
 use Rattle.edges.proofs.row_edges.Statement.{statement}
 use Rattle.edges.proofs.row_edges.Tie as tie
 
 -- the rows passed have their moving columns
 abbrev Inv-loop : tie.InvT-loop
-Inv-loop g from₀ to₀ rows row₀ from to row = (row ≤ g .rows)
+Inv-loop g from₀ to₀ rows row₀ from to row = (row ≤ rows)
     × Passed g (λ (r : Run). r .from) from₀ from row × Passed g (λ (r : Run). r .to) to₀ to row
 
 abbrev μ-loop : tie.MeasureT-loop
-μ-loop g from₀ to₀ rows row₀ from to row = g .rows - row
+μ-loop g from₀ to₀ rows row₀ from to row = rows - row
 
 -- a turn of the loop: a row of at most 64
 module _ (c : tie.After-row-run Inv-loop μ-loop) where
@@ -23,10 +23,10 @@ module _ (c : tie.After-row-run Inv-loop μ-loop) where
   loop = c .before .before
 
   in-row : loop .loop .row < 64
-  in-row = omega (arith, loop .before .if1 .left, c .before .loop-test .taken)
+  in-row = omega (arith, loop .before .kept-rows .ensures, kept-most (loop .before .before .args .g .rows), c .before .loop-test .taken)
 
-returns : tie.Need-returns Inv-loop μ-loop
-returns c = (none-put _ _ _ (c .if1 .taken), none-put _ _ _ (c .if1 .taken))
+kept-rows-requires : tie.Need-kept-rows-requires Inv-loop μ-loop
+kept-rows-requires c κs = tt
 
 loop-holds : tie.Need-loop-holds Inv-loop μ-loop
 loop-holds c = (search needs, passed-none _ _ _, passed-none _ _ _)
@@ -67,12 +67,12 @@ loop-again c =
       passed-more (inv .2) _ (ap (λ (x : Run). x .to % 65536) (r .row-run .ensures)),
     )
 
-returns-2 : tie.Need-returns-2 Inv-loop μ-loop
-returns-2 c =
+returns : tie.Need-returns Inv-loop μ-loop
+returns c =
     let l = c .before .loop in
     let b = c .before .before in
-    let end : l .row ≡ b .before .args .g .rows = omega (arith, l .inv .0, c .loop-test .left) in
-    (passed-all (b .if1 .left) end (l .inv .1), passed-all (b .if1 .left) end (l .inv .2))
+    let end : l .row ≡ b .kept-rows .result = omega (arith, l .inv .0, c .loop-test .left) in
+    (passed-all (end ∙ b .kept-rows .ensures) (l .inv .1), passed-all (end ∙ b .kept-rows .ensures) (l .inv .2))
 
 pub row-edges-spec : {M : Type 1} → statement M
 row-edges-spec =
@@ -80,7 +80,7 @@ row-edges-spec =
     (tie.spec
     Inv-loop
     μ-loop
-    returns
+    kept-rows-requires
     loop-holds
     row-run-requires
     cast-from
@@ -92,4 +92,4 @@ row-edges-spec =
     add-row
     loop-less
     loop-again
-    returns-2)
+    returns)
