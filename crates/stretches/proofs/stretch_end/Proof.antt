@@ -26,7 +26,8 @@ module _ (c : tie.After-known-told) where
   hit-is = ap (λ (h : Hit). endOf h (start .args .a) (start .args .e)) (sym (c .before .hit .given .1))
 
   -- it is not before a
-  after : start .args .a ≤ point → clamp (start .args .a + 1) (start .args .e) point ≡ endOf (start .args .hit) (start .args .a) (start .args .e)
+  after : start .args .a ≤ point
+      → clamp (start .args .a + 1) (start .args .e) point ≡ endOf (start .args .hit) (start .args .a) (start .args .e)
   after h = sym (end-before point force (start .args .a) (start .args .e) h) ∙ hit-is
 
 enum-known-hit : tie.Need-enum-known-hit
@@ -50,7 +51,8 @@ returns-3 : tie.Need-returns-3
 returns-3 c =
     let p = c .before .before .before in
     let a = start p .args in
-    sym (clamp-before (a .a + 1) (a .e) (omega (arith, c .if3 .taken)) (point p) (omega (arith, c .before .if2 .taken))) ∙ after p (omega (arith, c .before .if2 .taken))
+    sym (clamp-before (a .a + 1) (a .e) (omega (arith, c .if3 .taken)) (point p) (omega (arith, c .before .if2 .taken)))
+    ∙ after p (omega (arith, c .before .if2 .taken))
 
 returns-4 : tie.Need-returns-4
 returns-4 c =
