@@ -2,7 +2,7 @@
 use mathlib.Core.Path.{_≡_, refl, sym, ap, _∙_, subst}
 use mathlib.Core.Bool.{Bool, true, false, cond, not, _&&_, true≢false}
 use mathlib.Core.List.{List}
-use mathlib.Core.Logic.{_⊎_, inl, inr}
+use mathlib.Core.Logic.{inl, inr}
 use Prim.Native.Nat.{ℕ, _+_, _-_, _≤_, _<_, zero-le}
 use native.Mathlib.Decide.{decLt}
 use native.Mathlib.Nat.{sub-zero}
@@ -17,8 +17,7 @@ use Rattle.scheme.specs.Lists.{point}
 use Rattle.scheme.specs.Instruments.{beyond, moving}
 use Rattle.scheme.specs.Step.{laplacian, biharmonic, numeratorOf, numerator, roundAway, forceOf, divisor, isMultiple, nextAt, inexactAt}
 use Rattle.plans.specs.declared.Plan.{Plan}
-use Rattle.pieces.specs.Pieces.{piece, baseOf, putPiece}
-use Rattle.pieces.proofs.PieceLaws.{Places, not-wanted, put-long, put-there, put-aside}
+use Rattle.stretches.specs.Pieces.{piece, baseOf}
 use Rattle.steps.specs.declared.progress.Progress.{Progress}
 use Rattle.steps.specs.Plan.{Ready}
 use Rattle.steps.specs.Run.{nextOf, Filled, Tested, Stepping, Placed}
@@ -105,11 +104,11 @@ piece-placed true e l o few h r s = record { order = o; above = omega arith; roo
 piece-placed false e l o few h r s = record { order = o; above = omega arith; room = omega (arith, h, r .for-all refl) }
 
 -- and put into older, if it is written in place
-filled-passing : (i : Instrument) (h : Hit) (write inPlace : Bool) {newer older out older₁ out₁ : List ℤ} {a b base : ℕ} {r : Progress}
+pub piece-passing : (i : Instrument) (h : Hit) (write inPlace : Bool) {newer older out older₁ out₁ : List ℤ} {a b base : ℕ} {r : Progress}
     → (inPlace ≡ false → base ≡ 0) → Stepping i h write base older newer out out₁ a b r → r .within ≡ true
     → Filled (λ k. point out₁ (k - base)) (inPlace && write) 0 older older₁ a b → ((inPlace && write) ≡ false → older₁ ≡ older)
     → Passing i h write inPlace older newer out older₁ out₁ a b r
-filled-passing i h true true z q e f o = record {
+piece-passing i h true true z q e f o = record {
   ran = record {
     long = f .long;
     filled = λ t. record {
@@ -125,7 +124,7 @@ filled-passing i h true true z q e f o = record {
   out-long = q .long;
   kept = λ t. absurd (true≢false t);
 }
-filled-passing i h false true z q e f o = record {
+piece-passing i h false true z q e f o = record {
   ran = record {
     long = f .long;
     filled = λ t. record { long = f .long; written = λ w. absurd (true≢false (sym w)); kept = λ j s. f .kept j (inl refl) };
@@ -137,36 +136,12 @@ filled-passing i h false true z q e f o = record {
   out-long = q .long;
   kept = o;
 }
-filled-passing i h write false {newer} {older} {out} {older₁} {out₁} {a} {b} {r = r} z q e f o = record {
+piece-passing i h write false {newer} {older} {out} {older₁} {out₁} {a} {b} {r = r} z q e f o = record {
   ran = subst (λ (n : ℕ). Stepping i h write n older newer out out₁ a b r) (z refl) q;
   older-long = f .long;
   out-long = q .long;
   kept = o;
 }
-
--- what is put
-put-filled : (xs : List ℤ) (from to base : ℕ) (ys : List ℤ) (wanted : Bool) → Places (length xs) (length ys) from to base
-    → Filled (λ k. point xs (k - base)) wanted 0 ys (putPiece xs from to base ys wanted) from to
-put-filled xs from to base ys wanted p = record {
-  long = put-long xs from to base ys wanted;
-  written = λ w k h l. ap (point (putPiece xs from to base ys wanted)) (sub-zero k) ∙ put-there xs from to base ys wanted w p k h l;
-  kept = go;
-}
-  where
-    go : (j : ℕ) → (wanted ≡ false) ⊎ ((j + 0 < from) ⊎ (to ≤ j + 0)) → point (putPiece xs from to base ys wanted) j ≡ point ys j
-    go j (inl e) = ap (λ (zs : List ℤ). point zs j) (sym (not-wanted xs from to base ys wanted e))
-    go j (inr (inl h)) = put-aside xs from to base ys wanted j (inl (omega arith))
-    go j (inr (inr h)) = put-aside xs from to base ys wanted j (inr (omega arith))
-
-pub piece-passing : (i : Instrument) (h : Hit) (write inPlace : Bool) {newer older out older₁ out₁ : List ℤ} {a b base : ℕ} {r : Progress}
-    → (inPlace ≡ false → base ≡ 0) → Stepping i h write base older newer out out₁ a b r → r .within ≡ true
-    → Places (length out₁) (length older) a b base → older₁ ≡ putPiece out₁ a b base older (inPlace && write)
-    → Passing i h write inPlace older newer out older₁ out₁ a b r
-piece-passing i h write inPlace {older = older} {out₁ = out₁} {a = a} {b = b} {base = base} z q e p f =
-    filled-passing i h write inPlace z q e
-    (subst (λ (xs : List ℤ). Filled (λ k. point out₁ (k - base)) (inPlace && write) 0 older xs a b) (sym f)
-    (put-filled out₁ a b base older (inPlace && write) p))
-    (λ t. f ∙ sym (not-wanted out₁ a b base older (inPlace && write) t))
 
 -- one of its values lies beyond the ceiling
 pub piece-stops : (i : Instrument) (h : Hit) (write inPlace : Bool) {newer older out out₁ : List ℤ} {a b base : ℕ} {r : Progress}

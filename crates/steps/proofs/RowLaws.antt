@@ -25,7 +25,7 @@ use Rattle.kinds.specs.declared.runs.Run.{Run}
 use Rattle.kinds.specs.Runs.{run, inRun, runOf}
 use Rattle.kinds.proofs.RunLaws.{run-bounds, moving-run}
 use Rattle.edges.specs.Edges.{firstsOf, endsOf}
-use Rattle.edges.proofs.EdgeLaws.{column-is}
+use Rattle.edges.proofs.EdgeLaws.{first-is, end-is}
 use Rattle.levels.proofs.LevelLaws.{next-row, row-inside}
 use Rattle.plans.specs.declared.Plan.{Plan}
 use Rattle.steps.specs.declared.progress.Progress.{Progress}
@@ -45,8 +45,8 @@ pub edges-there : {g : Grid} (from₀ to₀ : List ℕ) {from to : List ℕ} →
     → from ≡ firstsOf g from₀ → to ≡ endsOf g to₀ → EdgesOf g from to
 edges-there {g} from₀ to₀ size few a b e f = record {
   each = λ row h. ap₂ run
-      (ap (λ (xs : List ℕ). getD xs row 0) e ∙ column-is g (λ (r : Run). r .from) from₀ row size h (omega arith))
-      (ap (λ (xs : List ℕ). getD xs row 0) f ∙ column-is g (λ (r : Run). r .to) to₀ row size h (omega arith));
+      (ap (λ (xs : List ℕ). getD xs row 0) e ∙ first-is g size row h from₀ (omega arith))
+      (ap (λ (xs : List ℕ). getD xs row 0) f ∙ end-is g size row h to₀ (omega arith));
 }
 
 -- ---- a row

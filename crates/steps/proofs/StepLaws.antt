@@ -10,7 +10,7 @@ use lib.ListN.{length}
 use Rattle.types.specs.declared.Instrument.{Instrument}
 use Rattle.types.specs.declared.Hit.{Hit}
 use Rattle.scheme.specs.Instruments.{points}
-use Rattle.pieces.specs.Pieces.{piece}
+use Rattle.stretches.specs.Pieces.{piece}
 use Rattle.turns.proofs.TurnLaws.{AtTurn}
 use Rattle.plans.specs.declared.Plan.{Plan}
 use Rattle.steps.specs.declared.progress.Progress.{Progress}

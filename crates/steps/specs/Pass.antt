@@ -2,14 +2,14 @@
 use mathlib.Core.Path.{_≡_}
 use mathlib.Core.Bool.{Bool, true, false, cond, _&&_}
 use mathlib.Core.List.{List}
-use Prim.Native.Nat.{ℕ, _+_, _≤_, _<_}
+use Prim.Native.Nat.{ℕ, _≤_}
 use lib.IntN.{ℤ}
 use lib.ListN.{length}
 use Rattle.types.specs.declared.Instrument.{Instrument}
 use Rattle.types.specs.declared.Hit.{Hit}
 use Rattle.scheme.specs.Instruments.{points}
 use Rattle.plans.specs.declared.Plan.{Plan}
-use Rattle.pieces.specs.Pieces.{piece}
+use Rattle.stretches.specs.Pieces.{piece}
 use Rattle.steps.specs.declared.progress.Progress.{Progress}
 use Rattle.steps.specs.Run.{Stepping}
 use Rattle.steps.specs.Steps.{Steppable, Stepped}

@@ -18,7 +18,7 @@ use Rattle.scheme.specs.Refusals.{notMoving, tooStrong}
 use Rattle.scheme.specs.Calls.{AfterSteps, capped}
 use Rattle.scheme.specs.Claims.{LevelPasses}
 use Rattle.plans.specs.declared.Plan.{Plan}
-use Rattle.pieces.specs.Pieces.{piece}
+use Rattle.stretches.specs.Pieces.{piece}
 use Rattle.turns.specs.Turns.{olderOf, newerOf, outOf}
 use Rattle.steps.specs.declared.play.Steps.{Steps}
 use Rattle.steps.specs.declared.progress.Progress.{Progress}

@@ -3,6 +3,7 @@ mod arithmetic;
 mod call;
 mod level;
 mod neighbours;
+mod pieces;
 mod plates;
 mod play;
 mod points;

@@ -7,7 +7,7 @@ ghost use lib.ListN.{length};
 ghost use Rattle.types.specs.Numbers.{ceiling};
 ghost use Rattle.scheme.specs.Lists.{point};
 ghost use Rattle.scheme.specs.Step.{sampleOf};
-ghost use Rattle.pieces.specs.Pieces.{piece};
+ghost use Rattle.stretches.specs.Pieces.{piece};
 ghost use Rattle.steps.specs.Plan.{AtMost};
 ghost use Rattle.steps.specs.Edges.{EdgesOf};
 ghost use Rattle.turns.specs.Turns.{nextTurn, olderOf, newerOf, outOf};
@@ -15,9 +15,9 @@ ghost use Rattle.steps.specs.Steps.{Steppable, SteppedInPlace, SteppedIn
 use crate::arithmetic::sample;
 use crate::level::next_level;
 use crate::progress::Progress;
-use pieces::PIECE;
 use plans::Plan;
 use slices::copy;
+use stretches::PIECE;
 use types::Hit;
 
 // A step of two levels that have no more points than a piece: the next level is worked out beside them, then copied to older.

@@ -1,1 +1,2 @@
 pub mod StretchLaws
+pub mod PieceLaws

@@ -82,6 +82,12 @@ module _ (from to : ℕ) where
 pub written-so : (s : Stretch) {w : Bool} → s .write ≡ w → withWrite s w ≡ s
 written-so s e = λ j. record { from = s .from; to = s .to; force = s .force; base = s .base; write = sym e j }
 
+-- from the next point on the same, for a point after the first
+pub clamp-next : (from to k : ℕ) → from < k → clamp from to k ≡ clamp (from + 1) to k
+unfolding clamp
+clamp-next from to k h =
+    ap (λ (a : ℕ). cond (ltb a to) a to) (larger from to k (omega arith) ∙ sym (larger (from + 1) to k (omega arith)))
+
 -- ---- "f is the hit's force in units at the hit point, else 0"
 
 pub force-there : (p : ℕ) (f : ℤ) (k : ℕ) → k ≡ p → forceOf (At p f) k ≡ f

@@ -1,6 +1,7 @@
-// A stretch of moving points, one after the other: one force on each of them.
+// A stretch of moving points, one after the other: one force on each of them. A piece of a row, for a pass that writes older itself.
 ghost use mathlib.Core.Path.{_≡_};
 ghost use Rattle.scheme.specs.Step.{forceOf};
+ghost use Rattle.stretches.specs.Pieces.{pieceEnd, baseOf};
 ghost use Rattle.stretches.specs.Stretches.{clamp, partOf, withWrite, endOf, hitIn};
 use types::Hit;
 
@@ -70,10 +71,13 @@ pub fn stretch_end(hit: Hit, a: usize, e: usize) -> usize
     if point < a {
         return e;
     }
-    if e <= a {
+    if point == a {
+        if a < e {
+            return a + 1;
+        }
         return e;
     }
-    clamped(a + 1, e, point)
+    clamped(a, e, point)
 }
 
 // Whether a hit is at one of the points from..to. Ruled out: the point `to` counted in; the point `from` left out.
@@ -84,4 +88,31 @@ pub fn is_hit_in(hit: Hit, from: usize, to: usize) -> bool
         return false;
     };
     if from <= point { point < to } else { false }
+}
+
+// The most points of a piece: a row of a grid is one, a line has several.
+pub const PIECE: usize = 64;
+
+// The end of the piece at `at`, of points as far as `to`. Ruled out: pieces out of place; a piece of 65 points.
+pub fn piece_end(at: usize, to: usize, in_place: bool) -> usize
+    ensures { λ r. ⌜ r ≡ pieceEnd «in_place» at to ⌝ }
+{
+    if !in_place {
+        return to;
+    }
+    if to <= at {
+        return to;
+    }
+    if to - at < PIECE {
+        return to;
+    }
+    at + PIECE
+}
+
+// The point whose value goes to place 0: in place the row's or piece's first, else that of the level.
+// Ruled out: the level's in place; the piece's out of place.
+pub fn base_of(first: usize, in_place: bool) -> usize
+    ensures { λ r. ⌜ r ≡ baseOf «in_place» first ⌝ }
+{
+    if in_place { first } else { 0 }
 }

@@ -25,7 +25,7 @@ told c =
 -- where the steps begin: how the call began, and the plan
 module _ (c : tie.After-play-arg4) where
   abbrev edged : tie.After-row-edges
-  edged = c .before .before .before .before .before .before .before .before .before .before .before
+  edged = c .before .before .before .before .before .before .before .before .before
 
   abbrev planned : tie.After-make-plan
   planned = edged .before .before .before
@@ -43,12 +43,6 @@ module _ (c : tie.After-play-arg4) where
 
 make-plan-requires : tie.Need-make-plan-requires
 make-plan-requires c κs = search needs
-
-slice-aggregate-row-edges : tie.Need-slice-aggregate-row-edges
-slice-aggregate-row-edges c = search needs
-
-slice-aggregate-row-edges-2 : tie.Need-slice-aggregate-row-edges-2
-slice-aggregate-row-edges-2 c = search needs
 
 row-edges-requires : tie.Need-row-edges-requires
 row-edges-requires c κs = tt
@@ -98,8 +92,6 @@ begin-spec =
     tie.close
     (tie.spec
     make-plan-requires
-    slice-aggregate-row-edges
-    slice-aggregate-row-edges-2
     row-edges-requires
     clear-requires
     play-requires

@@ -8,7 +8,7 @@ use borrow.Author.Tests.{not-true, not-false}
 use lib.IntN.{pos}
 use lib.ListN.{length}
 use Rattle.scheme.specs.Instruments.{points}
-use Rattle.pieces.proofs.PieceLaws.{PieceEnds, piece-ends}
+use Rattle.stretches.proofs.PieceLaws.{PieceEnds, piece-ends}
 use Rattle.steps.specs.Plan.{Ready}
 use Rattle.steps.specs.Run.{Placed, Moves}
 use Rattle.steps.specs.Pass.{Passing}
@@ -129,7 +129,14 @@ abbrev looked : tie.Else3 Inv-loop μ-loop → tie.After-out Inv-loop μ-loop
 looked c = c .before .before
 
 put-piece-requires : tie.Need-put-piece-requires Inv-loop μ-loop
-put-piece-requires c κs = tt
+put-piece-requires c κs =
+    let o = looked (c .before .before) in
+    let b = worked o in (
+      placed b .above,
+      placed b .order,
+      omega (arith, placed b .room, o .before .row-stretches .ensures .long),
+      omega (arith, inside b, ready b .older-long),
+    )
 
 -- and put in its place
 module _ (c : tie.After-struct-known3 Inv-loop μ-loop) where
@@ -153,13 +160,7 @@ module _ (c : tie.After-struct-known3 Inv-loop μ-loop) where
       let within = not-false _ (seen .if3 .left) in
       passing-append (loop b .loop .inv .1) (moves b .order) (done b)
       (piece-passing (a .plan .instrument) (a .hit) (a .write) (a .in-place) (aside b) (looked seen .before .row-stretches .ensures) within
-      (record {
-        above = placed b .above;
-        order = placed b .order;
-        first = omega (arith, placed b .room, looked seen .before .row-stretches .ensures .long);
-        second = omega (arith, inside b, ready b .older-long);
-      })
-      (put .put-piece .ensures)) within
+      (put .put-piece .ensures .0) (put .put-piece .ensures .1)) within
 
 add-inexact : tie.Need-add-inexact Inv-loop μ-loop
 add-inexact c =

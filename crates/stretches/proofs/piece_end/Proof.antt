@@ -6,9 +6,9 @@ use native.Mathlib.Omega.{arith}
 use borrow.Author.Needs.{needs}
 use borrow.Author.Tests.{not-true, not-false, lt-ltb, le-ltb}
 use lib.Dec.{ltb}
-use Rattle.pieces.specs.Pieces.{piece, pieceEnd}
-use Rattle.pieces.proofs.piece_end.Statement.{statement}
-use Rattle.pieces.proofs.piece_end.Tie as tie
+use Rattle.stretches.specs.Pieces.{piece, pieceEnd}
+use Rattle.stretches.proofs.piece_end.Statement.{statement}
+use Rattle.stretches.proofs.piece_end.Tie as tie
 
 -- in place, by the last test
 module _ (c : tie.Else1) where

@@ -1,8 +1,8 @@
 -- `base_of` meets its contract: by the test that the code makes.
 use mathlib.Core.Path.{sym, ap}
 use mathlib.Core.Bool.{Bool, cond}
-use Rattle.pieces.proofs.base_of.Statement.{statement}
-use Rattle.pieces.proofs.base_of.Tie as tie
+use Rattle.stretches.proofs.base_of.Statement.{statement}
+use Rattle.stretches.proofs.base_of.Tie as tie
 
 returns : tie.Need-returns
 returns c = ap (λ (t : Bool). cond t (c .before .args .first) 0) (sym (c .if1 .taken))

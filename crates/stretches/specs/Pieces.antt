@@ -1,0 +1,17 @@
+-- The pieces of a row: where one ends, and where its values begin. Vocabulary between the engine's crates: no call that a maker
+-- embeds cites it.
+use mathlib.Core.Bool.{Bool, cond}
+use Prim.Native.Nat.{ℕ, _+_, _-_}
+use lib.Dec.{ltb}
+
+-- the most points of a piece of a row: a row of a grid has no more
+abbrev pub piece : ℕ
+piece = 64
+
+-- the end of the piece at `at`, of points as far as `to` (`piece-ends`)
+abbrev pub pieceEnd : (inPlace : Bool) → (at to : ℕ) → ℕ
+pieceEnd inPlace at to = cond inPlace (cond (ltb (to - at) piece) to (at + piece)) to
+
+-- the point whose value goes to place 0 of out: in place the first of a piece, of a plate that of the row
+abbrev pub baseOf : (inPlace : Bool) → ℕ → ℕ
+baseOf inPlace first = cond inPlace first 0
