@@ -100,9 +100,10 @@ def differences(header, exports, scheme, names):
         wrong.append(f"refusals: {sorted(set(numbers.items()) ^ set(listed.items()))}")
     if sorted(texts(header)) != sorted(numbers):
         wrong.append("refusals in words are not those of the source")
-    last = re.search(r"const LAST: u64 = (\d+);", scheme)
-    if not last or list(enumerators(header, "buvcsolta_kind").values()) != list(range(1, int(last[1]) + 1)):
-        wrong.append("kinds are not 1 to the last of the source")
+    grid = re.search(r"^impl Grid \{(.*?)^\}", scheme, re.M | re.S)
+    kinds = {f"BUVCSOLTA_{name}": int(number) for name, number in re.findall(r"const (\w+): u64 = (\d+);", grid[1] if grid else "")}
+    if not kinds or enumerators(header, "buvcsolta_kind") != kinds:
+        wrong.append("kinds are not those of the source")
     unit = re.search(r"const UNITS_PER_SAMPLE: i64 = (\d+);", scheme)
     ceiling = re.search(r"const CEILING: i64 = (\d+) \* Settings::UNITS_PER_SAMPLE;", scheme)
     units, most = (constant(header, name) for name in ("UNITS_PER_SAMPLE", "CEILING"))
