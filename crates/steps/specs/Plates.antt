@@ -1,15 +1,18 @@
 -- The sums of neighbours of a plate, kept from row to row. Vocabulary of private functions.
 use mathlib.Core.Path.{_≡_}
-use mathlib.Core.Bool.{not}
+use mathlib.Core.Bool.{Bool, not}
 use mathlib.Core.List.{List}
 use mathlib.Core.Logic.{_⊎_}
 use Prim.Native.Nat.{ℕ, _+_, _-_, _*_, _≤_, _<_}
-use lib.IntN.{ℤ, natAbs, _+ℤ_}
+use lib.Dec.{eqb}
+use lib.IntN.{ℤ, pos, natAbs, _+ℤ_}
 use lib.ListN.{length}
 use Rattle.types.specs.declared.Grid.{Grid}
 use Rattle.types.specs.Numbers.{ceiling}
 use Rattle.scheme.specs.Lists.{point}
 use Rattle.scheme.specs.Instruments.{moving}
+use Rattle.stretches.specs.declared.Stretch.{Stretch}
+use Rattle.stretches.specs.Pieces.{baseOf}
 use Rattle.steps.specs.declared.plates.SumRows.{SumRows}
 use Rattle.steps.specs.Plan.{AtMost, innerSum}
 use Rattle.steps.specs.Run.{Moves}
@@ -37,6 +40,20 @@ pub record InRow (g : Grid) (r : SumRows) (from to : ℕ) : Type 0 where
   pub first : r .start + 1 ≤ from
   pub last : to + 1 ≤ r .start + g .columns
   pub below : (k : ℕ) → from ≤ k → k < to → moving g (k + g .columns) ≡ not (r .last)
+
+-- where the sums of a row stand that begins at `start`, `ring` the last row
+abbrev pub rowsAt : (row start here other ring : ℕ) → SumRows
+rowsAt row start here other ring = record { row = row; start = start; here = here; other = other; last = eqb (row + 1) ring }
+
+-- the moving points of a row, without a force
+abbrev pub movingIn : SumRows → (columns : ℕ) → (write inPlace : Bool) → Stretch
+movingIn r columns write inPlace = record {
+  from = r .start + 1;
+  to = r .start + (columns - 1);
+  force = pos 0;
+  base = baseOf inPlace (r .start + 1);
+  write = write;
+}
 
 -- ---- the sum of the sums around a point
 

@@ -18,10 +18,8 @@ use crate::progress::Progress;
 use crate::within::is_row_within;
 use plans::Plan;
 use stretches::Stretch;
-use stretches::base_of;
-use stretches::force_at;
-use stretches::piece_end;
-use stretches::stretch_end;
+use stretches::piece_at;
+use stretches::stretch_at;
 use types::Hit;
 
 // The moving points of a row.
@@ -41,20 +39,13 @@ fn row_stretches(
     let mut inexact = 0;
     let mut at = row.from;
     while at < row.to {
-        let end = stretch_end(hit, at, row.to);
-        let s = Stretch {
-            from: at,
-            to: end,
-            force: force_at(hit, at),
-            base: row.base,
-            write: row.write,
-        };
+        let s = stretch_at(row, hit, at);
         let p = points_run(plan, older, newer, s, out);
         if !p.within {
             return p;
         }
         inexact += p.inexact;
-        at = end;
+        at = s.to;
     }
     Progress {
         within: true,
@@ -90,22 +81,14 @@ fn row_pass(
     let mut inexact = 0;
     let mut at = from;
     while at < to {
-        let end = piece_end(at, to, in_place);
-        let base = base_of(at, in_place);
-        let piece = Stretch {
-            from: at,
-            to: end,
-            force: 0,
-            base,
-            write,
-        };
+        let piece = piece_at(at, to, write, in_place);
         let p = row_stretches(plan, older, newer, piece, hit, out);
         if !p.within {
             return p;
         }
-        put_piece(out, at, end, base, older, in_place & write);
+        put_piece(out, piece, older, in_place);
         inexact += p.inexact;
-        at = end;
+        at = piece.to;
     }
     Progress {
         within: true,

@@ -12,7 +12,7 @@ ghost use Rattle.scheme.specs.Refusals.{tooStrong};
 ghost use Rattle.steps.specs.Plan.{AtMost, Ready};
 ghost use Rattle.steps.specs.Run.{Filled, Advanced, Stepping, Placed, fourBeside};
 ghost use Rattle.steps.specs.Pass.{Passable, Passed};
-ghost use Rattle.steps.specs.Plates.{TwoRows, InRow, Readable, secondAt};
+ghost use Rattle.steps.specs.Plates.{TwoRows, InRow, Readable, secondAt, rowsAt, movingIn};
 use crate::arithmetic::stiffness;
 use crate::neighbours::sum_around;
 use crate::pieces::put_piece;
@@ -21,14 +21,14 @@ use crate::progress::Progress;
 use plans::Plan;
 use stretches::Stretch;
 use stretches::as_written;
-use stretches::base_of;
-use stretches::force_at;
-use stretches::is_hit_in;
+use stretches::piece_at;
+use stretches::stretch_at;
 use types::Hit;
 
-// Where the sums of two rows stand: of column c of the row that begins at point `start` at place here + c; at other + c that of the row
+// Where the sums of two rows stand: of column c of `row`, which begins at point `start`, at place here + c; at other + c that of the row
 // above it until column c is done, then that of the row below it. `last` tells that the row below is the ring's.
 pub(crate) struct SumRows {
+    pub(crate) row: usize,
     pub(crate) start: usize,
     pub(crate) here: usize,
     pub(crate) other: usize,
@@ -151,8 +151,8 @@ fn plate_row(
     plate_run(plan, older, newer, rows, as_written(s, false), sums, out)
 }
 
-// Points of a row with a hit: each is a stretch of its own.
-fn struck_run(
+// The moving points of a row, in a step with a hit: stretch by stretch.
+fn struck_row(
     plan: Plan,
     older: &[i64],
     newer: &[i64],
@@ -172,19 +172,13 @@ fn struck_run(
     let mut inexact = 0;
     let mut at = row.from;
     while at < row.to {
-        let s = Stretch {
-            from: at,
-            to: at + 1,
-            force: force_at(hit, at),
-            base: row.base,
-            write: row.write,
-        };
-        let p = plate_point(plan, older, newer, rows, at, s, sums, out);
+        let s = stretch_at(row, hit, at);
+        let p = plate_run(plan, older, newer, rows, s, sums, out);
         if !p.within {
             return p;
         }
         inexact += p.inexact;
-        at += 1;
+        at = s.to;
     }
     Progress {
         within: true,
@@ -192,32 +186,48 @@ fn struck_run(
     }
 }
 
-// The moving points of a row, in a step with a hit.
-fn struck_row(
-    plan: Plan,
-    older: &[i64],
-    newer: &[i64],
-    rows: SumRows,
-    row: Stretch,
-    hit: Hit,
-    sums: &mut [i64],
-    out: &mut [i64],
-) -> Progress
-    requires { ⌜ Ready plan (row .force) (now older) (now newer) × Placed row (length (now out)) × (tooStrong hit ≡ false) ⌝ }
-    requires { ⌜ row .force ≡ pos 0 ⌝ }
-    requires { ⌜ TwoRows (plan .instrument .grid) (now newer) (now sums) rows (row .from)
-        × InRow (plan .instrument .grid) rows (row .from) (row .to) ⌝ }
-    ensures { λ r. ⌜ Stepping (plan .instrument) hit (row .write) (row .base) (now (older .entry)) (now (newer .entry))
-        (now (out .entry)) (now (out .exit)) (row .from) (row .to) r
-        × (r .within ≡ true → TwoRows (plan .instrument .grid) (now (newer .entry)) (now (sums .exit)) rows (row .to)) ⌝ }
+// Where the sums of the first row stand that is not the ring's, and of the row above it.
+fn first_rows(columns: usize, ring: usize) -> SumRows
+    ensures { λ r. ⌜ r ≡ rowsAt 1 columns 64 0 ring ⌝ }
 {
-    if is_hit_in(hit, row.from, row.to) {
-        return struck_run(plan, older, newer, rows, row, hit, sums, out);
+    SumRows {
+        row: 1,
+        start: columns,
+        here: 64,
+        other: 0,
+        last: ring == 2,
     }
-    plate_run(plan, older, newer, rows, row, sums, out)
 }
 
-// Every moving point of a plate, in a step without a hit. After a row the two places of the sums are exchanged.
+// Where those of the next row stand: the two places are exchanged.
+fn next_rows(rows: SumRows, columns: usize, ring: usize) -> SumRows
+    requires { ⌜ (rows .row ≤ 64) × (rows .start + columns ≤ 4096) ⌝ }
+    ensures { λ r. ⌜ r ≡ rowsAt (rows .row + 1) (rows .start + columns) (rows .other) (rows .here) ring ⌝ }
+{
+    let row = rows.row + 1;
+    SumRows {
+        row,
+        start: rows.start + columns,
+        here: rows.other,
+        other: rows.here,
+        last: row + 1 == ring,
+    }
+}
+
+// The moving points of a row: all but its ends.
+fn moving_in(rows: SumRows, columns: usize, write: bool, in_place: bool) -> Stretch
+    requires { ⌜ (3 ≤ columns) × (columns ≤ 64) × (rows .start + columns ≤ 4096) ⌝ }
+    ensures { λ r. ⌜ r ≡ movingIn rows columns write «in_place» ⌝ }
+{
+    piece_at(
+        rows.start + 1,
+        rows.start + (columns - 1),
+        write,
+        in_place,
+    )
+}
+
+// Every moving point of a plate, in a step without a hit.
 pub(crate) fn plate_level(
     plan: Plan,
     older: &mut [i64],
@@ -230,43 +240,21 @@ pub(crate) fn plate_level(
     ensures { λ r. ⌜ Passed (plan .instrument) Absent write «in_place» (now (older .entry)) (now (newer .entry)) (now (out .entry))
         (now (older .exit)) (now (out .exit)) r ⌝ }
 {
-    let g = plan.instrument.grid;
-    let columns = g.columns;
-    let right = columns - 1;
-    let last = g.rows - 1;
+    let columns = plan.instrument.grid.columns;
+    let ring = plan.instrument.grid.rows - 1;
     let mut sums = [0i64; 128];
     put_first(newer, columns, 64, &mut sums);
     let mut inexact = 0;
-    let mut other = 0;
-    let mut here = 64;
-    let mut row = 1;
-    let mut start = columns;
-    while row < last {
-        let rows = SumRows {
-            start,
-            here,
-            other,
-            last: row + 1 == last,
-        };
-        let base = base_of(start, in_place);
-        let moving = Stretch {
-            from: start + 1,
-            to: start + right,
-            force: 0,
-            base,
-            write,
-        };
+    let mut rows = first_rows(columns, ring);
+    while rows.row < ring {
+        let moving = moving_in(rows, columns, write, in_place);
         let p = plate_row(plan, older, newer, rows, moving, &mut sums, out);
         if !p.within {
             return p;
         }
-        put_piece(out, start + 1, start + right, base, older, in_place & write);
+        put_piece(out, moving, older, in_place);
         inexact += p.inexact;
-        let free = other;
-        other = here;
-        here = free;
-        row += 1;
-        start += columns;
+        rows = next_rows(rows, columns, ring);
     }
     Progress {
         within: true,
@@ -288,43 +276,21 @@ pub(crate) fn struck_level(
     ensures { λ r. ⌜ Passed (plan .instrument) hit write «in_place» (now (older .entry)) (now (newer .entry)) (now (out .entry))
         (now (older .exit)) (now (out .exit)) r ⌝ }
 {
-    let g = plan.instrument.grid;
-    let columns = g.columns;
-    let right = columns - 1;
-    let ring = g.rows - 1;
+    let columns = plan.instrument.grid.columns;
+    let ring = plan.instrument.grid.rows - 1;
     let mut sums = [0i64; 128];
     put_first(newer, columns, 64, &mut sums);
     let mut inexact = 0;
-    let mut other = 0;
-    let mut here = 64;
-    let mut row = 1;
-    let mut start = columns;
-    while row < ring {
-        let rows = SumRows {
-            start,
-            here,
-            other,
-            last: row + 1 == ring,
-        };
-        let base = base_of(start, in_place);
-        let moving = Stretch {
-            from: start + 1,
-            to: start + right,
-            force: 0,
-            base,
-            write,
-        };
+    let mut rows = first_rows(columns, ring);
+    while rows.row < ring {
+        let moving = moving_in(rows, columns, write, in_place);
         let p = struck_row(plan, older, newer, rows, moving, hit, &mut sums, out);
         if !p.within {
             return p;
         }
-        put_piece(out, start + 1, start + right, base, older, in_place & write);
+        put_piece(out, moving, older, in_place);
         inexact += p.inexact;
-        let spare = other;
-        other = here;
-        here = spare;
-        row += 1;
-        start += columns;
+        rows = next_rows(rows, columns, ring);
     }
     Progress {
         within: true,

@@ -1,8 +1,8 @@
 // A stretch of moving points, one after the other: one force on each of them. A piece of a row, for a pass that writes older itself.
 ghost use mathlib.Core.Path.{_≡_};
 ghost use Rattle.scheme.specs.Step.{forceOf};
-ghost use Rattle.stretches.specs.Pieces.{pieceEnd, baseOf};
-ghost use Rattle.stretches.specs.Stretches.{clamp, partOf, withWrite, endOf, hitIn};
+ghost use Rattle.stretches.specs.Pieces.{pieceEnd, pieceAt};
+ghost use Rattle.stretches.specs.Stretches.{clamp, partOf, withWrite, endOf, stretchAt};
 use types::Hit;
 
 // The points from..to, and the force on each. The next value of point k goes to place k − base, if it is written.
@@ -61,8 +61,7 @@ pub fn force_at(hit: Hit, at: usize) -> i64
 }
 
 // The end of the stretch at a, of points as far as e: the hit's point is a stretch of its own.
-// Ruled out: the hit's point with those after it; the hit's point with those before it.
-pub fn stretch_end(hit: Hit, a: usize, e: usize) -> usize
+fn stretch_end(hit: Hit, a: usize, e: usize) -> usize
     ensures { λ r. ⌜ r ≡ endOf hit a e ⌝ }
 {
     let Hit::At { point, force: _ } = hit else {
@@ -80,21 +79,26 @@ pub fn stretch_end(hit: Hit, a: usize, e: usize) -> usize
     clamped(a, e, point)
 }
 
-// Whether a hit is at one of the points from..to. Ruled out: the point `to` counted in; the point `from` left out.
-pub fn is_hit_in(hit: Hit, from: usize, to: usize) -> bool
-    ensures { λ r. ⌜ r ≡ hitIn hit from to ⌝ }
+// The stretch at `at`, of the points of a row. Ruled out: the hit's point with those after it; the hit's point with those before it.
+pub fn stretch_at(row: Stretch, hit: Hit, at: usize) -> Stretch
+    ensures { λ r. ⌜ r ≡ stretchAt row hit at ⌝ }
 {
-    let Hit::At { point, force: _ } = hit else {
-        return false;
-    };
-    if from <= point { point < to } else { false }
+    let to = stretch_end(hit, at, row.to);
+    let force = force_at(hit, at);
+    Stretch {
+        from: at,
+        to,
+        force,
+        base: row.base,
+        write: row.write,
+    }
 }
 
 // The most points of a piece: a row of a grid is one, a line has several.
 pub const PIECE: usize = 64;
 
-// The end of the piece at `at`, of points as far as `to`. Ruled out: pieces out of place; a piece of 65 points.
-pub fn piece_end(at: usize, to: usize, in_place: bool) -> usize
+// The end of the piece at `at`, of points as far as `to`.
+fn piece_end(at: usize, to: usize, in_place: bool) -> usize
     ensures { λ r. ⌜ r ≡ pieceEnd «in_place» at to ⌝ }
 {
     if !in_place {
@@ -109,10 +113,18 @@ pub fn piece_end(at: usize, to: usize, in_place: bool) -> usize
     at + PIECE
 }
 
-// The point whose value goes to place 0: in place the row's or piece's first, else that of the level.
-// Ruled out: the level's in place; the piece's out of place.
-pub fn base_of(first: usize, in_place: bool) -> usize
-    ensures { λ r. ⌜ r ≡ baseOf «in_place» first ⌝ }
+// The piece at `at`, of points as far as `to`, without a force. In place its first value goes to place 0, else each to its point's place.
+// Ruled out: a piece of 65 points; the values of a piece out of place from place 0 on.
+pub fn piece_at(at: usize, to: usize, write: bool, in_place: bool) -> Stretch
+    ensures { λ r. ⌜ r ≡ pieceAt «in_place» at to write ⌝ }
 {
-    if in_place { first } else { 0 }
+    let end = piece_end(at, to, in_place);
+    let base = if in_place { at } else { 0 };
+    Stretch {
+        from: at,
+        to: end,
+        force: 0,
+        base,
+        write,
+    }
 }
