@@ -23,10 +23,10 @@ use Rattle.scheme.proofs.Laws.Step.{moving-inside, next-moving}
 use Rattle.plans.specs.declared.Plan.{Plan}
 use Rattle.steps.specs.declared.progress.Progress.{Progress}
 use Rattle.stretches.specs.declared.Stretch.{Stretch}
-use Rattle.stretches.specs.Stretches.{hitIn}
-use Rattle.stretches.proofs.StretchLaws.{Ends, force-away}
+use Rattle.stretches.specs.Stretches.{stretchAt}
+use Rattle.stretches.proofs.StretchLaws.{Ends, ends}
 use Rattle.steps.specs.Plan.{Ready}
-use Rattle.steps.specs.Run.{nextBy, nextOf, Ran, Placed, Moves}
+use Rattle.steps.specs.Run.{nextBy, nextOf, Ran, Advanced, Placed, Moves}
 use Rattle.steps.proofs.FillLaws.{Running, running-on, running-most, running-stops, ran-same}
 
 -- a force within the ceiling
@@ -73,64 +73,67 @@ next-value i h older newer f k m e =
     d : ℕ
     d = divisor (i .settings)
 
--- where the hit is not, there is no force
-pub no-force : (i : Instrument) (h : Hit) (older newer : List ℤ) (f : ℤ) {write : Bool} {base : ℕ} {out out′ : List ℤ} {from to : ℕ}
-    {r : Progress}
-    → Moves (i .grid) from to → hitIn h from to ≡ false → f ≡ pos 0 → Ran (nextBy i f older newer) write base out out′ from to r
-    → Ran (nextOf i h older newer) write base out out′ from to r
-unfolding hitIn
-no-force i h older newer f {from = from} {to = to} m e z =
-    ran-same (m .order) (λ k a b. next-value i h older newer f k (m .each k a b) (away h e k a b ∙ sym z))
-  where
-    away : (h : Hit) → hitIn h from to ≡ false → (k : ℕ) → from ≤ k → k < to → forceOf h k ≡ pos 0
-    away Absent e k a b = refl
-    away (At p f) e k a b = force-away p f k (λ s. true≢false (sym (λ j. low s j && high s j) ∙ e))
-      where
-        low : k ≡ p → leb from p ≡ true
-        low s = le-leb from p (omega arith)
-
-        high : k ≡ p → ltb p to ≡ true
-        high s = lt-ltb p to (omega arith)
+-- without a hit there is no force
+pub no-force : (i : Instrument) (older newer : List ℤ) (f : ℤ) {write : Bool} {base : ℕ} {out out′ : List ℤ} {from to : ℕ} {r : Progress}
+    → Moves (i .grid) from to → f ≡ pos 0 → Ran (nextBy i f older newer) write base out out′ from to r
+    → Ran (nextOf i Absent older newer) write base out out′ from to r
+no-force i older newer f m z = ran-same (m .order) (λ k a b. next-value i Absent older newer f k (m .each k a b) (sym z))
 
 -- ---- a loop over the stretches of a row
 
--- the points from `at` to `end` are the next stretch, with the force z on each; those before are done, n of them inexact
-pub record Struck (p : Plan) (h : Hit) (older newer : List ℤ) (row : Stretch) (out₀ out : List ℤ) (at n end : ℕ) (z : ℤ) : Type 0 where
+-- s is the next stretch, from `at` on, with the hit's force on each of its points; those before are done, n of them inexact
+pub record Struck (p : Plan) (h : Hit) (older newer : List ℤ) (row : Stretch) (out₀ out : List ℤ) (at n : ℕ) (s : Stretch) : Type 0 where
   pub moves : Moves (p .instrument .grid) (row .from) (row .to)
   pub inv : Running (nextOf (p .instrument) h older newer) (row .write) (row .base) out₀ (row .from) (row .to) out at n
-  pub ends : Ends h at (row .to) end
-  pub force-is : z ≡ forceOf h at
+  pub more : at < row .to
+  pub is : s ≡ stretchAt row h at
 
-module _ {p : Plan} {h : Hit} {older newer : List ℤ} {row : Stretch} {out₀ out : List ℤ} {at n end : ℕ} {z : ℤ}
-    (t : Struck p h older newer row out₀ out at n end z) where
-  pub struck-ready : tooStrong h ≡ false → Ready p (pos 0) older newer → Ready p z older newer
-  struck-ready low r = ready-force r (subst (λ (z : ℤ). natAbs z ≤ ceiling) (sym (t .force-is)) (force-low h low at))
+module _ {p : Plan} {h : Hit} {older newer : List ℤ} {row : Stretch} {out₀ out : List ℤ} {at n : ℕ} {s : Stretch}
+    (t : Struck p h older newer row out₀ out at n s) where
+  -- where it ends, and the force on it
+  pub struck-ends : Ends h at (row .to) (s .to)
+  struck-ends = subst (Ends h at (row .to)) (sym (ap (λ (s : Stretch). s .to) (t .is))) (ends (t .more) h)
 
-  pub struck-placed : Placed row (length out₀)
-      → Placed (record { from = at; to = end; force = z; base = row .base; write = row .write }) (length out)
-  struck-placed q = record {
-    order = omega (arith, t .ends .some);
+  force-is : s .force ≡ forceOf h at
+  force-is = ap (λ (s : Stretch). s .force) (t .is)
+
+  pub struck-ready : tooStrong h ≡ false → Ready p (pos 0) older newer → Ready p (s .force) older newer
+  struck-ready low r = ready-force r (subst (λ (z : ℤ). natAbs z ≤ ceiling) (sym force-is) (force-low h low at))
+
+  pub struck-placed : Placed row (length out₀) → Placed s (length out)
+  struck-placed q = subst (λ (s : Stretch). Placed s (length out)) (sym (t .is)) (record {
+    order = omega (arith, ends (t .more) h .some);
     above = omega (arith, q .above, t .inv .order);
-    room = omega (arith, q .room, t .ends .upto, t .inv .ran .long);
-  }
+    room = omega (arith, q .room, ends (t .more) h .upto, t .inv .ran .long);
+  })
 
-  pub struck-moves : Moves (p .instrument .grid) at end
-  struck-moves = some-move (t .moves) (t .inv .order) (omega (arith, t .ends .some)) (t .ends .upto)
+  pub struck-from : s .from ≡ at
+  struck-from = ap (λ (s : Stretch). s .from) (t .is)
 
-  module _ {out′ : List ℤ} {r : Progress} (q : Ran (nextBy (p .instrument) z older newer) (row .write) (row .base) out out′ at end r) where
+  moves-on : Moves (p .instrument .grid) at (s .to)
+  moves-on = some-move (t .moves) (t .inv .order) (omega (arith, struck-ends .some)) (struck-ends .upto)
+
+  pub struck-moves : Moves (p .instrument .grid) (s .from) (s .to)
+  struck-moves = subst (λ (a : ℕ). Moves (p .instrument .grid) a (s .to)) (sym struck-from) moves-on
+
+  pub struck-some : s .from < s .to
+  struck-some = omega (arith, struck-ends .some, struck-from)
+
+  module _ {out′ : List ℤ} {r : Progress} (q : Advanced p s older newer out out′ (s .from) (s .to) r) where
     -- what is made of the points with that force is the scheme's
-    as-next : Ran (nextOf (p .instrument) h older newer) (row .write) (row .base) out out′ at end r
+    as-next : Ran (nextOf (p .instrument) h older newer) (row .write) (row .base) out out′ at (s .to) r
     as-next =
-        ran-same (struck-moves .order)
-        (λ k a b. next-value (p .instrument) h older newer z k (struck-moves .each k a b) (t .ends .one-force k a b ∙ sym (t .force-is))) q
+        ran-same (moves-on .order)
+        (λ k a b. next-value (p .instrument) h older newer (s .force) k (moves-on .each k a b) (struck-ends .one-force k a b ∙ sym force-is))
+        (subst (λ (x : Stretch). Ran (nextBy (p .instrument) (s .force) older newer) (x .write) (x .base) out out′ (x .from) (s .to) r) (t .is) q)
 
     pub struck-on : r .within ≡ true
-        → Running (nextOf (p .instrument) h older newer) (row .write) (row .base) out₀ (row .from) (row .to) out′ end (n + r .inexact)
-    struck-on e = running-on (t .inv) (omega (arith, t .ends .some)) as-next e (t .ends .upto)
+        → Running (nextOf (p .instrument) h older newer) (row .write) (row .base) out₀ (row .from) (row .to) out′ (s .to) (n + r .inexact)
+    struck-on e = running-on (t .inv) (omega (arith, struck-ends .some)) as-next e (struck-ends .upto)
 
-    pub struck-most : r .within ≡ true → n + r .inexact ≤ end
-    struck-most e = running-most (t .inv) (omega (arith, t .ends .some)) as-next e
+    pub struck-most : r .within ≡ true → n + r .inexact ≤ s .to
+    struck-most e = running-most (t .inv) (omega (arith, struck-ends .some)) as-next e
 
     pub struck-stops : r .within ≡ false
         → Ran (nextOf (p .instrument) h older newer) (row .write) (row .base) out₀ out′ (row .from) (row .to) r
-    struck-stops e = running-stops (t .inv) (omega (arith, t .ends .some)) as-next (t .ends .upto) e
+    struck-stops e = running-stops (t .inv) (omega (arith, struck-ends .some)) as-next (struck-ends .upto) e

@@ -17,6 +17,7 @@ use Rattle.scheme.specs.Lists.{point}
 use Rattle.scheme.specs.Instruments.{beyond, moving}
 use Rattle.scheme.specs.Step.{laplacian, biharmonic, numeratorOf, numerator, roundAway, forceOf, divisor, isMultiple, nextAt, inexactAt}
 use Rattle.plans.specs.declared.Plan.{Plan}
+use Rattle.stretches.specs.declared.Stretch.{Stretch}
 use Rattle.stretches.specs.Pieces.{piece, baseOf}
 use Rattle.steps.specs.declared.progress.Progress.{Progress}
 use Rattle.steps.specs.Plan.{Ready}
@@ -88,23 +89,20 @@ module _ {i : Instrument} {h : Hit} {write inPlace : Bool} {newer : List ℤ} wh
 
 -- ---- a piece, worked out in out with its first place at base
 
-pub base-aside : (inPlace : Bool) (first : ℕ) {base : ℕ} → base ≡ baseOf inPlace first → inPlace ≡ false → base ≡ 0
-base-aside inPlace first e f = e ∙ ap (λ (t : Bool). baseOf t first) f
-
 -- room for points as far as a row's end
 pub room-within : {inPlace : Bool} {to n : ℕ} {out₀ out : List ℤ} → RowRoom inPlace n out₀ → to ≤ n → length out ≡ length out₀
     → RowRoom inPlace to out
 room-within r l e = record { for-piece = λ t. omega (arith, r .for-piece t, e); for-all = λ t. omega (arith, r .for-all t, l, e) }
 
 -- it finds its places
-pub piece-placed : (inPlace : Bool) {first from to m base : ℕ} {f : ℤ} {write : Bool} {n : ℕ} {out : List ℤ} → base ≡ baseOf inPlace first
-    → first ≤ from → from ≤ to → (inPlace ≡ true → to ≤ first + piece) → to ≤ m → RowRoom inPlace m out → n ≡ length out
-    → Placed (record { from = from; to = to; force = f; base = base; write = write }) n
-piece-placed true e l o few h r s = record { order = o; above = omega arith; room = omega (arith, few refl, r .for-piece refl) }
-piece-placed false e l o few h r s = record { order = o; above = omega arith; room = omega (arith, h, r .for-all refl) }
+pub piece-placed : (inPlace : Bool) {a b m : ℕ} {write : Bool} {n : ℕ} {out : List ℤ} → a ≤ b → (inPlace ≡ true → b ≤ a + piece) → b ≤ m
+    → RowRoom inPlace m out → n ≡ length out
+    → Placed (record { from = a; to = b; force = pos 0; base = baseOf inPlace a; write = write }) n
+piece-placed true o few h r s = record { order = o; above = omega arith; room = omega (arith, few refl, r .for-piece refl) }
+piece-placed false o few h r s = record { order = o; above = omega arith; room = omega (arith, h, r .for-all refl) }
 
 -- and put into older, if it is written in place
-pub piece-passing : (i : Instrument) (h : Hit) (write inPlace : Bool) {newer older out older₁ out₁ : List ℤ} {a b base : ℕ} {r : Progress}
+piece-passing : (i : Instrument) (h : Hit) (write inPlace : Bool) {newer older out older₁ out₁ : List ℤ} {a b base : ℕ} {r : Progress}
     → (inPlace ≡ false → base ≡ 0) → Stepping i h write base older newer out out₁ a b r → r .within ≡ true
     → Filled (λ k. point out₁ (k - base)) (inPlace && write) 0 older older₁ a b → ((inPlace && write) ≡ false → older₁ ≡ older)
     → Passing i h write inPlace older newer out older₁ out₁ a b r
@@ -144,7 +142,7 @@ piece-passing i h write false {newer} {older} {out} {older₁} {out₁} {a} {b} 
 }
 
 -- one of its values lies beyond the ceiling
-pub piece-stops : (i : Instrument) (h : Hit) (write inPlace : Bool) {newer older out out₁ : List ℤ} {a b base : ℕ} {r : Progress}
+piece-stops : (i : Instrument) (h : Hit) (write inPlace : Bool) {newer older out out₁ : List ℤ} {a b base : ℕ} {r : Progress}
     → (inPlace ≡ false → base ≡ 0) → Stepping i h write base older newer out out₁ a b r → r .within ≡ false
     → Passing i h write inPlace older newer out older out₁ a b r
 piece-stops i h write true z q e =
@@ -155,6 +153,26 @@ piece-stops i h write false {newer} {older} {out} {out₁} {a} {b} {r = r} z q e
   out-long = q .long;
   kept = λ t. refl;
 }
+
+-- the same of the points of a piece, x
+aside : (inPlace : Bool) (a : ℕ) → inPlace ≡ false → baseOf inPlace a ≡ 0
+aside inPlace a f = ap (λ (t : Bool). baseOf t a) f
+
+module _ (i : Instrument) (h : Hit) (write inPlace : Bool) {newer older out out₁ : List ℤ} {x : Stretch} {a b : ℕ} {r : Progress}
+    (e : x ≡ record { from = a; to = b; force = pos 0; base = baseOf inPlace a; write = write })
+    (q : Stepping i h (x .write) (x .base) older newer out out₁ (x .from) (x .to) r)
+  where
+    pub stretch-stops : r .within ≡ false → Passing i h write inPlace older newer out older out₁ a b r
+    stretch-stops f = piece-stops i h write inPlace (aside inPlace a)
+        (subst (λ (x : Stretch). Stepping i h (x .write) (x .base) older newer out out₁ (x .from) (x .to) r) e q) f
+
+    pub stretch-passing : r .within ≡ true → {older₁ : List ℤ}
+        → Filled (λ k. point out₁ (k - x .base)) (inPlace && x .write) 0 older older₁ (x .from) (x .to)
+        → ((inPlace && x .write) ≡ false → older₁ ≡ older) → Passing i h write inPlace older newer out older₁ out₁ a b r
+    stretch-passing within {older₁} f o = piece-passing i h write inPlace (aside inPlace a)
+        (subst (λ (x : Stretch). Stepping i h (x .write) (x .base) older newer out out₁ (x .from) (x .to) r) e q) within
+        (subst (λ (x : Stretch). Filled (λ k. point out₁ (k - x .base)) (inPlace && x .write) 0 older older₁ (x .from) (x .to)) e f)
+        (subst (λ (x : Stretch). (inPlace && x .write) ≡ false → older₁ ≡ older) e o)
 
 -- ---- the levels after a pass are ready for another
 

@@ -1,6 +1,6 @@
 -- A step of a whole plate, row by row: the sums of two rows in turn.
 use mathlib.Core.Path.{_≡_, refl, sym, ap, _∙_, subst}
-use mathlib.Core.Bool.{Bool, true, false, cond, not}
+use mathlib.Core.Bool.{Bool, true, false, cond, not, _&&_}
 use mathlib.Core.List.{List}
 use mathlib.Core.Logic.{_⊎_, inl, inr}
 use Prim.Native.Nat.{ℕ, _+_, _-_, _*_, _≤_, _<_, zero-le}
@@ -22,16 +22,17 @@ use Rattle.kinds.specs.Runs.{run, runIn, innerRun, runOf}
 use Rattle.kinds.proofs.RunLaws.{run-is}
 use Rattle.levels.proofs.LevelLaws.{next-row}
 use Rattle.plans.specs.declared.Plan.{Plan}
+use Rattle.stretches.specs.declared.Stretch.{Stretch}
 use Rattle.steps.specs.declared.plates.SumRows.{SumRows}
 use Rattle.steps.specs.declared.progress.Progress.{Progress}
-use Rattle.steps.specs.Plan.{AtMost, innerSum}
-use Rattle.steps.specs.Run.{Filled, fourBeside}
+use Rattle.steps.specs.Plan.{AtMost, Ready, innerSum}
+use Rattle.steps.specs.Run.{Filled, Stepping, Placed, fourBeside}
 use Rattle.steps.specs.Steps.{Steppable}
 use Rattle.steps.specs.Pass.{target, Passable, Passing, Passed}
-use Rattle.steps.specs.Plates.{SumRow, TwoRows, InRow}
+use Rattle.steps.specs.Plates.{SumRow, TwoRows, InRow, rowsAt, movingIn}
 use Rattle.steps.proofs.KindLaws.{Edge, at-edge, wide, plate-sized}
 use Rattle.steps.proofs.FillLaws.{passed}
-use Rattle.steps.proofs.PassLaws.{passing-none}
+use Rattle.steps.proofs.PassLaws.{passing-none, passing-ready, piece-placed, stretch-stops, stretch-passing}
 use Rattle.steps.proofs.RowLaws.{RowRun, row-run, Rows, rows-start, rows-more, rows-most, rows-stop, rows-done, steppable-ready}
 use Rattle.steps.proofs.RowLaws.{run-moves, row-room, stepped-all, stepped-not}
 use Rattle.steps.proofs.PlateLaws.{put-low, sum-still, sum-around, sum-low}
@@ -100,15 +101,16 @@ turn-apart first h = inl (omega arith)
 
 -- ---- a loop over the rows: those above have their next values, n of them inexact, the sums of the row and of the one above it stand
 
-pub record PlateRows (i : Instrument) (h : Hit) (write inPlace : Bool) (older₀ newer out₀ older out sums : List ℤ)
-    (other here row start n : ℕ) : Type 0 where
-  pub rows : Rows i h write inPlace older₀ newer out₀ older out row start n
-  pub some : 1 ≤ row
-  pub upto : row + 1 ≤ i .grid .rows
-  pub turning : Turning other here
+pub record PlateRows (i : Instrument) (h : Hit) (write inPlace : Bool) (older₀ newer out₀ older out sums : List ℤ) (r : SumRows) (n : ℕ)
+    : Type 0 where
+  pub rows : Rows i h write inPlace older₀ newer out₀ older out (r .row) (r .start) n
+  pub some : 1 ≤ r .row
+  pub upto : r .row + 1 ≤ i .grid .rows
+  pub last-is : r .last ≡ eqb (r .row + 1) (i .grid .rows - 1)
+  pub turning : Turning (r .other) (r .here)
   pub long : length sums ≡ 128
-  pub above-row : SumRow (i .grid) newer sums (start - i .grid .columns) other
-  pub here-row : SumRow (i .grid) newer sums start here
+  pub above-row : SumRow (i .grid) newer sums (r .start - i .grid .columns) (r .other)
+  pub here-row : SumRow (i .grid) newer sums (r .start) (r .here)
   pub low : AtMost (4 * ceiling) (point sums)
 
 module _ {p : Plan} {h : Hit} {inPlace : Bool} {older₀ newer out₀ : List ℤ} (a : Passable p h inPlace older₀ newer out₀)
@@ -204,12 +206,14 @@ module _ {p : Plan} {h : Hit} {inPlace : Bool} {older₀ newer out₀ : List ℤ
         small j a b = subst (λ (z : ℤ). natAbs z ≤ 4 * ceiling) (sym (between (j - 64) (omega arith) (omega arith)))
             (sum-low (steppable-ready s) (g .columns + (j - 64)))
 
-        pub plate-start : {write : Bool} → PlateRows i h write inPlace older₀ newer out₀ older₀ out₀ sums′ 0 64 1 (g .columns) 0
-        plate-start {write} = record {
+        begun : {write : Bool}
+            → PlateRows i h write inPlace older₀ newer out₀ older₀ out₀ sums′ (rowsAt 1 (g .columns) 64 0 (g .rows - 1)) 0
+        begun {write} = record {
           rows = subst (λ (n : ℕ). Rows i h write inPlace older₀ newer out₀ older₀ out₀ 1 n 0) (N.zero-add (g .columns))
               (ring-more (rows-start older₀ out₀) (omega (arith, some-rows)) (inl refl));
           some = omega arith;
           upto = omega (arith, some-rows);
+          last-is = refl;
           turning = zeroth;
           long = f .long ∙ long;
           above-row = record {
@@ -220,20 +224,26 @@ module _ {p : Plan} {h : Hit} {inPlace : Bool} {older₀ newer out₀ : List ℤ
           low = put-low f small (λ j. subst (λ (z : ℤ). natAbs z ≤ 4 * ceiling) (sym (zeros j)) zero-le);
         }
 
+        pub plate-start : {write : Bool} {r : SumRows} → r ≡ rowsAt 1 (g .columns) 64 0 (g .rows - 1)
+            → PlateRows i h write inPlace older₀ newer out₀ older₀ out₀ sums′ r 0
+        plate-start {write} e = subst (λ (r : SumRows). PlateRows i h write inPlace older₀ newer out₀ older₀ out₀ sums′ r 0) (sym e) begun
+
     -- ---- a row
 
-    module _ {write : Bool} {older out sums : List ℤ} {other here row start n : ℕ}
-        (t : PlateRows i h write inPlace older₀ newer out₀ older out sums other here row start n) (l : row + 1 < g .rows) where
+    module _ {write : Bool} {older out sums : List ℤ} {r : SumRows} {n : ℕ}
+        (t : PlateRows i h write inPlace older₀ newer out₀ older out sums r n) (l : r .row + 1 < g .rows) where
+      abbrev row : ℕ
+      row = r .row
+
+      abbrev start : ℕ
+      start = r .start
+
       in-grid : row < g .rows
       in-grid = omega arith
 
       -- its run
       columns-run : run 1 (g .columns - 1) ≡ runOf g row
       columns-run = inner-run g size is-plate row in-grid (t .some) l
-
-      -- where its sums stand
-      abbrev pub here-now : SumRows
-      here-now = record { start = start; here = here; other = other; last = eqb (row + 1) (g .rows - 1) }
 
       -- the row lies in the level
       pub in-level : start + g .columns ≤ points g
@@ -251,8 +261,8 @@ module _ {p : Plan} {h : Hit} {inPlace : Bool} {older₀ newer out₀ : List ℤ
       below-start : (row + 1) * g .columns ≡ start + g .columns
       below-start = sym (ap (λ (n : ℕ). n + g .columns) (t .rows .start-is) ∙ next-row row (g .columns))
 
-      below-moves : (k : ℕ) → start + 1 ≤ k → k < start + (g .columns - 1) → moving g (k + g .columns) ≡ not (eqb (row + 1) (g .rows - 1))
-      below-moves k a b = go (ℕ-discrete (row + 1) (g .rows - 1))
+      below-moves : (k : ℕ) → start + 1 ≤ k → k < start + (g .columns - 1) → moving g (k + g .columns) ≡ not (r .last)
+      below-moves k a b = go (ℕ-discrete (row + 1) (g .rows - 1)) ∙ sym (ap not (t .last-is))
         where
           go : Dec (row + 1 ≡ g .rows - 1) → moving g (k + g .columns) ≡ not (eqb (row + 1) (g .rows - 1))
           go (yes e) =
@@ -263,7 +273,7 @@ module _ {p : Plan} {h : Hit} {inPlace : Bool} {older₀ newer out₀ : List ℤ
               w .moves (k + g .columns) (omega (arith, below-start)) (omega (arith, below-start)) ∙
               sym (ap not (ne-eqb (row + 1) (g .rows - 1) n))
 
-      pub in-row : InRow g here-now (start + 1) (start + (g .columns - 1))
+      in-row : InRow g r (start + 1) (start + (g .columns - 1))
       in-row = record {
         grid = grid;
         moves = run-moves a (t .rows) in-grid (run 1 (g .columns - 1)) columns-run;
@@ -273,7 +283,7 @@ module _ {p : Plan} {h : Hit} {inPlace : Bool} {older₀ newer out₀ : List ℤ
       }
 
       -- before its first moving point
-      pub two-rows : TwoRows g newer sums here-now (start + 1)
+      two-rows : TwoRows g newer sums r (start + 1)
       two-rows = record {
         high = high;
         here = t .here-row;
@@ -291,42 +301,87 @@ module _ {p : Plan} {h : Hit} {inPlace : Bool} {older₀ newer out₀ : List ℤ
       -- after its last one
       module _ {older′ out′ sums′ : List ℤ} {x : Progress}
           (q : Passing i h write inPlace older newer out older′ out′ (start + 1) (start + (g .columns - 1)) x) (e : x .within ≡ true)
-          (w : TwoRows g newer sums′ here-now (start + (g .columns - 1))) (long : length sums′ ≡ length sums) where
-        below-each : (c : ℕ) → c < g .columns → point sums′ (other + c) ≡ S (start + g .columns + c)
+          (w : TwoRows g newer sums′ r (start + (g .columns - 1))) (long : length sums′ ≡ length sums) where
+        below-each : (c : ℕ) → c < g .columns → point sums′ (r .other + c) ≡ S (start + g .columns + c)
         below-each c m = go (decLt c (g .columns - 1))
           where
-            go : Dec (c < g .columns - 1) → point sums′ (other + c) ≡ S (start + g .columns + c)
+            go : Dec (c < g .columns - 1) → point sums′ (r .other + c) ≡ S (start + g .columns + c)
             go (yes a) = w .below c (omega arith)
             go (no a) =
                 w .above c (omega (arith, a)) m ∙
                 right-zero (row - 1) (omega (arith, t .some)) (start - g .columns + c) (omega (arith, a, above-start)) ∙
                 sym (right-zero (row + 1) l (start + g .columns + c) (omega (arith, a, below-start)))
 
-        pub plate-next : PlateRows i h write inPlace older₀ newer out₀ older′ out′ sums′ here other (row + 1) (start + g .columns)
-            (n + x .inexact)
-        plate-next = record {
+        row-next : PlateRows i h write inPlace older₀ newer out₀ older′ out′ sums′
+            (rowsAt (row + 1) (start + g .columns) (r .other) (r .here) (g .rows - 1)) (n + x .inexact)
+        row-next = record {
           rows = rows-more a (t .rows) in-grid (run 1 (g .columns - 1)) columns-run q e;
           some = omega arith;
           upto = omega arith;
+          last-is = refl;
           turning = turn (t .turning);
           long = long ∙ t .long;
-          above-row = subst (λ (n : ℕ). SumRow g newer sums′ n here) (omega arith) (w .here);
+          above-row = subst (λ (n : ℕ). SumRow g newer sums′ n (r .here)) (omega arith) (w .here);
           here-row = record { room = w .room; each = below-each };
           low = w .low;
         }
 
       module _ {older′ out′ : List ℤ} {x : Progress}
           (q : Passing i h write inPlace older newer out older′ out′ (start + 1) (start + (g .columns - 1)) x) where
-        pub plate-stops : x .within ≡ false → Passed i h write inPlace older₀ newer out₀ older′ out′ x
-        plate-stops e = stepped-not a (rows-stop a (t .rows) in-grid (run 1 (g .columns - 1)) columns-run q e) e
+        row-stops : x .within ≡ false → Passed i h write inPlace older₀ newer out₀ older′ out′ x
+        row-stops e = stepped-not a (rows-stop a (t .rows) in-grid (run 1 (g .columns - 1)) columns-run q e) e
 
-        pub plate-most : x .within ≡ true → n + x .inexact ≤ points g
-        plate-most e = rows-most a (t .rows) in-grid (run 1 (g .columns - 1)) columns-run q e
+        row-most : x .within ≡ true → n + x .inexact ≤ points g
+        row-most e = rows-most a (t .rows) in-grid (run 1 (g .columns - 1)) columns-run q e
+
+      -- its moving points, x
+      pub row-ready : Ready p (pos 0) older newer
+      row-ready = passing-ready (steppable-ready s) (t .rows .done)
+
+      module _ {x : Stretch} (e : x ≡ movingIn r (g .columns) write inPlace) where
+        pub moving-ready : Ready p (x .force) older newer
+        moving-ready = subst (λ (x : Stretch). Ready p (x .force) older newer) (sym e) row-ready
+
+        pub moving-placed : Placed x (length out)
+        moving-placed = subst (λ (x : Stretch). Placed x (length out)) (sym e)
+            (piece-placed inPlace (omega (arith, some-columns)) (λ f. omega (arith, few-columns)) (omega (arith, in-level)) (a .room)
+            (t .rows .done .out-long))
+
+        pub moving-inside : x .to ≤ length older
+        moving-inside = omega (arith, ap (λ (x : Stretch). x .to) e, in-level, row-ready .older-long)
+
+        pub moving-row : InRow g r (x .from) (x .to)
+        moving-row = subst (λ (x : Stretch). InRow g r (x .from) (x .to)) (sym e) in-row
+
+        pub moving-sums : TwoRows g newer sums r (x .from)
+        moving-sums = subst (λ (x : Stretch). TwoRows g newer sums r (x .from)) (sym e) two-rows
+
+        -- once they are worked out
+        module _ {out′ : List ℤ} {y : Progress} (q : Stepping i h (x .write) (x .base) older newer out out′ (x .from) (x .to) y) where
+          pub plate-stops : y .within ≡ false → Passed i h write inPlace older₀ newer out₀ older out′ y
+          plate-stops f = row-stops (stretch-stops i h write inPlace e q f) f
+
+          -- and put in their places
+          module _ (within : y .within ≡ true) {older′ : List ℤ}
+              (f : Filled (λ k. point out′ (k - x .base)) (inPlace && x .write) 0 older older′ (x .from) (x .to))
+              (o : (inPlace && x .write) ≡ false → older′ ≡ older) where
+            left : Passing i h write inPlace older newer out older′ out′ (start + 1) (start + (g .columns - 1)) y
+            left = stretch-passing i h write inPlace e q within f o
+
+            pub plate-most : n + y .inexact ≤ points g
+            plate-most = row-most left within
+
+            pub plate-next : {sums′ : List ℤ} {r′ : SumRows} → TwoRows g newer sums′ r (x .to) → length sums′ ≡ length sums
+                → r′ ≡ rowsAt (row + 1) (start + g .columns) (r .other) (r .here) (g .rows - 1)
+                → PlateRows i h write inPlace older₀ newer out₀ older′ out′ sums′ r′ (n + y .inexact)
+            plate-next {sums′} w long z =
+                subst (λ (r : SumRows). PlateRows i h write inPlace older₀ newer out₀ older′ out′ sums′ r (n + y .inexact)) (sym z)
+                (row-next left within (subst (λ (x : Stretch). TwoRows g newer sums′ r (x .to)) e w) long)
 
     -- after the last of them
-    pub plate-done : {write : Bool} {older out sums : List ℤ} {other here row start n : ℕ}
-        → PlateRows i h write inPlace older₀ newer out₀ older out sums other here row start n → g .rows ≤ row + 1
+    pub plate-done : {write : Bool} {older out sums : List ℤ} {r : SumRows} {n : ℕ}
+        → PlateRows i h write inPlace older₀ newer out₀ older out sums r n → g .rows ≤ r .row + 1
         → Passed i h write inPlace older₀ newer out₀ older out (passed n)
-    plate-done {row = row} t m =
-        let last : row + 1 ≡ g .rows = omega (arith, t .upto) in
+    plate-done {r = r} t m =
+        let last : r .row + 1 ≡ g .rows = omega (arith, t .upto) in
         stepped-all a (rows-done a (ring-more (t .rows) (omega (arith, t .upto)) (inr last)) m)

@@ -195,7 +195,7 @@ fn first_rows(columns: usize, ring: usize) -> SumRows
         start: columns,
         here: 64,
         other: 0,
-        last: ring == 2,
+        last: 2 == ring,
     }
 }
 
@@ -219,12 +219,7 @@ fn moving_in(rows: SumRows, columns: usize, write: bool, in_place: bool) -> Stre
     requires { ⌜ (3 ≤ columns) × (columns ≤ 64) × (rows .start + columns ≤ 4096) ⌝ }
     ensures { λ r. ⌜ r ≡ movingIn rows columns write «in_place» ⌝ }
 {
-    piece_at(
-        rows.start + 1,
-        rows.start + (columns - 1),
-        write,
-        in_place,
-    )
+    piece_at(rows.start + 1, rows.start + (columns - 1), write, in_place)
 }
 
 // Every moving point of a plate, in a step without a hit.

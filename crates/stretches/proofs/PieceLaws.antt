@@ -25,6 +25,6 @@ piece-ends true {at} {to} h = go (decLt (to - at) piece)
         (record { some = omega arith; upto = omega (arith, l); few = λ e. omega arith })
 
 -- fewer points than a piece has are one
-pub piece-whole : (inPlace : Bool) {at to : ℕ} → to - at < piece → pieceEnd inPlace at to ≡ to
-piece-whole false h = refl
-piece-whole true {at} {to} h = ap (λ (t : Bool). cond t to (at + piece)) (lt-ltb (to - at) piece h)
+pub piece-whole : (inPlace : Bool) (at to : ℕ) → to - at < piece → pieceEnd inPlace at to ≡ to
+piece-whole false at to h = refl
+piece-whole true at to h = ap (λ (t : Bool). cond t to (at + piece)) (lt-ltb (to - at) piece h)

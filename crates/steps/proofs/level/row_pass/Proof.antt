@@ -1,7 +1,6 @@
 -- `row_pass` meets its contract: the pieces passed have their values.
 use mathlib.Core.Path.{_≡_, sym, ap, _∙_, subst}
-use mathlib.Core.Bool.{true, false}
-use Prim.Native.Nat.{_+_, _-_, _≤_}
+use Prim.Native.Nat.{ℕ, _+_, _-_, _≤_}
 use native.Mathlib.Omega.{arith}
 use borrow.Author.Needs.{needs}
 use borrow.Author.Tests.{not-true, not-false}
@@ -9,14 +8,16 @@ use lib.IntN.{pos}
 use lib.ListN.{length}
 use Rattle.scheme.specs.Instruments.{points}
 use Rattle.stretches.proofs.PieceLaws.{PieceEnds, piece-ends}
+use Rattle.stretches.specs.declared.Stretch.{Stretch}
+use Rattle.stretches.specs.Pieces.{baseOf, pieceAt}
 use Rattle.steps.specs.Plan.{Ready}
 use Rattle.steps.specs.Run.{Placed, Moves}
 use Rattle.steps.specs.Pass.{Passing}
 use Rattle.steps.proofs.PlanLaws.{few-points, m-none}
 use Rattle.steps.proofs.FillLaws.{passed}
 use Rattle.steps.proofs.HitLaws.{some-move, run-inside}
-use Rattle.steps.proofs.PassLaws.{base-aside, piece-placed, passing-none, passing-append, passing-stops, passing-most, passing-ends}
-use Rattle.steps.proofs.PassLaws.{passing-ready, piece-passing, piece-stops, tested-passing}
+use Rattle.steps.proofs.PassLaws.{piece-placed, passing-none, passing-append, passing-stops, passing-most, passing-ends}
+use Rattle.steps.proofs.PassLaws.{passing-ready, stretch-passing, stretch-stops, tested-passing}
 use Rattle.steps.proofs.level.row_pass.Statement.{statement}
 use Rattle.steps.proofs.level.row_pass.Tie as tie
 
@@ -28,16 +29,32 @@ abbrev μ-loop : tie.MeasureT-loop
 μ-loop plan older₀ newer from to hit out₀ write in-place inexact₀ at₀ older out inexact at = to - at
 
 -- a piece
-module _ (c : tie.After-base-of Inv-loop μ-loop) where
+module _ (c : tie.After-piece-at Inv-loop μ-loop) where
   abbrev loop : tie.At-loop Inv-loop μ-loop
-  loop = c .before .before .before
+  loop = c .before .before
 
   abbrev s : tie.Start Inv-loop μ-loop
   s = loop .before .before
 
-  ends : PieceEnds (s .args .in-place) (loop .loop .at) (s .args .to) (c .before .piece-end .result)
-  ends = subst (PieceEnds (s .args .in-place) (loop .loop .at) (s .args .to)) (sym (c .before .piece-end .ensures))
-      (piece-ends (s .args .in-place) (c .before .before .loop-test .taken))
+  abbrev x : Stretch
+  x = c .piece-at .result
+
+  is-piece : x ≡ pieceAt (s .args .in-place) (loop .loop .at) (s .args .to) (s .args .write)
+  is-piece = c .piece-at .ensures
+
+  -- by its own end
+  is : x ≡ record { from = loop .loop .at; to = x .to; force = pos 0; base = baseOf (s .args .in-place) (loop .loop .at); write = s .args .write }
+  is = is-piece ∙ ap (λ (n : ℕ). record {
+    from = loop .loop .at;
+    to = n;
+    force = pos 0;
+    base = baseOf (s .args .in-place) (loop .loop .at);
+    write = s .args .write;
+  }) (sym (ap (λ (x : Stretch). x .to) is-piece))
+
+  ends : PieceEnds (s .args .in-place) (loop .loop .at) (s .args .to) (x .to)
+  ends = subst (λ (x : Stretch). PieceEnds (s .args .in-place) (loop .loop .at) (s .args .to) (x .to)) (sym is-piece)
+      (piece-ends (s .args .in-place) (c .before .loop-test .taken))
 
   abbrev done : Passing (s .args .plan .instrument) (s .args .hit) (s .args .write) (s .args .in-place) (s .args .older .now)
       (s .args .newer .now) (s .args .out .now) (loop .loop .older) (loop .loop .out) (s .args .from) (loop .loop .at)
@@ -47,26 +64,16 @@ module _ (c : tie.After-base-of Inv-loop μ-loop) where
   ready : Ready (s .args .plan) (pos 0) (loop .loop .older) (s .args .newer .now)
   ready = passing-ready (s .pre .0 .0) done
 
-  moves : Moves (s .args .plan .instrument .grid) (loop .loop .at) (c .before .piece-end .result)
+  moves : Moves (s .args .plan .instrument .grid) (loop .loop .at) (x .to)
   moves = some-move (s .pre .1 .0) (loop .loop .inv .1) (omega (arith, ends .some)) (ends .upto)
 
-  inside : c .before .piece-end .result ≤ points (s .args .plan .instrument .grid)
+  inside : x .to ≤ points (s .args .plan .instrument .grid)
   inside = run-inside moves (ends .some)
 
-  placed : Placed
-      (record {
-        from = loop .loop .at;
-        to = c .before .piece-end .result;
-        force = pos 0;
-        base = c .base-of .result;
-        write = s .args .write;
-      })
-      (length (loop .loop .out))
-  placed = piece-placed (s .args .in-place) (c .base-of .ensures) (omega arith) (omega (arith, ends .some)) (ends .few) (ends .upto)
-      (s .pre .0 .1) (done .out-long)
-
-  aside : s .args .in-place ≡ false → c .base-of .result ≡ 0
-  aside = base-aside (s .args .in-place) (loop .loop .at) (c .base-of .ensures)
+  placed : Placed x (length (loop .loop .out))
+  placed = subst (λ (x : Stretch). Placed x (length (loop .loop .out))) (sym is-piece)
+      (let f = piece-ends (s .args .in-place) (c .before .loop-test .taken) in
+      piece-placed (s .args .in-place) (omega (arith, f .some)) (f .few) (f .upto) (s .pre .0 .1) (done .out-long))
 
 -- ---- a row that is tested alone
 
@@ -92,19 +99,17 @@ returns c =
 loop-holds : tie.Need-loop-holds Inv-loop μ-loop
 loop-holds c = (passing-none _ _ _, omega arith, c .before .pre .1 .0 .order)
 
-piece-end-requires : tie.Need-piece-end-requires Inv-loop μ-loop
-piece-end-requires c κs = tt
-
-base-of-requires : tie.Need-base-of-requires Inv-loop μ-loop
-base-of-requires c κs = tt
+piece-at-requires : tie.Need-piece-at-requires Inv-loop μ-loop
+piece-at-requires c κs = tt
 
 row-stretches-requires : tie.Need-row-stretches-requires Inv-loop μ-loop
 row-stretches-requires c κs =
     let b = c .before .before in
-    ((ready b, placed b), (moves b, s b .pre .1 .1, s b .pre .1 .2))
+    let m = subst (λ (x : Stretch). Moves (s b .args .plan .instrument .grid) (x .from) (x .to)) (sym (is b)) (moves b) in
+    ((ready b, placed b), (m, s b .pre .1 .1, s b .pre .1 .2))
 
 -- once it is worked out
-abbrev worked : tie.After-out Inv-loop μ-loop → tie.After-base-of Inv-loop μ-loop
+abbrev worked : tie.After-out Inv-loop μ-loop → tie.After-piece-at Inv-loop μ-loop
 worked c = c .before .before .before .before
 
 same-length-2 : tie.Need-same-length-2 Inv-loop μ-loop
@@ -120,9 +125,8 @@ returns-2 c =
     let beyond = not-true _ (c .if3 .taken) in
     let a = s b .args in
     passing-stops (loop b .loop .inv .1) (moves b .order) (done b)
-    (piece-stops (a .plan .instrument) (a .hit) (a .write) (a .in-place) (aside b) (o .before .row-stretches .ensures) beyond)
-    (ends b .upto)
-    beyond
+    (stretch-stops (a .plan .instrument) (a .hit) (a .write) (a .in-place) (is b) (o .before .row-stretches .ensures) beyond)
+    (ends b .upto) beyond
 
 -- and looked at
 abbrev looked : tie.Else3 Inv-loop μ-loop → tie.After-out Inv-loop μ-loop
@@ -132,9 +136,11 @@ put-piece-requires : tie.Need-put-piece-requires Inv-loop μ-loop
 put-piece-requires c κs =
     let o = looked (c .before .before) in
     let b = worked o in (
-      placed b .above,
-      placed b .order,
-      omega (arith, placed b .room, o .before .row-stretches .ensures .long),
+      record {
+        order = placed b .order;
+        above = placed b .above;
+        room = omega (arith, placed b .room, o .before .row-stretches .ensures .long);
+      },
       omega (arith, inside b, ready b .older-long),
     )
 
@@ -146,20 +152,20 @@ module _ (c : tie.After-struct-known3 Inv-loop μ-loop) where
   abbrev seen : tie.Else3 Inv-loop μ-loop
   seen = put .before .before .before
 
-  abbrev at-piece : tie.After-base-of Inv-loop μ-loop
+  abbrev at-piece : tie.After-piece-at Inv-loop μ-loop
   at-piece = worked (looked seen)
 
   one-more : Passing (s at-piece .args .plan .instrument) (s at-piece .args .hit) (s at-piece .args .write) (s at-piece .args .in-place)
       (s at-piece .args .older .now) (s at-piece .args .newer .now) (s at-piece .args .out .now)
-      (put .put-piece .last .1 .1 .1 .1 .0) (looked seen .before .row-stretches .last .1 .1 .1 .1 .1 .0) (s at-piece .args .from)
-      (at-piece .before .piece-end .result)
+      (put .put-piece .last .1 .1 .0) (looked seen .before .row-stretches .last .1 .1 .1 .1 .1 .0) (s at-piece .args .from)
+      (x at-piece .to)
       (passed (loop at-piece .loop .inexact + looked seen .before .row-stretches .result .inexact))
   one-more =
       let b = at-piece in
       let a = s b .args in
       let within = not-false _ (seen .if3 .left) in
       passing-append (loop b .loop .inv .1) (moves b .order) (done b)
-      (piece-passing (a .plan .instrument) (a .hit) (a .write) (a .in-place) (aside b) (looked seen .before .row-stretches .ensures) within
+      (stretch-passing (a .plan .instrument) (a .hit) (a .write) (a .in-place) (is b) (looked seen .before .row-stretches .ensures) within
       (put .put-piece .ensures .0) (put .put-piece .ensures .1)) within
 
 add-inexact : tie.Need-add-inexact Inv-loop μ-loop
@@ -192,8 +198,7 @@ row-pass-spec =
     same-length
     returns
     loop-holds
-    piece-end-requires
-    base-of-requires
+    piece-at-requires
     row-stretches-requires
     same-length-2
     same-length-3

@@ -1,17 +1,13 @@
 -- `row_stretches` meets its contract: stretch by stretch, one force on the points of each.
-use mathlib.Core.Path.{sym, _∙_, subst}
 use Prim.Native.Nat.{_-_}
 use native.Mathlib.Omega.{arith}
 use borrow.Author.Needs.{needs}
 use borrow.Author.Tests.{not-true, not-false}
-use mir.Syntax.{w64}
-use mir.Val.{toZ, ofZ}
-use Rattle.bounded.proofs.Num.{back}
-use Rattle.stretches.proofs.StretchLaws.{Ends, ends}
 use Rattle.steps.specs.Run.{nextOf}
 use Rattle.steps.proofs.PlanLaws.{few-points}
 use Rattle.steps.proofs.FillLaws.{Running, running-start, running-done}
-use Rattle.steps.proofs.HitLaws.{Struck, struck-ready, struck-placed, struck-moves, struck-on, struck-most, struck-stops, run-inside}
+use Rattle.steps.proofs.HitLaws.{Struck, struck-ends, struck-ready, struck-placed, struck-moves, struck-some, struck-on, struck-most, struck-stops}
+use Rattle.steps.proofs.HitLaws.{run-inside}
 use Rattle.steps.proofs.level.row_stretches.Statement.{statement}
 use Rattle.steps.proofs.level.row_stretches.Tie as tie
 
@@ -22,42 +18,33 @@ Inv-loop plan older newer row hit out₀ inexact₀ at₀ out inexact at =
 abbrev μ-loop : tie.MeasureT-loop
 μ-loop plan older newer row hit out₀ inexact₀ at₀ out inexact at = row .to - at
 
--- the stretch of a turn, and the force on it as it was stored
-module _ (c : tie.After-force-at Inv-loop μ-loop) where
+-- the stretch of a turn
+module _ (c : tie.After-stretch-at Inv-loop μ-loop) where
   abbrev loop : tie.At-loop Inv-loop μ-loop
-  loop = c .before .before .before .before
+  loop = c .before .before .before
 
   abbrev s : tie.Start Inv-loop μ-loop
   s = loop .before
 
   struck : Struck (s .args .plan) (s .args .hit) (s .args .older .now) (s .args .newer .now) (s .args .row) (s .args .out .now)
-      (loop .loop .out) (loop .loop .at) (loop .loop .inexact) (c .before .stretch-end .result) (toZ w64 (ofZ w64 (c .force-at .result)))
-  struck = record {
-    moves = s .pre .1 .0;
-    inv = loop .loop .inv;
-    ends = subst (Ends (s .args .hit) (loop .loop .at) (s .args .row .to)) (sym (c .before .stretch-end .ensures))
-        (ends (c .before .before .if1 .taken) (s .args .hit));
-    force-is = back (c .force-at .result) (c .force-at .ok) ∙ c .force-at .ensures;
-  }
+      (loop .loop .out) (loop .loop .at) (loop .loop .inexact) (c .stretch-at .result)
+  struck = record { moves = s .pre .1 .0; inv = loop .loop .inv; more = c .before .if1 .taken; is = c .stretch-at .ensures }
 
 -- once the stretch is done
-abbrev done : tie.After-out Inv-loop μ-loop → tie.After-force-at Inv-loop μ-loop
+abbrev done : tie.After-out Inv-loop μ-loop → tie.After-stretch-at Inv-loop μ-loop
 done c = c .before .before .before
 
 loop-holds : tie.Need-loop-holds Inv-loop μ-loop
 loop-holds c = let p = c .pre .0 .1 in running-start _ _ _ (p .above) (p .order)
 
-stretch-end-requires : tie.Need-stretch-end-requires Inv-loop μ-loop
-stretch-end-requires c κs = tt
-
-force-at-requires : tie.Need-force-at-requires Inv-loop μ-loop
-force-at-requires c κs = tt
+stretch-at-requires : tie.Need-stretch-at-requires Inv-loop μ-loop
+stretch-at-requires c κs = tt
 
 points-run-requires : tie.Need-points-run-requires Inv-loop μ-loop
 points-run-requires c κs =
     let t = struck (c .before) in
     let p = s (c .before) .pre in
-    ((struck-ready t (p .1 .1) (p .0 .0), struck-placed t (p .0 .1)), (struck-moves t, t .ends .some, p .1 .2))
+    ((struck-ready t (p .1 .1) (p .0 .0), struck-placed t (p .0 .1)), (struck-moves t, struck-some t, p .1 .2))
 
 same-length : tie.Need-same-length Inv-loop μ-loop
 same-length c = search needs
@@ -75,11 +62,11 @@ add-inexact c =
     let t = struck (done o) in
     let r = s (done o) .pre .0 .0 in
     let most = struck-most t (o .before .points-run .ensures) (not-false _ (c .before .if2 .left)) in
-    let last = run-inside (struck-moves t) (t .ends .some) in
+    let last = run-inside (struck-moves t) (struck-some t) in
     record { fits = omega (arith, most, last, few-points (r .planned)) }
 
 loop-less : tie.Need-loop-less Inv-loop μ-loop
-loop-less c = let e = struck (done (looked c)) .ends in omega (arith, e .some, e .upto)
+loop-less c = let e = struck-ends (struck (done (looked c))) in omega (arith, e .some, e .upto)
 
 loop-again : tie.Need-loop-again Inv-loop μ-loop
 loop-again c = let o = looked c in struck-on (struck (done o)) (o .before .points-run .ensures) (not-false _ (c .before .if2 .left))
@@ -97,8 +84,7 @@ row-stretches-spec =
     Inv-loop
     μ-loop
     loop-holds
-    stretch-end-requires
-    force-at-requires
+    stretch-at-requires
     points-run-requires
     same-length
     returns
