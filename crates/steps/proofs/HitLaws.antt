@@ -23,8 +23,8 @@ use Rattle.scheme.proofs.Laws.Step.{moving-inside, next-moving}
 use Rattle.plans.specs.declared.Plan.{Plan}
 use Rattle.steps.specs.declared.progress.Progress.{Progress}
 use Rattle.stretches.specs.declared.Stretch.{Stretch}
-use Rattle.stretches.specs.Stretches.{stretchAt}
-use Rattle.stretches.proofs.StretchLaws.{Ends, ends}
+use Rattle.stretches.specs.Stretches.{stretchAt, hitIn}
+use Rattle.stretches.proofs.StretchLaws.{Ends, ends, force-away}
 use Rattle.steps.specs.Plan.{Ready}
 use Rattle.steps.specs.Run.{nextBy, nextOf, Ran, Advanced, Placed, Moves}
 use Rattle.steps.proofs.FillLaws.{Running, running-on, running-most, running-stops, ran-same}
@@ -73,11 +73,24 @@ next-value i h older newer f k m e =
     d : ℕ
     d = divisor (i .settings)
 
--- without a hit there is no force
-pub no-force : (i : Instrument) (older newer : List ℤ) (f : ℤ) {write : Bool} {base : ℕ} {out out′ : List ℤ} {from to : ℕ} {r : Progress}
-    → Moves (i .grid) from to → f ≡ pos 0 → Ran (nextBy i f older newer) write base out out′ from to r
-    → Ran (nextOf i Absent older newer) write base out out′ from to r
-no-force i older newer f m z = ran-same (m .order) (λ k a b. next-value i Absent older newer f k (m .each k a b) (sym z))
+-- where the hit is not, there is no force
+pub no-force : (i : Instrument) (h : Hit) (older newer : List ℤ) (f : ℤ) {write : Bool} {base : ℕ} {out out′ : List ℤ} {from to : ℕ}
+    {r : Progress}
+    → Moves (i .grid) from to → hitIn h from to ≡ false → f ≡ pos 0 → Ran (nextBy i f older newer) write base out out′ from to r
+    → Ran (nextOf i h older newer) write base out out′ from to r
+unfolding hitIn
+no-force i h older newer f {from = from} {to = to} m e z =
+    ran-same (m .order) (λ k a b. next-value i h older newer f k (m .each k a b) (away h e k a b ∙ sym z))
+  where
+    away : (h : Hit) → hitIn h from to ≡ false → (k : ℕ) → from ≤ k → k < to → forceOf h k ≡ pos 0
+    away Absent e k a b = refl
+    away (At p f) e k a b = force-away p f k (λ s. true≢false (sym (λ j. low s j && high s j) ∙ e))
+      where
+        low : k ≡ p → leb from p ≡ true
+        low s = le-leb from p (omega arith)
+
+        high : k ≡ p → ltb p to ≡ true
+        high s = lt-ltb p to (omega arith)
 
 -- ---- a loop over the stretches of a row
 

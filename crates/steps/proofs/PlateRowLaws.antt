@@ -335,7 +335,7 @@ module _ {p : Plan} {h : Hit} {inPlace : Bool} {older₀ newer out₀ : List ℤ
         row-most e = rows-most a (t .rows) in-grid (run 1 (g .columns - 1)) columns-run q e
 
       -- its moving points, x
-      pub row-ready : Ready p (pos 0) older newer
+      row-ready : Ready p (pos 0) older newer
       row-ready = passing-ready (steppable-ready s) (t .rows .done)
 
       module _ {x : Stretch} (e : x ≡ movingIn r (g .columns) write inPlace) where

@@ -21,7 +21,7 @@ use crate::progress::Progress;
 use plans::Plan;
 use stretches::Stretch;
 use stretches::as_written;
-use stretches::piece_at;
+use stretches::is_hit_in;
 use stretches::stretch_at;
 use types::Hit;
 
@@ -151,7 +151,7 @@ fn plate_row(
     plate_run(plan, older, newer, rows, as_written(s, false), sums, out)
 }
 
-// The moving points of a row, in a step with a hit: stretch by stretch.
+// The moving points of a row, in a step with a hit: stretch by stretch where the hit is among them.
 fn struck_row(
     plan: Plan,
     older: &[i64],
@@ -162,13 +162,17 @@ fn struck_row(
     sums: &mut [i64],
     out: &mut [i64],
 ) -> Progress
-    requires { ⌜ Ready plan (pos 0) (now older) (now newer) × Placed row (length (now out)) × (tooStrong hit ≡ false) ⌝ }
+    requires { ⌜ Ready plan (row .force) (now older) (now newer) × Placed row (length (now out)) × (tooStrong hit ≡ false) ⌝ }
+    requires { ⌜ row .force ≡ pos 0 ⌝ }
     requires { ⌜ TwoRows (plan .instrument .grid) (now newer) (now sums) rows (row .from)
         × InRow (plan .instrument .grid) rows (row .from) (row .to) ⌝ }
     ensures { λ r. ⌜ Stepping (plan .instrument) hit (row .write) (row .base) (now (older .entry)) (now (newer .entry))
         (now (out .entry)) (now (out .exit)) (row .from) (row .to) r
         × (r .within ≡ true → TwoRows (plan .instrument .grid) (now (newer .entry)) (now (sums .exit)) rows (row .to)) ⌝ }
 {
+    if !is_hit_in(hit, row.from, row.to) {
+        return plate_run(plan, older, newer, rows, row, sums, out);
+    }
     let mut inexact = 0;
     let mut at = row.from;
     while at < row.to {
@@ -219,7 +223,15 @@ fn moving_in(rows: SumRows, columns: usize, write: bool, in_place: bool) -> Stre
     requires { ⌜ (3 ≤ columns) × (columns ≤ 64) × (rows .start + columns ≤ 4096) ⌝ }
     ensures { λ r. ⌜ r ≡ movingIn rows columns write «in_place» ⌝ }
 {
-    piece_at(rows.start + 1, rows.start + (columns - 1), write, in_place)
+    let from = rows.start + 1;
+    let base = if in_place { from } else { 0 };
+    Stretch {
+        from,
+        to: rows.start + (columns - 1),
+        force: 0,
+        base,
+        write,
+    }
 }
 
 // Every moving point of a plate, in a step without a hit.

@@ -1,5 +1,5 @@
 -- Where a piece ends.
-use mathlib.Core.Path.{_≡_, refl, sym, ap, subst}
+use mathlib.Core.Path.{_≡_, sym, ap, subst}
 use mathlib.Core.Bool.{Bool, true, false, cond, true≢false}
 use Prim.Native.Nat.{ℕ, _+_, _-_, _≤_, _<_}
 use native.Mathlib.Decide.{decLt}
@@ -23,8 +23,3 @@ piece-ends true {at} {to} h = go (decLt (to - at) piece)
     go (no l) = subst (PieceEnds true at to)
         (sym (ap (λ (t : Bool). cond t to (at + piece)) (le-ltb (to - at) piece (omega (arith, l)))))
         (record { some = omega arith; upto = omega (arith, l); few = λ e. omega arith })
-
--- fewer points than a piece has are one
-pub piece-whole : (inPlace : Bool) (at to : ℕ) → to - at < piece → pieceEnd inPlace at to ≡ to
-piece-whole false at to h = refl
-piece-whole true at to h = ap (λ (t : Bool). cond t to (at + piece)) (lt-ltb (to - at) piece h)

@@ -1,18 +1,18 @@
 -- Stretches: what lies of them in a range, where they end, and the one force on their points.
 use mathlib.Core.Path.{_≡_, refl, sym, ap, _∙_, subst}
-use mathlib.Core.Bool.{Bool, cond}
+use mathlib.Core.Bool.{Bool, false, cond, _&&_}
 use mathlib.Core.Logic.{_⊎_, inl, inr}
 use Prim.Native.Nat.{ℕ, _+_, _≤_, _<_}
 use native.Mathlib.Decide.{decLt}
 use native.Mathlib.Omega.{arith}
 use borrow.Author.Tests.{lt-ltb, le-ltb, eq-eqb, ne-eqb}
-use lib.Dec.{ltb}
+use lib.Dec.{leb, ltb}
 use lib.IntN.{ℤ, pos}
 use Rattle.types.specs.declared.Hit.{Hit}
 use Rattle.types.specs.declared.Hit.the-variants.{Absent, At}
 use Rattle.scheme.specs.Step.{forceOf}
 use Rattle.stretches.specs.declared.Stretch.{Stretch}
-use Rattle.stretches.specs.Stretches.{clamp, withWrite, endOf}
+use Rattle.stretches.specs.Stretches.{clamp, withWrite, endOf, hitIn}
 
 -- ---- the nearer end
 
@@ -95,6 +95,16 @@ force-there p f k e = ap (λ (t : Bool). cond t f (pos 0)) (eq-eqb k p e)
 
 pub force-away : (p : ℕ) (f : ℤ) (k : ℕ) → (k ≡ p → ⊥) → forceOf (At p f) k ≡ pos 0
 force-away p f k d = ap (λ (t : Bool). cond t f (pos 0)) (ne-eqb k p d)
+
+-- ---- whether a hit is in a stretch
+
+pub hit-nowhere : (from to : ℕ) → hitIn Absent from to ≡ false
+unfolding hitIn
+hit-nowhere from to = refl
+
+pub hit-at : (p : ℕ) (f : ℤ) (from to : ℕ) → hitIn (At p f) from to ≡ (leb from p && ltb p to)
+unfolding hitIn
+hit-at p f from to = refl
 
 -- ---- where a stretch ends
 

@@ -1,8 +1,8 @@
--- Stretches of points: what lies of one in a range, where it ends. Vocabulary between the engine's crates: no call that a maker embeds
--- cites it.
-use mathlib.Core.Bool.{Bool, cond}
+-- Stretches of points: what lies of one in a range, where it ends, whether a hit is in it. Vocabulary between the engine's crates: no call
+-- that a maker embeds cites it.
+use mathlib.Core.Bool.{Bool, false, cond, _&&_}
 use Prim.Native.Nat.{ℕ, _+_}
-use lib.Dec.{ltb}
+use lib.Dec.{leb, ltb}
 use Rattle.types.specs.declared.Hit.{Hit}
 use Rattle.types.specs.declared.Hit.the-variants.{Absent, At}
 use Rattle.scheme.specs.Step.{forceOf}
@@ -34,3 +34,8 @@ endOf (At k f) a e = cond (ltb k a) e (clamp (a + 1) e k)
 -- the stretch at `at`, of the points of a row: the hit's force there on each of its points
 abbrev pub stretchAt : (row : Stretch) → Hit → (at : ℕ) → Stretch
 stretchAt row h at = record { from = at; to = endOf h at (row .to); force = forceOf h at; base = row .base; write = row .write }
+
+-- whether a hit is at one of the points from..to
+unfoldable pub hitIn : Hit → (from to : ℕ) → Bool
+hitIn Absent from to = false
+hitIn (At k f) from to = leb from k && ltb k to

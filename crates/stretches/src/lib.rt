@@ -2,7 +2,7 @@
 ghost use mathlib.Core.Path.{_≡_};
 ghost use Rattle.scheme.specs.Step.{forceOf};
 ghost use Rattle.stretches.specs.Pieces.{pieceEnd, pieceAt};
-ghost use Rattle.stretches.specs.Stretches.{clamp, partOf, withWrite, endOf, stretchAt};
+ghost use Rattle.stretches.specs.Stretches.{clamp, partOf, withWrite, endOf, stretchAt, hitIn};
 use types::Hit;
 
 // The points from..to, and the force on each. The next value of point k goes to place k − base, if it is written.
@@ -92,6 +92,16 @@ pub fn stretch_at(row: Stretch, hit: Hit, at: usize) -> Stretch
         base: row.base,
         write: row.write,
     }
+}
+
+// Whether a hit is at one of the points from..to. Ruled out: the point `to` counted in; the point `from` left out.
+pub fn is_hit_in(hit: Hit, from: usize, to: usize) -> bool
+    ensures { λ r. ⌜ r ≡ hitIn hit from to ⌝ }
+{
+    let Hit::At { point, force: _ } = hit else {
+        return false;
+    };
+    if from <= point { point < to } else { false }
 }
 
 // The most points of a piece: a row of a grid is one, a line has several.

@@ -1,34 +1,43 @@
--- `moving_in` meets its contract: a row of a plate is one piece.
-use mathlib.Core.Path.{ap, _∙_}
-use Prim.Native.Nat.{ℕ, _+_, _-_}
+-- `moving_in` meets its contract: its base by the test that the code makes.
+use mathlib.Core.Path.{_≡_, sym, ap, _∙_}
+use mathlib.Core.Bool.{Bool}
+use mathlib.Core.Logic.{⊎-elim}
+use Prim.Native.Nat.{_+_, _-_}
 use native.Mathlib.Omega.{arith}
 use lib.IntN.{pos}
 use Rattle.stretches.specs.Pieces.{baseOf}
-use Rattle.stretches.proofs.PieceLaws.{piece-whole}
 use Rattle.steps.proofs.plates.moving_in.Statement.{statement}
 use Rattle.steps.proofs.plates.moving_in.Tie as tie
 
-add-piece-at : tie.Need-add-piece-at
-add-piece-at c = record { fits = omega (arith, c .before .pre) }
+-- in place the first point, else 0
+base-is : (c : tie.Joined1) → let a = c .before .before .args in c .if1 .base ≡ baseOf (a .in-place) (a .rows .start + 1)
+base-is c =
+    let a = c .before .before .args in
+    ⊎-elim
+    (λ b. b .1 ∙ sym (ap (λ (t : Bool). baseOf t (a .rows .start + 1)) (b .0 .taken)))
+    (λ b. b .1 ∙ sym (ap (λ (t : Bool). baseOf t (a .rows .start + 1)) (b .0 .left)))
+    (c .if1 .came)
 
-sub-piece-at : tie.Need-sub-piece-at
-sub-piece-at c = omega (arith, c .before .pre)
+add-from : tie.Need-add-from
+add-from c = record { fits = omega (arith, c .before .pre) }
 
-add-piece-at-2 : tie.Need-add-piece-at-2
-add-piece-at-2 c = record { fits = omega (arith, c .before .before .pre) }
+sub-t9 : tie.Need-sub-t9
+sub-t9 c = omega (arith, c .before .before .pre)
 
-piece-at-requires : tie.Need-piece-at-requires
-piece-at-requires c κs = tt
+add-t10 : tie.Need-add-t10
+add-t10 c = record { fits = omega (arith, c .before .before .before .pre) }
 
 returns : tie.Need-returns
 returns c =
-    let s = c .before .before .before in
-    let a = s .args in
-    let first = a .rows .start + 1 in
-    let end = a .rows .start + (a .columns - 1) in
-    c .piece-at .ensures ∙
-    ap (λ (to : ℕ). record { from = first; to = to; force = pos 0; base = baseOf (a .in-place) first; write = a .write })
-    (piece-whole (a .in-place) first end (omega (arith, s .pre)))
+    let a = c .before .before .before .args in
+    let base = base-is (c .before) in
+    λ j. record {
+      from = a .rows .start + 1;
+      to = a .rows .start + (a .columns - 1);
+      force = pos 0;
+      base = base j;
+      write = a .write;
+    }
 
 pub moving-in-spec : {M : Type 1} → statement M
-moving-in-spec = tie.close (tie.spec add-piece-at sub-piece-at add-piece-at-2 piece-at-requires returns)
+moving-in-spec = tie.close (tie.spec add-from sub-t9 add-t10 returns)

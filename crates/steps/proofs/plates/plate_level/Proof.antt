@@ -10,6 +10,7 @@ use Rattle.types.specs.declared.Hit.the-variants.{Absent}
 use Rattle.scheme.specs.Instruments.{plate, kind, points}
 use Rattle.slices.proofs.SliceLaws.{zeros}
 use Rattle.stretches.specs.declared.Stretch.{Stretch}
+use Rattle.stretches.proofs.StretchLaws.{hit-nowhere}
 use Rattle.steps.specs.declared.plates.SumRows.{SumRows}
 use Rattle.steps.specs.Run.{Stepping}
 use Rattle.steps.specs.Pass.{Passable}
@@ -116,8 +117,8 @@ module _ (o : tie.After-out Inv-loop μ-loop) where
   ran =
       let s = start row in
       let e = moving .moving-in .ensures in
-      no-force (s .args .plan .instrument) (loop row .loop .older) (s .args .newer .now) (moving .moving-in .result .force)
-      (moving-row (given s) (is-plate s) (inv row) (last row) e .moves) (ap (λ (x : Stretch). x .force) e)
+      no-force (s .args .plan .instrument) Absent (loop row .loop .older) (s .args .newer .now) (moving .moving-in .result .force)
+      (moving-row (given s) (is-plate s) (inv row) (last row) e .moves) (hit-nowhere _ _) (ap (λ (x : Stretch). x .force) e)
       (o .before .before .plate-row .ensures .0)
 
 same-length : tie.Need-same-length Inv-loop μ-loop

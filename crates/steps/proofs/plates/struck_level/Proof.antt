@@ -8,11 +8,12 @@ use borrow.Author.Tests.{not-true, not-false}
 use Rattle.types.specs.declared.Grid.{Grid}
 use Rattle.scheme.specs.Instruments.{plate, kind, points}
 use Rattle.slices.proofs.SliceLaws.{zeros}
+use Rattle.stretches.specs.declared.Stretch.{Stretch}
 use Rattle.steps.specs.declared.plates.SumRows.{SumRows}
 use Rattle.steps.specs.Pass.{Passable}
 use Rattle.steps.proofs.PlanLaws.{few-rows, few-points}
 use Rattle.steps.proofs.RowLaws.{steppable-ready}
-use Rattle.steps.proofs.PlateRowLaws.{PlateRows, some-columns, some-rows, few-columns, three-rows, plate-start, in-level, row-ready}
+use Rattle.steps.proofs.PlateRowLaws.{PlateRows, some-columns, some-rows, few-columns, three-rows, plate-start, in-level, moving-ready}
 use Rattle.steps.proofs.PlateRowLaws.{moving-placed, moving-inside, moving-row, moving-sums, plate-stops, plate-most, plate-next}
 use Rattle.steps.proofs.PlateRowLaws.{plate-done}
 use Rattle.steps.proofs.plates.struck_level.Statement.{statement}
@@ -94,11 +95,14 @@ struck-row-requires c κs =
     let s = start t in
     let e = m .moving-in .ensures in (
       (
-        row-ready (given s) (is-plate s) (inv t) (last t),
+        moving-ready (given s) (is-plate s) (inv t) (last t) e,
         moving-placed (given s) (is-plate s) (inv t) (last t) e,
         given s .given .hit-low,
       ),
-      (moving-sums (given s) (is-plate s) (inv t) (last t) e, moving-row (given s) (is-plate s) (inv t) (last t) e),
+      (
+        ap (λ (x : Stretch). x .force) e,
+        (moving-sums (given s) (is-plate s) (inv t) (last t) e, moving-row (given s) (is-plate s) (inv t) (last t) e),
+      ),
     )
 
 -- once it is worked out
