@@ -152,7 +152,7 @@ notZero = refusedBy FixedNotZero (middle3 (pos 0)) (level (1 ∷ 0 ∷ 0 ∷ [])
 abbrev tooStrong : Run
 tooStrong = refusedBy TooStrong (middle3 (pos 0)) (middle3 (pos 0)) (At 1 (pos above))
 
--- the same of each run
+-- P of every run
 pub record EachRun (P : Run → Type 0) : Type 0 where
   pub halves : P halves
   pub readOut : P readOut
