@@ -1,9 +1,9 @@
 -- The table T keeps its rule: tests that are computed over the whole table, and laws that turn them into the rule at each entry.
 use mathlib.Core.Path.{_≡_, refl, sym, ap, subst, _∙_}
-use mathlib.Core.Bool.{Bool, true, _&&_}
-use mathlib.Core.List.{List, [], _∷_}
+use mathlib.Core.Bool.{Bool, true, false, _&&_}
+use mathlib.Core.List.{List, [], _∷_, reverse, reverseAux}
 use Prim.Native.Nat.{ℕ, zero, suc, _+_, _-_, _≤_, _<_}
-use native.Mathlib.Nat.{add-zero, zero-add, add-suc, suc-add, le-of-suc-le-suc, not-suc-le-zero}
+use native.Mathlib.Nat.{add-zero, zero-add, add-suc, le-of-suc-le-suc, not-suc-le-zero}
 use native.Mathlib.Omega.{arith}
 use mir.Facts.{and-yes}
 use lib.Dec.{T, leb, eqb, leb→le, eqb→eq}
@@ -11,17 +11,30 @@ use lib.ListN.{length, getD}
 use Rattle.pluck_table.specs.Table.{ShapeRule, TableRule, table}
 use Rattle.pluck_table.specs.Loading.{neverFalls}
 
--- the test f passes at each place of the list, counted from i, and its entry
-abbrev every : (ℕ → ℕ → Bool) → ℕ → List ℕ → Bool
-every f i [] = true
-every f i (x ∷ xs) = f i x && every f (suc i) xs
+-- the entries of two lists sum to 65536, place by place
+abbrev summed : List ℕ → List ℕ → Bool
+summed [] ys = true
+summed (x ∷ xs) [] = false
+summed (x ∷ xs) (y ∷ ys) = eqb (x + y) 65536 && summed xs ys
 
-from : (f : ℕ → ℕ → Bool) (xs : List ℕ) (i : ℕ) → T (every f i xs) → (k : ℕ) → k < length xs → T (f (i + k) (getD xs k 0))
-from f [] i t k h = absurd (not-suc-le-zero h)
-from f (x ∷ xs) i t zero h = subst (λ (m : ℕ). T (f m x)) (sym (add-zero i)) (and-yes (f i x) (every f (suc i) xs) t .0)
-from f (x ∷ xs) i t (suc k) h =
-    subst (λ (m : ℕ). T (f m (getD xs k 0))) (suc-add i k ∙ sym (add-suc i k))
-    (from f xs (suc i) (and-yes (f i x) (every f (suc i) xs) t .1) k (le-of-suc-le-suc h))
+sums : (xs ys : List ℕ) → T (summed xs ys) → (k : ℕ) → k < length xs → getD xs k 0 + getD ys k 0 ≡ 65536
+sums [] ys t k h = absurd (not-suc-le-zero h)
+sums (x ∷ xs) [] t k h = absurd t
+sums (x ∷ xs) (y ∷ ys) t zero h = eqb→eq (x + y) 65536 (and-yes (eqb (x + y) 65536) (summed xs ys) t .0)
+sums (x ∷ xs) (y ∷ ys) t (suc k) h = sums xs ys (and-yes (eqb (x + y) 65536) (summed xs ys) t .1) k (le-of-suc-le-suc h)
+
+-- the entries of a list from its end, onto another list
+after-reversed : (xs ys : List ℕ) (k : ℕ) → getD (reverseAux xs ys) (length xs + k) 0 ≡ getD ys k 0
+after-reversed [] ys k = ap (λ (m : ℕ). getD ys m 0) (zero-add k)
+after-reversed (x ∷ xs) ys k =
+    ap (λ (m : ℕ). getD (reverseAux xs (x ∷ ys)) m 0) (omega arith) ∙ after-reversed xs (x ∷ ys) (suc k)
+
+in-reversed : (xs ys : List ℕ) (k : ℕ) → k < length xs → getD (reverseAux xs ys) (length xs - suc k) 0 ≡ getD xs k 0
+in-reversed [] ys k h = absurd (not-suc-le-zero h)
+in-reversed (x ∷ xs) ys zero h =
+    ap (λ (m : ℕ). getD (reverseAux xs (x ∷ ys)) m 0) (omega arith) ∙ after-reversed xs (x ∷ ys) 0
+in-reversed (x ∷ xs) ys (suc k) h =
+    ap (λ (m : ℕ). getD (reverseAux xs (x ∷ ys)) m 0) (omega arith) ∙ in-reversed xs (x ∷ ys) k (le-of-suc-le-suc h)
 
 -- what never falls, entry by entry
 pub rises : (xs : List ℕ) → T (neverFalls xs) → (k : ℕ) → suc k < length xs → getD xs k 0 ≤ getD xs (suc k) 0
@@ -30,19 +43,19 @@ rises (x ∷ []) t k h = absurd (not-suc-le-zero (le-of-suc-le-suc h))
 rises (x ∷ y ∷ ys) t zero h = leb→le x y (and-yes (leb x y) (neverFalls (y ∷ ys)) t .0)
 rises (x ∷ y ∷ ys) t (suc k) h = rises (y ∷ ys) (and-yes (leb x y) (neverFalls (y ∷ ys)) t .1) k (le-of-suc-le-suc h)
 
-mirrored : ℕ → ℕ → Bool
-mirrored j x = eqb (x + getD table (1024 - j) 0) 65536
-
-all-mirrored : T (every mirrored 0 table)
-unfolding mirrored table
+-- in one pass, by the table from its end
+all-mirrored : T (summed table (reverse table))
+unfolding table
 all-mirrored = tt
 
 pub table-rule : TableRule table
-unfolding table mirrored
+unfolding table
 table-rule = record {
   shape = record { long = refl; begins = refl; ends = refl; rises = λ j h. rises table tt j h };
-  mirrors = λ j h. eqb→eq (getD table j 0 + getD table (1024 - j) 0) 65536
-      (subst (λ (m : ℕ). T (mirrored m (getD table j 0))) (zero-add j) (from mirrored table 0 all-mirrored j h));
+  mirrors = λ j h.
+      let place : 1025 - suc (1024 - j) ≡ j = omega arith in
+      let other = sym (in-reversed table [] (1024 - j) (omega arith)) ∙ ap (λ (m : ℕ). getD (reverse table) m 0) place in
+      ap (λ (n : ℕ). getD table j 0 + n) other ∙ sums table (reverse table) all-mirrored j h;
 }
 
 -- ---- any table that keeps the rule of a shape

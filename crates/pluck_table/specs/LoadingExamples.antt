@@ -29,27 +29,21 @@ joined n xs m end = entries n 0 0 ++ (xs ++ (entries m 65536 0 ++ end ∷ []))
 abbrev numbers : List (List ℕ) → List ℕ
 numbers ts = map (λ t. loadedNumber (loadedTable t)) ts
 
-pub data LoadingExample : Type 0 where
-  answers lengths ends falls sound : LoadingExample
-
-abbrev pub loadingShows : LoadingExample → Type 0
--- of each answer the paper's number and its value; T's equal neighbours are fine
-loadingShows answers =
-    (map loadedNumber (Sound 1024 ∷ Broken ∷ []) ≡ 0 ∷ 14 ∷ []) × (map loadedLast (Sound 1024 ∷ Broken ∷ []) ≡ 1024 ∷ 0 ∷ [])
-    × (loadedTable table ≡ Sound 1024) × (loadedTable straight ≡ Sound 1024) × (loadedTable [] ≡ Broken)
--- "or has another length": 3, 1024 and 1026 entries that keep the rule but for the length, and 1025; then none, and straight ones of 1024
--- and 1026, which end elsewhere too
-loadingShows lengths = numbers (joined 1 [] 1 65536 ∷ joined 1 [] 1022 65536 ∷ joined 1 [] 1024 65536 ∷ joined 1 [] 1023 65536
-    ∷ [] ∷ entries 1024 0 64 ∷ entries 1026 0 64 ∷ []) ≡ 14 ∷ 14 ∷ 14 ∷ 0 ∷ 14 ∷ 14 ∷ 14 ∷ []
--- "begin at 0, end at 65536": each end alone, too high or too low
-loadingShows ends = numbers ((1 ∷ entries 1024 65536 0) ∷ entries 1025 65536 0 ∷ joined 1024 [] 0 65535 ∷ joined 1024 [] 0 65537
-    ∷ entries 1025 0 0 ∷ []) ≡ 14 ∷ 14 ∷ 14 ∷ 14 ∷ 14 ∷ []
--- "never fall": by 1 from the second entry, from the middle, from the last but two and from the last but one; from far above 65536
-loadingShows falls = numbers (joined 1 (1 ∷ 0 ∷ []) 1021 65536 ∷ joined 512 (300 ∷ 299 ∷ []) 510 65536 ∷ joined 1022 (65537 ∷ []) 1 65536
-    ∷ joined 1023 (65537 ∷ []) 0 65536 ∷ joined 512 (4294967295 ∷ []) 511 65536 ∷ []) ≡ 14 ∷ 14 ∷ 14 ∷ 14 ∷ 14 ∷ []
--- equal neighbours, a leap at either end, no mirrored sum
-loadingShows sound =
-    numbers (late ∷ early ∷ joined 512 (300 ∷ 300 ∷ []) 510 65536 ∷ joined 3 (1 ∷ []) 1020 65536 ∷ []) ≡ 0 ∷ 0 ∷ 0 ∷ 0 ∷ []
-
-abbrev pub LoadingHold : Type 0
-LoadingHold = (x : LoadingExample) → loadingShows x
+pub record LoadingHold : Type 0 where
+  -- of each answer the paper's number and its value; T's equal neighbours are fine
+  pub answers :
+      (map loadedNumber (Sound 1024 ∷ Broken ∷ []) ≡ 0 ∷ 14 ∷ []) × (map loadedLast (Sound 1024 ∷ Broken ∷ []) ≡ 1024 ∷ 0 ∷ [])
+      × (loadedTable table ≡ Sound 1024) × (loadedTable straight ≡ Sound 1024) × (loadedTable [] ≡ Broken)
+  -- "or has another length": 3, 1024 and 1026 entries that keep the rule but for the length, and 1025; then none, and straight ones of 1024
+  -- and 1026, which end elsewhere too
+  pub lengths : numbers (joined 1 [] 1 65536 ∷ joined 1 [] 1022 65536 ∷ joined 1 [] 1024 65536 ∷ joined 1 [] 1023 65536
+      ∷ [] ∷ entries 1024 0 64 ∷ entries 1026 0 64 ∷ []) ≡ 14 ∷ 14 ∷ 14 ∷ 0 ∷ 14 ∷ 14 ∷ 14 ∷ []
+  -- "begin at 0, end at 65536": each end alone, too high or too low
+  pub ends : numbers ((1 ∷ entries 1024 65536 0) ∷ entries 1025 65536 0 ∷ joined 1024 [] 0 65535 ∷ joined 1024 [] 0 65537
+      ∷ entries 1025 0 0 ∷ []) ≡ 14 ∷ 14 ∷ 14 ∷ 14 ∷ 14 ∷ []
+  -- "never fall": by 1 from the second entry, from the middle, from the last but two and from the last but one; from far above 65536
+  pub falls : numbers (joined 1 (1 ∷ 0 ∷ []) 1021 65536 ∷ joined 512 (300 ∷ 299 ∷ []) 510 65536 ∷ joined 1022 (65537 ∷ []) 1 65536
+      ∷ joined 1023 (65537 ∷ []) 0 65536 ∷ joined 512 (4294967295 ∷ []) 511 65536 ∷ []) ≡ 14 ∷ 14 ∷ 14 ∷ 14 ∷ 14 ∷ []
+  -- equal neighbours, a leap at either end, no mirrored sum
+  pub sound :
+      numbers (late ∷ early ∷ joined 512 (300 ∷ 300 ∷ []) 510 65536 ∷ joined 3 (1 ∷ []) 1020 65536 ∷ []) ≡ 0 ∷ 0 ∷ 0 ∷ 0 ∷ []

@@ -12,7 +12,7 @@ use lib.Signed.{mag, ltZ}
 use mir.Syntax.{w64}
 use mir.Val.{toZ, ofZ}
 use Rattle.integers.proofs.Ring.{#_, ⊝_, _⊖_, _≈_, ring}
-use Rattle.integers.proofs.Size.{cond-ind, size-neg, size-minus}
+use Rattle.integers.proofs.Size.{cond-ind, size-minus}
 use Rattle.bounded.proofs.Num.{back}
 use Rattle.scheme.specs.Step.{roundAway, remainderOf}
 use Rattle.scheme.proofs.Laws.Rounding.{round-signed, remainder-signed}
@@ -139,25 +139,3 @@ rounded-is n d half h e =
       remainder = withSign n (pos ((natAbs n + e j) % k j) -ℤ pos (e j));
     }) ∙
     (λ j. record { whole = round-signed n d (omega arith) j; remainder = remainder-signed n d (omega arith) j })
-
--- ---- how large it is, of every number
-
-sign-kept : (n x : ℤ) → natAbs (withSign n x) ≡ natAbs x
-sign-kept n x = cond-ind (ltZ n (pos 0)) (negℤ x) x (λ (z : ℤ). natAbs z ≡ natAbs x) (λ t. size-neg x) (λ t. refl)
-
-pub whole-size : (n : ℤ) (d half : ℕ) → 2 * natAbs (roundedBy n d half .whole) ≤ natAbs n + half
-unfolding roundedBy
-whole-size n d half =
-    let q = (natAbs n + half) / divisorOf d in
-    omega (arith, sign-kept n (pos q), quotient-size (natAbs n + half) d)
-
-pub remainder-size : (n : ℤ) (d half : ℕ) → natAbs (roundedBy n d half .remainder) < divisorOf d + half
-unfolding roundedBy
-remainder-size n d half =
-    let left = (natAbs n + half) % divisorOf d in
-    omega (
-      arith,
-      sign-kept n (pos left -ℤ pos half),
-      size-minus (pos left) (pos half),
-      N.mod-lt (natAbs n + half) {m = divisorOf d} (omega (arith, divisor-some d)),
-    )

@@ -44,22 +44,16 @@ middle9 x = pos 0 ∷ pos 0 ∷ pos 0 ∷ pos 0 ∷ x ∷ pos 0 ∷ pos 0 ∷ po
 abbrev pub AtEverySize : ℕ → ℕ → ℕ → ℕ → Type 0
 AtEverySize k q m n = (c r : ℕ) → sizeIn (kindOf k) c r ≡ true → number (instrumentRefusal (instrument k c r q m 0)) ≡ n
 
-pub data Example : Type 0 where
-  A B C D E F G H I J : Example
-
-abbrev pub says : Example → Type 0
-says A = next (instrument 1 3 1 65536 0 0) (middle3 (pos 1000)) (middle3 (pos 1000)) ≡ middle3 (minus 1000)
-says B = next (instrument 5 3 3 32768 0 0) (middle9 (pos 1000)) (middle9 (pos 1000)) ≡ middle9 (minus 1000)
-says C = next (instrument 1 3 1 16384 0 0) (middle3 (pos 1)) (middle3 (pos 1)) ≡ middle3 (pos 1)
-says D = next (instrument 1 3 1 16384 0 0) (middle3 (minus 1)) (middle3 (minus 1)) ≡ middle3 (minus 1)
-says E = next (instrument 1 3 1 0 0 65536) (middle3 (pos 3)) (middle3 (pos 7)) ≡ middle3 (pos 3)
-says F = next (instrument 3 3 1 65536 0 0) (level (4 ∷ 0 ∷ 0 ∷ [])) (level (0 ∷ 0 ∷ 0 ∷ [])) ≡ level (0 ∷ 4 ∷ 0 ∷ [])
-says G = next (instrument 4 5 1 0 16384 0) (level (0 ∷ 0 ∷ 8 ∷ 0 ∷ 0 ∷ [])) (level (0 ∷ 0 ∷ 0 ∷ 0 ∷ 0 ∷ []))
-    ≡ level (0 ∷ 8 ∷ 4 ∷ 8 ∷ 0 ∷ [])
-says H = AtEverySize 4 65532 1 0 × AtEverySize 4 65533 1 5
-says I = AtEverySize 5 32768 0 0 × AtEverySize 5 32769 0 5
-says J = (countBelow 49 (moving (grid 6 7 7)) ≡ 25) × (countBelow 64 (moving (grid 6 8 8)) ≡ 32)
-
 -- "Proved together, as one statement over one table"
-abbrev pub ExamplesHold : Type 0
-ExamplesHold = (x : Example) → says x
+pub record ExamplesHold : Type 0 where
+  pub A : next (instrument 1 3 1 65536 0 0) (middle3 (pos 1000)) (middle3 (pos 1000)) ≡ middle3 (minus 1000)
+  pub B : next (instrument 5 3 3 32768 0 0) (middle9 (pos 1000)) (middle9 (pos 1000)) ≡ middle9 (minus 1000)
+  pub C : next (instrument 1 3 1 16384 0 0) (middle3 (pos 1)) (middle3 (pos 1)) ≡ middle3 (pos 1)
+  pub D : next (instrument 1 3 1 16384 0 0) (middle3 (minus 1)) (middle3 (minus 1)) ≡ middle3 (minus 1)
+  pub E : next (instrument 1 3 1 0 0 65536) (middle3 (pos 3)) (middle3 (pos 7)) ≡ middle3 (pos 3)
+  pub F : next (instrument 3 3 1 65536 0 0) (level (4 ∷ 0 ∷ 0 ∷ [])) (level (0 ∷ 0 ∷ 0 ∷ [])) ≡ level (0 ∷ 4 ∷ 0 ∷ [])
+  pub G : next (instrument 4 5 1 0 16384 0) (level (0 ∷ 0 ∷ 8 ∷ 0 ∷ 0 ∷ [])) (level (0 ∷ 0 ∷ 0 ∷ 0 ∷ 0 ∷ []))
+      ≡ level (0 ∷ 8 ∷ 4 ∷ 8 ∷ 0 ∷ [])
+  pub H : AtEverySize 4 65532 1 0 × AtEverySize 4 65533 1 5
+  pub I : AtEverySize 5 32768 0 0 × AtEverySize 5 32769 0 5
+  pub J : (countBelow 49 (moving (grid 6 7 7)) ≡ 25) × (countBelow 64 (moving (grid 6 8 8)) ≡ 32)

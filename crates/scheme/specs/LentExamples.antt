@@ -33,38 +33,32 @@ plucks k c w a lent = pluckWith (grid k 5 1) sevens eights c w a lent
 abbrev ofFour : List ℕ → Call
 ofFour lent = pluckWithCall (grid 1 4 1) 2 3 (pos 9) lent
 
-pub data LentExample : Type 0 where
-  ordered tables copyOfT straightLine lateRise earlyRise turnedDown book bookOfRefused outcomes : LentExample
-
-abbrev pub lentShows : LentExample → Type 0
--- "checked after 10": every other refusal of a pluck, with a broken table; then 14
-lentShows ordered =
-    refusedBy 9 five five 2 3 (pos 1000) [] ∷ refusedBy 5 five five 2 3 (pos 1000) [] ∷
-    number (pluckWithRefusal (grid 1 5 2) 5 5 2 3 (pos 1000) []) ∷ refusedBy 1 five [] 2 3 (pos 1000) [] ∷
-    refusedBy 1 five five 0 3 (pos 1000) [] ∷ refusedBy 1 five five 2 3 (minus above) [] ∷
-    refusedBy 1 five five 2 0 (pos 1000) (1 ∷ 2 ∷ 3 ∷ []) ∷ refusedBy 1 five five 2 5 (pos 1000) [] ∷
-    refusedBy 1 five five 2 3 (pos 1000) (1 ∷ 2 ∷ 3 ∷ []) ∷ [] ≡ 1 ∷ 1 ∷ 2 ∷ 6 ∷ 7 ∷ 8 ∷ 10 ∷ 10 ∷ 14 ∷ []
--- each break of the rule, then tables that keep it
-lentShows tables = map (refusedBy 1 five five 2 3 (pos 1000))
-    (joined 1 [] 1022 65536 ∷ joined 1 [] 1024 65536 ∷ joined 0 (1 ∷ []) 1023 65536 ∷ joined 1024 [] 0 65535 ∷
-    joined 512 (300 ∷ 299 ∷ []) 510 65536 ∷ table ∷ straight ∷ late ∷ early ∷ []) ≡ 14 ∷ 14 ∷ 14 ∷ 14 ∷ 14 ∷ 0 ∷ 0 ∷ 0 ∷ 0 ∷ []
--- entries 1024 and 682 of T, and of the straight table
-lentShows copyOfT = plucks 1 2 3 (pos 1000) table ≡ overwritten (level (0 ∷ 749 ∷ 1000 ∷ 749 ∷ 0 ∷ []))
-lentShows straightLine = plucks 1 2 3 (pos 1000) straight ≡ overwritten (level (0 ∷ 666 ∷ 1000 ∷ 666 ∷ 0 ∷ []))
--- the centre has the height whatever the table, and a point at distance w has 0
-lentShows lateRise = plucks 3 0 4 (minus 7) late ≡ overwritten (minus 7 ∷ pos 0 ∷ pos 0 ∷ pos 0 ∷ pos 0 ∷ [])
-lentShows earlyRise = plucks 2 4 3 (pos 7) early ≡ overwritten (level (0 ∷ 0 ∷ 7 ∷ 7 ∷ 7 ∷ []))
--- "it returns and leaves what 1 to 12 do"
-lentShows turnedDown = plucks 1 2 3 (pos 1000) [] ≡ pluckLeft BrokenTable sevens eights
--- "An accepted pluck puts the levels its rule gives into the book, with n 0. A refused one changes nothing."
-lentShows book = after (twoSteps ∷ ofFour straight ∷ []) ≡ record {
-  older = level (0 ∷ 5 ∷ 9 ∷ 0 ∷ []);
-  newer = level (0 ∷ 5 ∷ 9 ∷ 0 ∷ []);
-  book = record { n = 0; older = level (0 ∷ 5 ∷ 9 ∷ 0 ∷ []); newer = level (0 ∷ 5 ∷ 9 ∷ 0 ∷ []); last = stepOf (voice 5) };
-  inexact = 0;
-}
-lentShows bookOfRefused = after (twoSteps ∷ ofFour [] ∷ oneStep ∷ []) ≡ threeOn
-lentShows outcomes = outcomesOf (fromHere (ofFour straight ∷ ofFour [] ∷ [])) ≡ pluckOutcome Nothing ∷ pluckOutcome BrokenTable ∷ []
-
-abbrev pub LentHold : Type 0
-LentHold = (x : LentExample) → lentShows x
+pub record LentHold : Type 0 where
+  -- "checked after 10": every other refusal of a pluck, with a broken table; then 14
+  pub ordered :
+      refusedBy 9 five five 2 3 (pos 1000) [] ∷ refusedBy 5 five five 2 3 (pos 1000) [] ∷
+      number (pluckWithRefusal (grid 1 5 2) 5 5 2 3 (pos 1000) []) ∷ refusedBy 1 five [] 2 3 (pos 1000) [] ∷
+      refusedBy 1 five five 0 3 (pos 1000) [] ∷ refusedBy 1 five five 2 3 (minus above) [] ∷
+      refusedBy 1 five five 2 0 (pos 1000) (1 ∷ 2 ∷ 3 ∷ []) ∷ refusedBy 1 five five 2 5 (pos 1000) [] ∷
+      refusedBy 1 five five 2 3 (pos 1000) (1 ∷ 2 ∷ 3 ∷ []) ∷ [] ≡ 1 ∷ 1 ∷ 2 ∷ 6 ∷ 7 ∷ 8 ∷ 10 ∷ 10 ∷ 14 ∷ []
+  -- each break of the rule, then tables that keep it
+  pub tables : map (refusedBy 1 five five 2 3 (pos 1000))
+      (joined 1 [] 1022 65536 ∷ joined 1 [] 1024 65536 ∷ joined 0 (1 ∷ []) 1023 65536 ∷ joined 1024 [] 0 65535 ∷
+      joined 512 (300 ∷ 299 ∷ []) 510 65536 ∷ table ∷ straight ∷ late ∷ early ∷ []) ≡ 14 ∷ 14 ∷ 14 ∷ 14 ∷ 14 ∷ 0 ∷ 0 ∷ 0 ∷ 0 ∷ []
+  -- entries 1024 and 682 of T, and of the straight table
+  pub copyOfT : plucks 1 2 3 (pos 1000) table ≡ overwritten (level (0 ∷ 749 ∷ 1000 ∷ 749 ∷ 0 ∷ []))
+  pub straightLine : plucks 1 2 3 (pos 1000) straight ≡ overwritten (level (0 ∷ 666 ∷ 1000 ∷ 666 ∷ 0 ∷ []))
+  -- the centre has the height whatever the table, and a point at distance w has 0
+  pub lateRise : plucks 3 0 4 (minus 7) late ≡ overwritten (minus 7 ∷ pos 0 ∷ pos 0 ∷ pos 0 ∷ pos 0 ∷ [])
+  pub earlyRise : plucks 2 4 3 (pos 7) early ≡ overwritten (level (0 ∷ 0 ∷ 7 ∷ 7 ∷ 7 ∷ []))
+  -- "it returns and leaves what 1 to 12 do"
+  pub turnedDown : plucks 1 2 3 (pos 1000) [] ≡ pluckLeft BrokenTable sevens eights
+  -- "An accepted pluck puts the levels its rule gives into the book, with n 0. A refused one changes nothing."
+  pub book : after (twoSteps ∷ ofFour straight ∷ []) ≡ record {
+    older = level (0 ∷ 5 ∷ 9 ∷ 0 ∷ []);
+    newer = level (0 ∷ 5 ∷ 9 ∷ 0 ∷ []);
+    book = record { n = 0; older = level (0 ∷ 5 ∷ 9 ∷ 0 ∷ []); newer = level (0 ∷ 5 ∷ 9 ∷ 0 ∷ []); last = stepOf (voice 5) };
+    inexact = 0;
+  }
+  pub bookOfRefused : after (twoSteps ∷ ofFour [] ∷ oneStep ∷ []) ≡ threeOn
+  pub outcomes : outcomesOf (fromHere (ofFour straight ∷ ofFour [] ∷ [])) ≡ pluckOutcome Nothing ∷ pluckOutcome BrokenTable ∷ []

@@ -1,7 +1,7 @@
 -- `make_plan` meets its contract: the settings are small, so that no cast, no sum and no product changes them.
-use mathlib.Core.Path.{_≡_, refl, sym, ap, _∙_}
+use mathlib.Core.Path.{_≡_, sym, _∙_}
 use mathlib.Core.Bool.{false}
-use Prim.Native.Nat.{ℕ, _≤_}
+use Prim.Native.Nat.{_≤_}
 use native.Mathlib.Omega.{arith}
 use borrow.Author.Needs.{needs}
 use lib.Dec.{T}
@@ -14,7 +14,6 @@ use Rattle.bounded.proofs.Expr.{E, at, num, via, _⊞_, _⊟_, _⊠_, _÷_, fit
 use Rattle.types.specs.Numbers.{D}
 use Rattle.scheme.specs.Refusals.{wrongCoefficient}
 use Rattle.scheme.proofs.Laws.Refusals.{coefficients-small}
-use Rattle.plans.specs.Plans.{factors}
 use Rattle.plans.proofs.PlanLaws.{count-few, plan-passed, plan-refused}
 use Rattle.plans.proofs.make_plan.Statement.{statement}
 use Rattle.plans.proofs.make_plan.Tie as tie

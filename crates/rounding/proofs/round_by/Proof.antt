@@ -9,7 +9,7 @@ use mir.Syntax.{w64}
 use mir.Val.{toZ, ofZ}
 use Rattle.bounded.proofs.Num.{back}
 use Rattle.bounded.proofs.Expr.{E, at, _⊟_, fits, is, size, said}
-use Rattle.rounding.specs.Rounding.{withSign, divisorOf, roundedBy}
+use Rattle.rounding.specs.Rounding.{withSign, roundedBy}
 use Rattle.rounding.proofs.RoundLaws.{size-mag, divisor-some, divisor-low, quotient-size}
 use Rattle.rounding.proofs.round_by.Statement.{statement}
 use Rattle.rounding.proofs.round_by.Tie as tie
