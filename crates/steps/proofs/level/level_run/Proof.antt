@@ -131,7 +131,8 @@ module _ (o : tie.After-out Inv-loop μ-loop) where
   left : let t = at-row o in Left (row t * g (start t) .columns + here t .from) (row t * g (start t) .columns + here t .to)
       (o .before .before .row-pass .result)
   left = let t = at-row o in
-      subst₂ (λ (from to : ℕ). Left from to (o .before .before .row-pass .result)) (from-is t) (to-is t) (o .before .before .row-pass .ensures)
+      subst₂ (λ (from to : ℕ). Left from to (o .before .before .row-pass .result)) (from-is t) (to-is t)
+      (o .before .before .row-pass .ensures)
 
 same-length : tie.Need-same-length Inv-loop μ-loop
 same-length c = let o = c .before .before in left o .older-long ∙ inv (at-row o) .done .older-long
