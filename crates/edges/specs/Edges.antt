@@ -1,7 +1,7 @@
--- The moving columns of every row, kept in two lists. Vocabulary between the engine's crates: no call that a maker embeds cites it.
-use mathlib.Core.Bool.{cond}
+-- The moving points of every row, kept in one list. Vocabulary between the engine's crates: no call that a maker embeds cites it.
+use mathlib.Core.Bool.{Bool, cond, _&&_}
 use mathlib.Core.List.{List}
-use Prim.Native.Nat.{ℕ, _%_}
+use Prim.Native.Nat.{ℕ, _+_, _-_, _*_, _%_}
 use lib.Dec.{ltb}
 use lib.ListN.{length, getD}
 use Rattle.types.specs.declared.Grid.{Grid}
@@ -9,22 +9,26 @@ use Rattle.scheme.specs.Lists.{tabulate}
 use Rattle.kinds.specs.declared.runs.Run.{Run}
 use Rattle.kinds.specs.Runs.{rowRun}
 
--- one end of the run of a row, in 16 bits
-abbrev pub columnOf : Grid → (Run → ℕ) → ℕ → ℕ
-columnOf g end row = end (rowRun (g .kind) (g .columns) (g .rows) row) % 65536
-
 -- 64 rows have places
 abbrev pub keptRows : ℕ → ℕ
 keptRows rows = cond (ltb rows 64) rows 64
 
--- the column of each row that has a place; the rest of xs as it was
-unfoldable pub columnsOf : Grid → (Run → ℕ) → (xs : List ℕ) → List ℕ
-columnsOf g end xs = tabulate (length xs) (λ row. cond (ltb row (keptRows (g .rows))) (columnOf g end row) (getD xs row 0))
+-- the point in a column of a row, in 16 bits
+abbrev pub pointAt : (columns row column : ℕ) → ℕ
+pointAt columns row column = (row * columns + column) % 65536
 
--- the first moving columns
-abbrev pub firstsOf : Grid → (xs : List ℕ) → List ℕ
-firstsOf g xs = columnsOf g (λ run. run .from) xs
+-- one end of the run of a row, as a point
+abbrev pub edgeOf : Grid → (Run → ℕ) → (row : ℕ) → ℕ
+edgeOf g end row = pointAt (g .columns) row (end (rowRun (g .kind) (g .columns) (g .rows) row))
 
--- the columns after the last moving ones
-abbrev pub endsOf : Grid → (xs : List ℕ) → List ℕ
-endsOf g xs = columnsOf g (λ run. run .to) xs
+-- what place k is for: the first moving point of row k, or from 64 on the point after the last of row k − 64
+abbrev pub edgeAt : Grid → ℕ → ℕ
+edgeAt g k = cond (ltb k 64) (edgeOf g (λ run. run .from) k) (edgeOf g (λ run. run .to) (k - 64))
+
+-- place k is one of the 128 of a row of the grid
+abbrev pub hasEdge : Grid → ℕ → Bool
+hasEdge g k = ltb k 128 && ltb (k % 64) (g .rows)
+
+-- the moving points of each row at its places; the rest of xs as it was
+unfoldable pub edgesOf : Grid → (xs : List ℕ) → List ℕ
+edgesOf g xs = tabulate (length xs) (λ k. cond (hasEdge g k) (edgeAt g k) (getD xs k 0))

@@ -1,5 +1,5 @@
 -- A step of a whole level, row by row.
-use mathlib.Core.Path.{_≡_, refl, sym, ap, ap₂, _∙_, subst}
+use mathlib.Core.Path.{_≡_, refl, sym, ap, _∙_, subst}
 use mathlib.Core.Bool.{Bool, true, false, not, _&&_, and-false, true≢false}
 use mathlib.Core.List.{List}
 use mathlib.Core.Logic.{inr}
@@ -22,9 +22,9 @@ use Rattle.scheme.proofs.Laws.Lists.{is-tabulate, some-at}
 use Rattle.scheme.proofs.Laws.Step.{length-next, next-still, next-point, inexact-still, all-low}
 use Rattle.scheme.proofs.Laws.Refusals.{passes-low, passes-still}
 use Rattle.kinds.specs.declared.runs.Run.{Run}
-use Rattle.kinds.specs.Runs.{run, inRun, runOf}
+use Rattle.kinds.specs.Runs.{inRun, runOf}
 use Rattle.kinds.proofs.RunLaws.{run-bounds, moving-run}
-use Rattle.edges.specs.Edges.{firstsOf, endsOf}
+use Rattle.edges.specs.Edges.{edgesOf}
 use Rattle.edges.proofs.EdgeLaws.{first-is, end-is}
 use Rattle.levels.proofs.LevelLaws.{next-row, row-inside}
 use Rattle.plans.specs.declared.Plan.{Plan}
@@ -38,15 +38,13 @@ use Rattle.steps.proofs.CountLaws.{counted-not, counted-all}
 use Rattle.steps.proofs.FillLaws.{filled-there, passed, ran-all, ran-append}
 use Rattle.steps.proofs.PassLaws.{passing-none, passing-most, passing-append, passing-stops}
 
--- ---- the moving columns that are kept
+-- ---- the moving points that are kept
 
 -- every row has its own once they are put
-pub edges-there : {g : Grid} (from₀ to₀ : List ℕ) {from to : List ℕ} → inTable g ≡ true → g .rows ≤ 64 → length from₀ ≡ 64 → length to₀ ≡ 64
-    → from ≡ firstsOf g from₀ → to ≡ endsOf g to₀ → EdgesOf g from to
-edges-there {g} from₀ to₀ size few a b e f = record {
-  each = λ row h. ap₂ run
-      (ap (λ (xs : List ℕ). getD xs row 0) e ∙ first-is g size row h from₀ (omega arith))
-      (ap (λ (xs : List ℕ). getD xs row 0) f ∙ end-is g size row h to₀ (omega arith));
+pub edges-there : {g : Grid} (xs : List ℕ) {edges : List ℕ} → inTable g ≡ true → length xs ≡ 128 → edges ≡ edgesOf g xs → EdgesOf g edges
+edges-there {g} xs size l e = record {
+  from-is = λ row h. ap (λ (xs : List ℕ). getD xs row 0) e ∙ first-is g size xs l row h;
+  to-is = λ row h. ap (λ (xs : List ℕ). getD xs (64 + row) 0) e ∙ end-is g size xs l row h;
 }
 
 -- ---- a row
@@ -93,6 +91,13 @@ pub record Rows (i : Instrument) (h : Hit) (write inPlace : Bool) (older₀ newe
 pub rows-start : {i : Instrument} {h : Hit} {write inPlace : Bool} {newer : List ℤ} (older out : List ℤ)
     → Rows i h write inPlace older newer out older out 0 0 0
 rows-start older out = record { start-is = omega arith; upto = zero-le; done = passing-none older out 0 }
+
+-- the row's start may be written otherwise
+pub rows-at : {i : Instrument} {h : Hit} {write inPlace : Bool} {older₀ newer out₀ older out : List ℤ} {row start start′ n : ℕ}
+    → start ≡ start′ → Rows i h write inPlace older₀ newer out₀ older out row start n
+    → Rows i h write inPlace older₀ newer out₀ older out row start′ n
+rows-at {i} {h} {write} {inPlace} {older₀} {newer} {out₀} {older} {out} {row} {n = n} e l =
+    subst (λ (start : ℕ). Rows i h write inPlace older₀ newer out₀ older out row start n) e l
 
 -- ---- what a step is given
 

@@ -1,16 +1,12 @@
--- The moving columns of every row, kept in two lists. Vocabulary of private functions.
+-- The moving points of every row, kept in one list. Vocabulary of private functions.
 use mathlib.Core.Path.{_≡_}
 use mathlib.Core.List.{List}
-use Prim.Native.Nat.{ℕ, _<_}
+use Prim.Native.Nat.{ℕ, _+_, _*_, _<_}
 use lib.ListN.{getD}
 use Rattle.types.specs.declared.Grid.{Grid}
-use Rattle.kinds.specs.declared.runs.Run.{Run}
-use Rattle.kinds.specs.Runs.{run, runOf}
+use Rattle.kinds.specs.Runs.{runOf}
 
--- the run that the lists have for a row
-abbrev pub runAt : (from to : List ℕ) → ℕ → Run
-runAt from to row = run (getD from row 0) (getD to row 0)
-
--- every row of the grid has its moving columns there
-pub record EdgesOf (g : Grid) (from to : List ℕ) : Type 0 where
-  pub each : (row : ℕ) → row < g .rows → runAt from to row ≡ runOf g row
+-- every row of the grid has its moving points there: the first, and 64 places on the point after the last
+pub record EdgesOf (g : Grid) (edges : List ℕ) : Type 0 where
+  pub from-is : (row : ℕ) → row < g .rows → getD edges row 0 ≡ row * g .columns + runOf g row .from
+  pub to-is : (row : ℕ) → row < g .rows → getD edges (64 + row) 0 ≡ row * g .columns + runOf g row .to

@@ -1,9 +1,8 @@
 // The steps of a call: its checks, and its steps where nothing refuses them.
 ghost use mathlib.Core.Path.{_≡_};
-ghost use mathlib.Core.Bool.{false, cond};
-ghost use lib.Dec.{ltb};
+ghost use mathlib.Core.Bool.{false};
 ghost use lib.ListN.{length};
-ghost use Rattle.types.specs.declared.Refusal.the-variants.{Nothing, NextBeyond};
+ghost use Rattle.types.specs.declared.Refusal.the-variants.{Nothing};
 ghost use Rattle.scheme.specs.Refusals.{wrongLength, blockRefusal};
 ghost use Rattle.scheme.specs.Calls.{block, blockInPlace};
 ghost use Rattle.scheme.specs.Calls as Calls;
@@ -59,22 +58,10 @@ fn begin(
         × (r .turn ≡ turnAfter first (r .done)) ⌝ }
 {
     let plan = make_plan(i);
-    let mut from = [0u16; 64];
-    let mut to = [0u16; 64];
-    row_edges(plan.instrument.grid, &mut from, &mut to);
+    let mut edges = [0u16; 128];
+    row_edges(plan.instrument.grid, &mut edges);
     clear(work);
-    play(
-        plan,
-        &from,
-        &to,
-        older,
-        newer,
-        work,
-        samples,
-        pick,
-        hit,
-        first,
-    )
+    play(plan, &edges, older, newer, work, samples, pick, hit, first)
 }
 
 // As many steps as samples has places, the hit in the first, each level left in the slice that the turn tells; or what refuses them.

@@ -96,11 +96,10 @@ fn row_pass(
     }
 }
 
-// Every moving point: from and to have the moving columns of each row. Off a line there is no stiffness.
+// Every moving point: edges has the moving points of each row. Off a line there is no stiffness.
 fn level_run(
     plan: Plan,
-    from: &[u16; 64],
-    to: &[u16; 64],
+    edges: &[u16; 128],
     older: &mut [i64],
     newer: &[i64],
     out: &mut [i64],
@@ -109,25 +108,22 @@ fn level_run(
     in_place: bool,
 ) -> Progress
     requires { ⌜ Passable plan hit «in_place» (now older) (now newer) (now out) ⌝ }
-    requires { ⌜ EdgesOf (plan .instrument .grid) (now from) (now to) × SoftGrid (plan .instrument) ⌝ }
+    requires { ⌜ EdgesOf (plan .instrument .grid) (now edges) × SoftGrid (plan .instrument) ⌝ }
     ensures { λ r. ⌜ Passed (plan .instrument) hit write «in_place» (now (older .entry)) (now (newer .entry)) (now (out .entry))
         (now (older .exit)) (now (out .exit)) r ⌝ }
 {
-    let columns = plan.instrument.grid.columns;
     let rows = plan.instrument.grid.rows;
     let mut inexact = 0;
     let mut row = 0;
-    let mut start = 0;
     while row < rows {
-        let first = start + from[row] as usize;
-        let end = start + to[row] as usize;
-        let p = row_pass(plan, older, newer, first, end, hit, out, write, in_place);
+        let from = edges[row] as usize;
+        let to = edges[64 + row] as usize;
+        let p = row_pass(plan, older, newer, from, to, hit, out, write, in_place);
         if !p.within {
             return p;
         }
         inexact += p.inexact;
         row += 1;
-        start += columns;
     }
     Progress {
         within: true,
@@ -138,8 +134,7 @@ fn level_run(
 // The next level, worked out beside the two, tested in place or written in place. Off a line only a plate is stiff.
 pub(crate) fn next_level(
     plan: Plan,
-    from: &[u16; 64],
-    to: &[u16; 64],
+    edges: &[u16; 128],
     older: &mut [i64],
     newer: &[i64],
     out: &mut [i64],
@@ -148,7 +143,7 @@ pub(crate) fn next_level(
     in_place: bool,
 ) -> Progress
     requires { ⌜ Passable plan hit «in_place» (now older) (now newer) (now out) ⌝ }
-    requires { ⌜ EdgesOf (plan .instrument .grid) (now from) (now to) ⌝ }
+    requires { ⌜ EdgesOf (plan .instrument .grid) (now edges) ⌝ }
     ensures { λ r. ⌜ Passed (plan .instrument) hit write «in_place» (now (older .entry)) (now (newer .entry)) (now (out .entry))
         (now (older .exit)) (now (out .exit)) r ⌝ }
 {
@@ -162,5 +157,5 @@ pub(crate) fn next_level(
             };
         }
     }
-    level_run(plan, from, to, older, newer, out, hit, write, in_place)
+    level_run(plan, edges, older, newer, out, hit, write, in_place)
 }

@@ -33,8 +33,7 @@ pub(crate) struct Steps {
 // A step for each place of samples, until the next would put a point beyond the ceiling. The slices begin in turn `first`.
 pub(crate) fn play(
     plan: Plan,
-    from: &[u16; 64],
-    to: &[u16; 64],
+    edges: &[u16; 128],
     older: &mut [i64],
     newer: &mut [i64],
     work: &mut [i64],
@@ -44,7 +43,7 @@ pub(crate) fn play(
     first: usize,
 ) -> Steps
     requires { ⌜ Begins first plan hit (now older) (now newer) (now work) × (pick < points (plan .instrument .grid)) ⌝ }
-    requires { ⌜ EdgesOf (plan .instrument .grid) (now from) (now to) ⌝ }
+    requires { ⌜ EdgesOf (plan .instrument .grid) (now edges) ⌝ }
     ensures { λ r. ⌜ Played
         (Calls.play (plan .instrument) pick hit (olderOf first (now (older .entry)) (now (newer .entry)) (now (work .entry)))
         (newerOf first (now (older .entry)) (now (newer .entry)) (now (work .entry))) (now (samples .entry)))
@@ -57,7 +56,7 @@ pub(crate) fn play(
     let mut j = 0;
     while j < samples.len() {
         let h = hit_after(hit, j);
-        let p = step_in_turn(plan, from, to, older, newer, work, h, turn);
+        let p = step_in_turn(plan, edges, older, newer, work, h, turn);
         if !p.within {
             return Steps {
                 done: j,

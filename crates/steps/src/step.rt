@@ -10,7 +10,7 @@ ghost use Rattle.scheme.specs.Step.{sampleOf};
 ghost use Rattle.stretches.specs.Pieces.{piece};
 ghost use Rattle.steps.specs.Plan.{AtMost};
 ghost use Rattle.steps.specs.Edges.{EdgesOf};
-ghost use Rattle.turns.specs.Turns.{nextTurn, olderOf, newerOf, outOf};
+ghost use Rattle.turns.specs.Turns.{olderOf, newerOf, outOf};
 ghost use Rattle.steps.specs.Steps.{Steppable, SteppedInPlace, SteppedIn, Third};
 use crate::arithmetic::sample;
 use crate::level::next_level;
@@ -23,19 +23,18 @@ use types::Hit;
 // A step of two levels that have no more points than a piece: the next level is worked out beside them, then copied to older.
 fn small_step(
     plan: Plan,
-    from: &[u16; 64],
-    to: &[u16; 64],
+    edges: &[u16; 128],
     older: &mut [i64],
     newer: &[i64],
     room: &mut [i64],
     hit: Hit,
 ) -> Progress
     requires { ⌜ Steppable plan hit (now older) (now newer) (now older) × (length (now room) ≡ length (now older)) ⌝ }
-    requires { ⌜ EdgesOf (plan .instrument .grid) (now from) (now to) ⌝ }
+    requires { ⌜ EdgesOf (plan .instrument .grid) (now edges) ⌝ }
     ensures { λ r. ⌜ SteppedInPlace (plan .instrument) hit (now (older .entry)) (now (newer .entry)) (now (older .exit)) r ⌝ }
 {
     copy(older, room);
-    let p = next_level(plan, from, to, older, newer, room, hit, true, false);
+    let p = next_level(plan, edges, older, newer, room, hit, true, false);
     if p.within {
         copy(room, older);
     }
@@ -45,33 +44,31 @@ fn small_step(
 // A step of two levels: no point of older is written unless every next value lies within the ceiling.
 fn step_in_place(
     plan: Plan,
-    from: &[u16; 64],
-    to: &[u16; 64],
+    edges: &[u16; 128],
     older: &mut [i64],
     newer: &[i64],
     room: &mut [i64],
     hit: Hit,
 ) -> Progress
     requires { ⌜ Steppable plan hit (now older) (now newer) (now older) × (piece ≤ length (now room)) ⌝ }
-    requires { ⌜ EdgesOf (plan .instrument .grid) (now from) (now to) ⌝ }
+    requires { ⌜ EdgesOf (plan .instrument .grid) (now edges) ⌝ }
     ensures { λ r. ⌜ SteppedInPlace (plan .instrument) hit (now (older .entry)) (now (newer .entry)) (now (older .exit)) r ⌝ }
 {
     let n = older.len();
     if n <= PIECE {
-        return small_step(plan, from, to, older, newer, &mut room[..n], hit);
+        return small_step(plan, edges, older, newer, &mut room[..n], hit);
     }
-    let tested = next_level(plan, from, to, older, newer, room, hit, false, true);
+    let tested = next_level(plan, edges, older, newer, room, hit, false, true);
     if !tested.within {
         return tested;
     }
-    next_level(plan, from, to, older, newer, room, hit, true, true)
+    next_level(plan, edges, older, newer, room, hit, true, true)
 }
 
 // A step in the turn that the slices are in.
 pub(crate) fn step_in_turn(
     plan: Plan,
-    from: &[u16; 64],
-    to: &[u16; 64],
+    edges: &[u16; 128],
     older: &mut [i64],
     newer: &mut [i64],
     work: &mut [i64],
@@ -80,16 +77,16 @@ pub(crate) fn step_in_turn(
 ) -> Progress
     requires { ⌜ Steppable plan hit (olderOf turn (now older) (now newer) (now work)) (newerOf turn (now older) (now newer) (now work))
         (outOf turn (now older) (now newer) (now work)) ⌝ }
-    requires { ⌜ EdgesOf (plan .instrument .grid) (now from) (now to) × Third turn (now work) ⌝ }
+    requires { ⌜ EdgesOf (plan .instrument .grid) (now edges) × Third turn (now work) ⌝ }
     ensures { λ r. ⌜ SteppedIn turn (plan .instrument) hit (now (older .entry)) (now (newer .entry)) (now (work .entry))
         (now (older .exit)) (now (newer .exit)) (now (work .exit)) r ⌝ }
 {
     match turn {
-        0 => next_level(plan, from, to, older, newer, work, hit, true, false),
-        1 => next_level(plan, from, to, newer, work, older, hit, true, false),
-        2 => next_level(plan, from, to, work, older, newer, hit, true, false),
-        3 => step_in_place(plan, from, to, older, newer, work, hit),
-        _ => step_in_place(plan, from, to, newer, older, work, hit),
+        0 => next_level(plan, edges, older, newer, work, hit, true, false),
+        1 => next_level(plan, edges, newer, work, older, hit, true, false),
+        2 => next_level(plan, edges, work, older, newer, hit, true, false),
+        3 => step_in_place(plan, edges, older, newer, work, hit),
+        _ => step_in_place(plan, edges, newer, older, work, hit),
     }
 }
 

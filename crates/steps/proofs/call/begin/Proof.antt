@@ -7,7 +7,7 @@ use Rattle.scheme.specs.Refusals.{blockRefusal}
 use Rattle.scheme.proofs.Laws.Refusals.{instrument-passes, block-passes}
 use Rattle.plans.specs.declared.Plan.{Plan}
 use Rattle.steps.specs.Plan.{Planned}
-use Rattle.steps.proofs.PlanLaws.{made, few-rows}
+use Rattle.steps.proofs.PlanLaws.{made}
 use Rattle.steps.proofs.RowLaws.{edges-there}
 use Rattle.steps.proofs.CallLaws.{pick-inside, first-steppable, own-steps, opened}
 use Rattle.steps.proofs.call.begin.Statement.{statement}
@@ -25,10 +25,10 @@ told c =
 -- where the steps begin: how the call began, and the plan
 module _ (c : tie.After-play-arg4) where
   abbrev edged : tie.After-row-edges
-  edged = c .before .before .before .before .before .before .before .before .before
+  edged = c .before .before .before .before .before .before .before .before
 
   abbrev planned : tie.After-make-plan
-  planned = edged .before .before .before
+  planned = edged .before .before
 
   abbrev start : tie.Start
   start = planned .before
@@ -57,11 +57,10 @@ play-requires c κs =
       (
         first-steppable (a .i) (a .older .now) (a .newer .now) (a .pick) (a .hit) (passes c) (plan c) (m .0)
             (m .1) (a .work .now) _
-            (c .before .before .before .before .before .before .before .clear .ensures) (start c .pre .1),
+            (c .before .before .before .before .before .before .clear .ensures) (start c .pre .1),
         pick-inside (a .i) (a .older .now) (a .newer .now) (a .pick) (a .hit) (passes c) (plan c) (m .0),
       ),
-      edges-there _ _ (m .1 .passes .size) (few-rows (m .1)) refl refl (edged c .row-edges .ensures .0)
-          (edged c .row-edges .ensures .1),
+      edges-there _ (m .1 .passes .size) refl (edged c .row-edges .ensures),
     )
 
 same-length : tie.Need-same-length

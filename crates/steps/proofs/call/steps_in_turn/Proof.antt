@@ -1,7 +1,6 @@
 -- `steps_in_turn` meets its contract: what the checks answer is the paper's refusal, and what they let pass is carried out.
 use mathlib.Core.Path.{_≡_, sym, ap, _∙_}
 use mathlib.Core.Bool.{Bool, false, not}
-use native.Mathlib.Omega.{arith}
 use borrow.Author.Needs.{needs}
 use borrow.Author.Tests.{not-true, not-false}
 use lib.Dec.{eqb}

@@ -29,14 +29,14 @@ record Longs (a b c a₀ b₀ c₀ : List ℤ) : Type 0 where
   work : length c ≡ length c₀
 
 abbrev Inv-loop : tie.InvT-loop
-Inv-loop plan from to older₀ newer₀ work₀ samples₀ pick hit first inexact₀ turn₀ j₀ older newer work samples inexact turn j =
+Inv-loop plan edges older₀ newer₀ work₀ samples₀ pick hit first inexact₀ turn₀ j₀ older newer work samples inexact turn j =
     Playing (plan .instrument) pick hit
     (Calls.play (plan .instrument) pick hit (olderOf first older₀ newer₀ work₀) (newerOf first older₀ newer₀ work₀) samples₀)
     (length samples₀) (olderOf turn older newer work) (newerOf turn older newer work) samples j inexact
     × Room (plan .instrument .grid) (outOf turn older newer work) × (turn ≡ turnAfter first j) × Longs older newer work older₀ newer₀ work₀
 
 abbrev μ-loop : tie.MeasureT-loop
-μ-loop plan from to older₀ newer₀ work₀ samples₀ pick hit first inexact₀ turn₀ j₀ older newer work samples inexact turn j =
+μ-loop plan edges older₀ newer₀ work₀ samples₀ pick hit first inexact₀ turn₀ j₀ older newer work samples inexact turn j =
     length samples₀ - j
 
 -- what the caller showed
@@ -84,13 +84,13 @@ module _ (c : tie.After-work Inv-loop μ-loop) where
   stepped = c .before .before .before
 
   abbrev older : List ℤ
-  older = stepped .step-in-turn .last .1 .1 .1 .0
+  older = stepped .step-in-turn .last .1 .1 .0
 
   abbrev newer : List ℤ
-  newer = stepped .step-in-turn .last .1 .1 .1 .1 .0
+  newer = stepped .step-in-turn .last .1 .1 .1 .0
 
   abbrev work : List ℤ
-  work = stepped .step-in-turn .last .1 .1 .1 .1 .1 .0
+  work = stepped .step-in-turn .last .1 .1 .1 .1 .0
 
   abbrev left : SteppedIn (at .loop .turn) (start at .args .plan .instrument) (struck .hit-after .result) (at .loop .older)
       (at .loop .newer)
@@ -116,7 +116,7 @@ module _ (c : tie.Else1 Inv-loop μ-loop) where
   passes = let w = step in stepped-passes (inv (at w)) (place w) (struck w .hit-after .ensures) (left w .stepped) (c .if1 .left)
 
   place-low : at step .loop .j < 2 ^ 62
-  place-low = omega (arith, place step, start (at step) .good .1 .1 .1 .1 .1 .1 .0 .1)
+  place-low = omega (arith, place step, start (at step) .good .1 .1 .1 .1 .1 .0 .1)
 
 -- its sample is read, and written
 abbrev done : tie.After-sample-in-turn Inv-loop μ-loop → tie.Else1 Inv-loop μ-loop

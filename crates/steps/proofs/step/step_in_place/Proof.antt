@@ -1,6 +1,6 @@
 -- `step_in_place` meets its contract: the second pass is made where the first found every value within the ceiling.
 use mathlib.Core.Path.{_≡_, refl, sym, _∙_, subst}
-use mathlib.Core.Bool.{true, false}
+use mathlib.Core.Bool.{true}
 use mathlib.Core.List.{List}
 use Prim.Native.Nat.{_≤_}
 use native.Mathlib.Omega.{arith}
@@ -65,7 +65,7 @@ next-level-requires-2 c κs =
     let t = tested (c .before .before) in
     let s = t .before .before .before .before in
     let p = t .next-level .ensures in (
-      subst (λ (xs : List ℤ). Passable (s .args .plan) (s .args .hit) true xs (s .args .newer .now) (t .next-level .last .1 .1 .1 .1 .1 .0))
+      subst (λ (xs : List ℤ). Passable (s .args .plan) (s .args .hit) true xs (s .args .newer .now) (t .next-level .last .1 .1 .1 .1 .0))
           (sym (p .passing .kept refl)) (in-place-given (s .pre .0 .0) (omega (arith, s .pre .0 .1, p .passing .out-long))),
       s .pre .1,
     )
