@@ -21,11 +21,12 @@ use Rattle.scheme.proofs.Laws.Refusals.{right-length, block-passes}
 use Rattle.slices.proofs.SliceLaws.{zeros}
 use Rattle.scheme.proofs.Laws.Calls.{stands-behind, block-refused, block-done, in-place-refused, in-place-done}
 use Rattle.plans.specs.declared.Plan.{Plan}
+use Rattle.steps.specs.declared.call.InTurn.{InTurn}
 use Rattle.steps.specs.declared.play.Steps.{Steps}
 use Rattle.steps.specs.Plan.{Planned}
 use Rattle.turns.specs.Turns.{turnAfter, olderOf, newerOf}
 use Rattle.steps.specs.Steps.{Room, Steppable, Begins, Played}
-use Rattle.steps.specs.Left.{Opens, three, two, LeftInTurn, LeftInPlace}
+use Rattle.steps.specs.Left.{Opens, three, two, LeftFrom, refused, carried, LeftInTurn, LeftInPlace}
 use Rattle.steps.proofs.PlayLaws.{room-of}
 use Rattle.turns.proofs.TurnLaws.{turn-three, turn-many, turn-exchanged}
 
@@ -159,6 +160,14 @@ module _ (i : Instrument) (older newer work samples : List ℤ) (pick : ℕ) (h 
           };
         }
 
+  -- either, by what refuses it
+  pub left-in-turn : {r : Refusal} {t : InTurn} {older₁ newer₁ work₁ samples₁ : List ℤ} → r ≡ refuses
+      → length older₁ ≡ length older → length newer₁ ≡ length newer → length work₁ ≡ length work
+      → LeftFrom 0 r (play i pick h older newer samples) older newer work samples t older₁ newer₁ work₁ samples₁
+      → LeftInTurn refuses (block i older newer work samples pick h) t older₁ newer₁ work₁ samples₁
+  left-in-turn e a b c (refused x is f) = turned-down (is ∙ e) (ap accepted (sym e) ∙ f)
+  left-in-turn e a b c (carried s x older₁ newer₁ work₁ samples₁ none turn p is) = carried-out (sym e ∙ none) turn a b c p is
+
 -- what a call on two levels leaves
 module _ (i : Instrument) (older newer samples : List ℤ) (pick : ℕ) (h : Hit) where
   abbrev refuses-two : Refusal
@@ -208,3 +217,12 @@ module _ (i : Instrument) (older newer samples : List ℤ) (pick : ℕ) (h : Hit
               ∙ ap (λ (n : ℕ). eqb (n % 2) 1) (s .done-is ∙ ap (λ (b : AfterInPlace). b .answer .steps) b);
           same-long = λ t. newer-kept ∙ passes .newer-passes .long ∙ sym (passes .older-passes .long) ∙ sym older-kept;
         }
+
+  -- either, by what refuses it
+  pub left-in-place : {t : InTurn} {third older₁ newer₁ third₁ samples₁ : List ℤ}
+      → length older₁ ≡ length older → length newer₁ ≡ length newer
+      → LeftFrom 3 refuses-two (play i pick h older newer samples) older newer third samples t older₁ newer₁ third₁ samples₁
+      → LeftInPlace (blockInPlace i older newer samples pick h)
+      (record { steps = t .steps; inexact = t .inexact; refusal = t .refusal; exchanged = not (eqb (t .turn) 3) }) older₁ newer₁ samples₁
+  left-in-place a b (refused x is f) = turned-down-two is f
+  left-in-place a b (carried s x older₁ newer₁ third₁ samples₁ none turn p is) = carried-out-two none third₁ turn a b p is

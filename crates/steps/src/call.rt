@@ -8,7 +8,7 @@ ghost use Rattle.scheme.specs.Calls.{block, blockInPlace};
 ghost use Rattle.scheme.specs.Calls as Calls;
 ghost use Rattle.turns.specs.Turns.{turnAfter, olderOf, newerOf};
 ghost use Rattle.steps.specs.Steps.{Played};
-ghost use Rattle.steps.specs.Left.{Opens, LeftInTurn, LeftInPlace};
+ghost use Rattle.steps.specs.Left.{Opens, LeftFrom, LeftInTurn, LeftInPlace};
 use crate::play::Steps;
 use crate::play::play;
 use block_checks::block_refusal;
@@ -64,6 +64,44 @@ fn begin(
     play(plan, &edges, older, newer, work, samples, pick, hit, first)
 }
 
+// The steps of a block from turn `first`, or what refuses them: `wrong` tells that the third slice has a wrong length.
+fn steps_from(
+    i: Instrument,
+    older: &mut [i64],
+    newer: &mut [i64],
+    work: &mut [i64],
+    samples: &mut [i16],
+    pick: usize,
+    hit: Hit,
+    wrong: bool,
+    first: usize,
+) -> InTurn
+    requires { ⌜ ((blockRefusal i (now older) (now newer) wrong pick hit ≡ Nothing) → Opens (i .grid) (now work) first) ⌝ }
+    ensures { λ r. ⌜ LeftFrom first (blockRefusal i (now (older .entry)) (now (newer .entry)) wrong pick hit)
+        (Calls.play i pick hit (now (older .entry)) (now (newer .entry)) (now (samples .entry)))
+        (now (older .entry)) (now (newer .entry)) (now (work .entry)) (now (samples .entry))
+        r (now (older .exit)) (now (newer .exit)) (now (work .exit)) (now (samples .exit)) ⌝ }
+{
+    let refusal = block_refusal(i, older, newer, wrong, pick, hit);
+    if !is_nothing(refusal) {
+        return InTurn {
+            begun: false,
+            steps: 0,
+            inexact: 0,
+            refusal,
+            turn: first,
+        };
+    }
+    let steps = begin(i, older, newer, work, samples, pick, hit, first);
+    InTurn {
+        begun: true,
+        steps: steps.done,
+        inexact: steps.inexact,
+        refusal: ending(steps.done, samples.len()),
+        turn: steps.turn,
+    }
+}
+
 // As many steps as samples has places, the hit in the first, each level left in the slice that the turn tells; or what refuses them.
 // Ruled out: every sample put in the first place; a level put in place though its last point passes the ceiling.
 pub fn steps_in_turn(
@@ -81,24 +119,7 @@ pub fn steps_in_turn(
         r (now (older .exit)) (now (newer .exit)) (now (work .exit)) (now (samples .exit)) ⌝ }
 {
     let wrong = work.len() != older.len();
-    let refusal = block_refusal(i, older, newer, wrong, pick, hit);
-    if !is_nothing(refusal) {
-        return InTurn {
-            begun: false,
-            steps: 0,
-            inexact: 0,
-            refusal,
-            turn: 0,
-        };
-    }
-    let steps = begin(i, older, newer, work, samples, pick, hit, 0);
-    InTurn {
-        begun: true,
-        steps: steps.done,
-        inexact: steps.inexact,
-        refusal: ending(steps.done, samples.len()),
-        turn: steps.turn,
-    }
+    steps_from(i, older, newer, work, samples, pick, hit, wrong, 0)
 }
 
 // The same on two levels: no third one is lent.
@@ -114,21 +135,13 @@ pub fn steps_in_place(
     ensures { λ r. ⌜ LeftInPlace (blockInPlace i (now (older .entry)) (now (newer .entry)) (now (samples .entry)) pick hit)
         r (now (older .exit)) (now (newer .exit)) (now (samples .exit)) ⌝ }
 {
-    let refusal = block_refusal(i, older, newer, false, pick, hit);
-    if !is_nothing(refusal) {
-        return InPlace {
-            steps: 0,
-            inexact: 0,
-            refusal,
-            exchanged: false,
-        };
-    }
     let mut piece = [0i64; PIECE];
-    let steps = begin(i, older, newer, &mut piece, samples, pick, hit, 3);
+    let left = steps_from(i, older, newer, &mut piece, samples, pick, hit, false, 3);
+    let refusal = left.refusal;
     InPlace {
-        steps: steps.done,
-        inexact: steps.inexact,
-        refusal: ending(steps.done, samples.len()),
-        exchanged: steps.turn != 3,
+        steps: left.steps,
+        inexact: left.inexact,
+        refusal,
+        exchanged: left.turn != 3,
     }
 }
