@@ -110,6 +110,9 @@ module _ {p : Plan} {h : Hit} {older newer : List ℤ} {row : Stretch} {out₀ o
   force-is : s .force ≡ forceOf h at
   force-is = ap (λ (s : Stretch). s .force) (t .is)
 
+  pub struck-from : s .from ≡ at
+  struck-from = ap (λ (s : Stretch). s .from) (t .is)
+
   pub struck-ready : tooStrong h ≡ false → Ready p (pos 0) older newer → Ready p (s .force) older newer
   struck-ready low r = ready-force r (subst (λ (z : ℤ). natAbs z ≤ ceiling) (sym force-is) (force-low h low at))
 
@@ -120,9 +123,6 @@ module _ {p : Plan} {h : Hit} {older newer : List ℤ} {row : Stretch} {out₀ o
     room = omega (arith, q .room, ends (t .more) h .upto, t .inv .ran .long);
   })
 
-  pub struck-from : s .from ≡ at
-  struck-from = ap (λ (s : Stretch). s .from) (t .is)
-
   moves-on : Moves (p .instrument .grid) at (s .to)
   moves-on = some-move (t .moves) (t .inv .order) (omega (arith, struck-ends .some)) (struck-ends .upto)
 
@@ -132,21 +132,24 @@ module _ {p : Plan} {h : Hit} {older newer : List ℤ} {row : Stretch} {out₀ o
   pub struck-some : s .from < s .to
   struck-some = omega (arith, struck-ends .some, struck-from)
 
-  module _ {out′ : List ℤ} {r : Progress} (q : Advanced p s older newer out out′ (s .from) (s .to) r) where
+  -- its points as far as `end`: all of them, or the first
+  module _ {end : ℕ} (some : at < end) (upto : end ≤ s .to) {out′ : List ℤ} {r : Progress}
+      (q : Advanced p s older newer out out′ at end r) where
     -- what is made of the points with that force is the scheme's
-    as-next : Ran (nextOf (p .instrument) h older newer) (row .write) (row .base) out out′ at (s .to) r
+    as-next : Ran (nextOf (p .instrument) h older newer) (row .write) (row .base) out out′ at end r
     as-next =
-        ran-same (moves-on .order)
-        (λ k a b. next-value (p .instrument) h older newer (s .force) k (moves-on .each k a b) (struck-ends .one-force k a b ∙ sym force-is))
-        (subst (λ (x : Stretch). Ran (nextBy (p .instrument) (s .force) older newer) (x .write) (x .base) out out′ (x .from) (s .to) r) (t .is) q)
+        ran-same (omega arith)
+        (λ k a b. next-value (p .instrument) h older newer (s .force) k (moves-on .each k a (omega arith))
+        (struck-ends .one-force k a (omega arith) ∙ sym force-is))
+        (subst (λ (x : Stretch). Ran (nextBy (p .instrument) (s .force) older newer) (x .write) (x .base) out out′ at end r) (t .is) q)
 
     pub struck-on : r .within ≡ true
-        → Running (nextOf (p .instrument) h older newer) (row .write) (row .base) out₀ (row .from) (row .to) out′ (s .to) (n + r .inexact)
-    struck-on e = running-on (t .inv) (omega (arith, struck-ends .some)) as-next e (struck-ends .upto)
+        → Running (nextOf (p .instrument) h older newer) (row .write) (row .base) out₀ (row .from) (row .to) out′ end (n + r .inexact)
+    struck-on e = running-on (t .inv) (omega arith) as-next e (omega (arith, struck-ends .upto))
 
-    pub struck-most : r .within ≡ true → n + r .inexact ≤ s .to
-    struck-most e = running-most (t .inv) (omega (arith, struck-ends .some)) as-next e
+    pub struck-most : r .within ≡ true → n + r .inexact ≤ end
+    struck-most e = running-most (t .inv) (omega arith) as-next e
 
     pub struck-stops : r .within ≡ false
         → Ran (nextOf (p .instrument) h older newer) (row .write) (row .base) out₀ out′ (row .from) (row .to) r
-    struck-stops e = running-stops (t .inv) (omega (arith, struck-ends .some)) as-next (struck-ends .upto) e
+    struck-stops e = running-stops (t .inv) (omega arith) as-next (omega (arith, struck-ends .upto)) e

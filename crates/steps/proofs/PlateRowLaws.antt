@@ -29,7 +29,7 @@ use Rattle.steps.specs.Plan.{AtMost, Ready, innerSum}
 use Rattle.steps.specs.Run.{Filled, Stepping, Placed, fourBeside}
 use Rattle.steps.specs.Steps.{Steppable}
 use Rattle.steps.specs.Pass.{target, Passable, Passing, Passed}
-use Rattle.steps.specs.Plates.{SumRow, TwoRows, InRow, rowsAt, movingIn}
+use Rattle.steps.specs.Plates.{SumRow, TwoRows, InRow, movingIn}
 use Rattle.steps.proofs.KindLaws.{Edge, at-edge, wide, plate-sized}
 use Rattle.steps.proofs.FillLaws.{passed}
 use Rattle.steps.proofs.PassLaws.{passing-none, passing-ready, piece-placed, stretch-stops, stretch-passing}
@@ -101,16 +101,15 @@ turn-apart first h = inl (omega arith)
 
 -- ---- a loop over the rows: those above have their next values, n of them inexact, the sums of the row and of the one above it stand
 
-pub record PlateRows (i : Instrument) (h : Hit) (write inPlace : Bool) (older₀ newer out₀ older out sums : List ℤ) (r : SumRows) (n : ℕ)
-    : Type 0 where
-  pub rows : Rows i h write inPlace older₀ newer out₀ older out (r .row) (r .start) n
-  pub some : 1 ≤ r .row
-  pub upto : r .row + 1 ≤ i .grid .rows
-  pub last-is : r .last ≡ eqb (r .row + 1) (i .grid .rows - 1)
-  pub turning : Turning (r .other) (r .here)
+pub record PlateRows (i : Instrument) (h : Hit) (write inPlace : Bool) (older₀ newer out₀ older out sums : List ℤ)
+    (other here row start n : ℕ) : Type 0 where
+  pub rows : Rows i h write inPlace older₀ newer out₀ older out row start n
+  pub some : 1 ≤ row
+  pub upto : row + 1 ≤ i .grid .rows
+  pub turning : Turning other here
   pub long : length sums ≡ 128
-  pub above-row : SumRow (i .grid) newer sums (r .start - i .grid .columns) (r .other)
-  pub here-row : SumRow (i .grid) newer sums (r .start) (r .here)
+  pub above-row : SumRow (i .grid) newer sums (start - i .grid .columns) other
+  pub here-row : SumRow (i .grid) newer sums start here
   pub low : AtMost (4 * ceiling) (point sums)
 
 module _ {p : Plan} {h : Hit} {inPlace : Bool} {older₀ newer out₀ : List ℤ} (a : Passable p h inPlace older₀ newer out₀)
@@ -206,14 +205,12 @@ module _ {p : Plan} {h : Hit} {inPlace : Bool} {older₀ newer out₀ : List ℤ
         small j a b = subst (λ (z : ℤ). natAbs z ≤ 4 * ceiling) (sym (between (j - 64) (omega arith) (omega arith)))
             (sum-low (steppable-ready s) (g .columns + (j - 64)))
 
-        begun : {write : Bool}
-            → PlateRows i h write inPlace older₀ newer out₀ older₀ out₀ sums′ (rowsAt 1 (g .columns) 64 0 (g .rows - 1)) 0
-        begun {write} = record {
+        pub plate-start : {write : Bool} → PlateRows i h write inPlace older₀ newer out₀ older₀ out₀ sums′ 0 64 1 (g .columns) 0
+        plate-start {write} = record {
           rows = subst (λ (n : ℕ). Rows i h write inPlace older₀ newer out₀ older₀ out₀ 1 n 0) (N.zero-add (g .columns))
               (ring-more (rows-start older₀ out₀) (omega (arith, some-rows)) (inl refl));
           some = omega arith;
           upto = omega (arith, some-rows);
-          last-is = refl;
           turning = zeroth;
           long = f .long ∙ long;
           above-row = record {
@@ -224,19 +221,13 @@ module _ {p : Plan} {h : Hit} {inPlace : Bool} {older₀ newer out₀ : List ℤ
           low = put-low f small (λ j. subst (λ (z : ℤ). natAbs z ≤ 4 * ceiling) (sym (zeros j)) zero-le);
         }
 
-        pub plate-start : {write : Bool} {r : SumRows} → r ≡ rowsAt 1 (g .columns) 64 0 (g .rows - 1)
-            → PlateRows i h write inPlace older₀ newer out₀ older₀ out₀ sums′ r 0
-        plate-start {write} e = subst (λ (r : SumRows). PlateRows i h write inPlace older₀ newer out₀ older₀ out₀ sums′ r 0) (sym e) begun
-
     -- ---- a row
 
-    module _ {write : Bool} {older out sums : List ℤ} {r : SumRows} {n : ℕ}
-        (t : PlateRows i h write inPlace older₀ newer out₀ older out sums r n) (l : r .row + 1 < g .rows) where
-      abbrev row : ℕ
-      row = r .row
-
-      abbrev start : ℕ
-      start = r .start
+    module _ {write : Bool} {older out sums : List ℤ} {other here row start n : ℕ}
+        (t : PlateRows i h write inPlace older₀ newer out₀ older out sums other here row start n) (l : row + 1 < g .rows) where
+      -- where its sums stand
+      abbrev r : SumRows
+      r = record { start = start; here = here; other = other; last = eqb (row + 1) (g .rows - 1) }
 
       in-grid : row < g .rows
       in-grid = omega arith
@@ -261,8 +252,8 @@ module _ {p : Plan} {h : Hit} {inPlace : Bool} {older₀ newer out₀ : List ℤ
       below-start : (row + 1) * g .columns ≡ start + g .columns
       below-start = sym (ap (λ (n : ℕ). n + g .columns) (t .rows .start-is) ∙ next-row row (g .columns))
 
-      below-moves : (k : ℕ) → start + 1 ≤ k → k < start + (g .columns - 1) → moving g (k + g .columns) ≡ not (r .last)
-      below-moves k a b = go (ℕ-discrete (row + 1) (g .rows - 1)) ∙ sym (ap not (t .last-is))
+      below-moves : (k : ℕ) → start + 1 ≤ k → k < start + (g .columns - 1) → moving g (k + g .columns) ≡ not (eqb (row + 1) (g .rows - 1))
+      below-moves k a b = go (ℕ-discrete (row + 1) (g .rows - 1))
         where
           go : Dec (row + 1 ≡ g .rows - 1) → moving g (k + g .columns) ≡ not (eqb (row + 1) (g .rows - 1))
           go (yes e) =
@@ -302,26 +293,25 @@ module _ {p : Plan} {h : Hit} {inPlace : Bool} {older₀ newer out₀ : List ℤ
       module _ {older′ out′ sums′ : List ℤ} {x : Progress}
           (q : Passing i h write inPlace older newer out older′ out′ (start + 1) (start + (g .columns - 1)) x) (e : x .within ≡ true)
           (w : TwoRows g newer sums′ r (start + (g .columns - 1))) (long : length sums′ ≡ length sums) where
-        below-each : (c : ℕ) → c < g .columns → point sums′ (r .other + c) ≡ S (start + g .columns + c)
+        below-each : (c : ℕ) → c < g .columns → point sums′ (other + c) ≡ S (start + g .columns + c)
         below-each c m = go (decLt c (g .columns - 1))
           where
-            go : Dec (c < g .columns - 1) → point sums′ (r .other + c) ≡ S (start + g .columns + c)
+            go : Dec (c < g .columns - 1) → point sums′ (other + c) ≡ S (start + g .columns + c)
             go (yes a) = w .below c (omega arith)
             go (no a) =
                 w .above c (omega (arith, a)) m ∙
                 right-zero (row - 1) (omega (arith, t .some)) (start - g .columns + c) (omega (arith, a, above-start)) ∙
                 sym (right-zero (row + 1) l (start + g .columns + c) (omega (arith, a, below-start)))
 
-        row-next : PlateRows i h write inPlace older₀ newer out₀ older′ out′ sums′
-            (rowsAt (row + 1) (start + g .columns) (r .other) (r .here) (g .rows - 1)) (n + x .inexact)
+        row-next : PlateRows i h write inPlace older₀ newer out₀ older′ out′ sums′ here other (row + 1) (start + g .columns)
+            (n + x .inexact)
         row-next = record {
           rows = rows-more a (t .rows) in-grid (run 1 (g .columns - 1)) columns-run q e;
           some = omega arith;
           upto = omega arith;
-          last-is = refl;
           turning = turn (t .turning);
           long = long ∙ t .long;
-          above-row = subst (λ (n : ℕ). SumRow g newer sums′ n (r .here)) (omega arith) (w .here);
+          above-row = subst (λ (n : ℕ). SumRow g newer sums′ n here) (omega arith) (w .here);
           here-row = record { room = w .room; each = below-each };
           low = w .low;
         }
@@ -338,7 +328,7 @@ module _ {p : Plan} {h : Hit} {inPlace : Bool} {older₀ newer out₀ : List ℤ
       row-ready : Ready p (pos 0) older newer
       row-ready = passing-ready (steppable-ready s) (t .rows .done)
 
-      module _ {x : Stretch} (e : x ≡ movingIn r (g .columns) write inPlace) where
+      module _ {x : Stretch} (e : x ≡ movingIn start (g .columns) write inPlace) where
         pub moving-ready : Ready p (x .force) older newer
         moving-ready = subst (λ (x : Stretch). Ready p (x .force) older newer) (sym e) row-ready
 
@@ -371,17 +361,14 @@ module _ {p : Plan} {h : Hit} {inPlace : Bool} {older₀ newer out₀ : List ℤ
             pub plate-most : n + y .inexact ≤ points g
             plate-most = row-most left within
 
-            pub plate-next : {sums′ : List ℤ} {r′ : SumRows} → TwoRows g newer sums′ r (x .to) → length sums′ ≡ length sums
-                → r′ ≡ rowsAt (row + 1) (start + g .columns) (r .other) (r .here) (g .rows - 1)
-                → PlateRows i h write inPlace older₀ newer out₀ older′ out′ sums′ r′ (n + y .inexact)
-            plate-next {sums′} w long z =
-                subst (λ (r : SumRows). PlateRows i h write inPlace older₀ newer out₀ older′ out′ sums′ r (n + y .inexact)) (sym z)
-                (row-next left within (subst (λ (x : Stretch). TwoRows g newer sums′ r (x .to)) e w) long)
+            pub plate-next : {sums′ : List ℤ} → TwoRows g newer sums′ r (x .to) → length sums′ ≡ length sums
+                → PlateRows i h write inPlace older₀ newer out₀ older′ out′ sums′ here other (row + 1) (start + g .columns) (n + y .inexact)
+            plate-next {sums′} w long = row-next left within (subst (λ (x : Stretch). TwoRows g newer sums′ r (x .to)) e w) long
 
     -- after the last of them
-    pub plate-done : {write : Bool} {older out sums : List ℤ} {r : SumRows} {n : ℕ}
-        → PlateRows i h write inPlace older₀ newer out₀ older out sums r n → g .rows ≤ r .row + 1
+    pub plate-done : {write : Bool} {older out sums : List ℤ} {other here row start n : ℕ}
+        → PlateRows i h write inPlace older₀ newer out₀ older out sums other here row start n → g .rows ≤ row + 1
         → Passed i h write inPlace older₀ newer out₀ older out (passed n)
-    plate-done {r = r} t m =
-        let last : r .row + 1 ≡ g .rows = omega (arith, t .upto) in
+    plate-done {row = row} t m =
+        let last : row + 1 ≡ g .rows = omega (arith, t .upto) in
         stepped-all a (rows-done a (ring-more (t .rows) (omega (arith, t .upto)) (inr last)) m)

@@ -4,7 +4,6 @@ use mathlib.Core.Bool.{Bool, not}
 use mathlib.Core.List.{List}
 use mathlib.Core.Logic.{_⊎_}
 use Prim.Native.Nat.{ℕ, _+_, _-_, _*_, _≤_, _<_}
-use lib.Dec.{eqb}
 use lib.IntN.{ℤ, pos, natAbs, _+ℤ_}
 use lib.ListN.{length}
 use Rattle.types.specs.declared.Grid.{Grid}
@@ -41,19 +40,10 @@ pub record InRow (g : Grid) (r : SumRows) (from to : ℕ) : Type 0 where
   pub last : to + 1 ≤ r .start + g .columns
   pub below : (k : ℕ) → from ≤ k → k < to → moving g (k + g .columns) ≡ not (r .last)
 
--- where the sums of a row stand that begins at `start`, `ring` the last row
-abbrev pub rowsAt : (row start here other ring : ℕ) → SumRows
-rowsAt row start here other ring = record { row = row; start = start; here = here; other = other; last = eqb (row + 1) ring }
-
--- the moving points of a row, without a force
-abbrev pub movingIn : SumRows → (columns : ℕ) → (write inPlace : Bool) → Stretch
-movingIn r columns write inPlace = record {
-  from = r .start + 1;
-  to = r .start + (columns - 1);
-  force = pos 0;
-  base = baseOf inPlace (r .start + 1);
-  write = write;
-}
+-- the moving points of the row that begins at `start`, without a force
+abbrev pub movingIn : (start columns : ℕ) → (write inPlace : Bool) → Stretch
+movingIn start columns write inPlace =
+    record { from = start + 1; to = start + (columns - 1); force = pos 0; base = baseOf inPlace (start + 1); write = write }
 
 -- ---- the sum of the sums around a point
 

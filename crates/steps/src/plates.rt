@@ -12,7 +12,7 @@ ghost use Rattle.scheme.specs.Refusals.{tooStrong};
 ghost use Rattle.steps.specs.Plan.{AtMost, Ready};
 ghost use Rattle.steps.specs.Run.{Filled, Advanced, Stepping, Placed, fourBeside};
 ghost use Rattle.steps.specs.Pass.{Passable, Passed};
-ghost use Rattle.steps.specs.Plates.{TwoRows, InRow, Readable, secondAt, rowsAt, movingIn};
+ghost use Rattle.steps.specs.Plates.{TwoRows, InRow, Readable, secondAt, movingIn};
 use crate::arithmetic::stiffness;
 use crate::neighbours::sum_around;
 use crate::pieces::put_piece;
@@ -25,10 +25,9 @@ use stretches::is_hit_in;
 use stretches::stretch_at;
 use types::Hit;
 
-// Where the sums of two rows stand: of column c of `row`, which begins at point `start`, at place here + c; at other + c that of the row
+// Where the sums of two rows stand: of column c of the row that begins at point `start` at place here + c; at other + c that of the row
 // above it until column c is done, then that of the row below it. `last` tells that the row below is the ring's.
 pub(crate) struct SumRows {
-    pub(crate) row: usize,
     pub(crate) start: usize,
     pub(crate) here: usize,
     pub(crate) other: usize,
@@ -151,7 +150,7 @@ fn plate_row(
     plate_run(plan, older, newer, rows, as_written(s, false), sums, out)
 }
 
-// The moving points of a row, in a step with a hit: stretch by stretch where the hit is among them.
+// The moving points of a row, in a step with a hit: point by point where the hit is among them.
 fn struck_row(
     plan: Plan,
     older: &[i64],
@@ -177,12 +176,12 @@ fn struck_row(
     let mut at = row.from;
     while at < row.to {
         let s = stretch_at(row, hit, at);
-        let p = plate_run(plan, older, newer, rows, s, sums, out);
+        let p = plate_point(plan, older, newer, rows, at, s, sums, out);
         if !p.within {
             return p;
         }
         inexact += p.inexact;
-        at = s.to;
+        at += 1;
     }
     Progress {
         within: true,
@@ -190,51 +189,23 @@ fn struck_row(
     }
 }
 
-// Where the sums of the first row stand that is not the ring's, and of the row above it.
-fn first_rows(columns: usize, ring: usize) -> SumRows
-    ensures { λ r. ⌜ r ≡ rowsAt 1 columns 64 0 ring ⌝ }
+// The moving points of the row that begins at point `start`: all but its ends.
+fn moving_in(start: usize, columns: usize, write: bool, in_place: bool) -> Stretch
+    requires { ⌜ (3 ≤ columns) × (start + columns ≤ 4096) ⌝ }
+    ensures { λ r. ⌜ r ≡ movingIn start columns write «in_place» ⌝ }
 {
-    SumRows {
-        row: 1,
-        start: columns,
-        here: 64,
-        other: 0,
-        last: 2 == ring,
-    }
-}
-
-// Where those of the next row stand: the two places are exchanged.
-fn next_rows(rows: SumRows, columns: usize, ring: usize) -> SumRows
-    requires { ⌜ (rows .row ≤ 64) × (rows .start + columns ≤ 4096) ⌝ }
-    ensures { λ r. ⌜ r ≡ rowsAt (rows .row + 1) (rows .start + columns) (rows .other) (rows .here) ring ⌝ }
-{
-    let row = rows.row + 1;
-    SumRows {
-        row,
-        start: rows.start + columns,
-        here: rows.other,
-        other: rows.here,
-        last: row + 1 == ring,
-    }
-}
-
-// The moving points of a row: all but its ends.
-fn moving_in(rows: SumRows, columns: usize, write: bool, in_place: bool) -> Stretch
-    requires { ⌜ (3 ≤ columns) × (columns ≤ 64) × (rows .start + columns ≤ 4096) ⌝ }
-    ensures { λ r. ⌜ r ≡ movingIn rows columns write «in_place» ⌝ }
-{
-    let from = rows.start + 1;
+    let from = start + 1;
     let base = if in_place { from } else { 0 };
     Stretch {
         from,
-        to: rows.start + (columns - 1),
+        to: start + (columns - 1),
         force: 0,
         base,
         write,
     }
 }
 
-// Every moving point of a plate, in a step without a hit.
+// Every moving point of a plate, in a step without a hit. After a row the two places of the sums are exchanged.
 pub(crate) fn plate_level(
     plan: Plan,
     older: &mut [i64],
@@ -252,16 +223,29 @@ pub(crate) fn plate_level(
     let mut sums = [0i64; 128];
     put_first(newer, columns, 64, &mut sums);
     let mut inexact = 0;
-    let mut rows = first_rows(columns, ring);
-    while rows.row < ring {
-        let moving = moving_in(rows, columns, write, in_place);
+    let mut other = 0;
+    let mut here = 64;
+    let mut row = 1;
+    let mut start = columns;
+    while row < ring {
+        let rows = SumRows {
+            start,
+            here,
+            other,
+            last: row + 1 == ring,
+        };
+        let moving = moving_in(start, columns, write, in_place);
         let p = plate_row(plan, older, newer, rows, moving, &mut sums, out);
         if !p.within {
             return p;
         }
         put_piece(out, moving, older, in_place);
         inexact += p.inexact;
-        rows = next_rows(rows, columns, ring);
+        let free = other;
+        other = here;
+        here = free;
+        row += 1;
+        start += columns;
     }
     Progress {
         within: true,
@@ -288,16 +272,29 @@ pub(crate) fn struck_level(
     let mut sums = [0i64; 128];
     put_first(newer, columns, 64, &mut sums);
     let mut inexact = 0;
-    let mut rows = first_rows(columns, ring);
-    while rows.row < ring {
-        let moving = moving_in(rows, columns, write, in_place);
+    let mut other = 0;
+    let mut here = 64;
+    let mut row = 1;
+    let mut start = columns;
+    while row < ring {
+        let rows = SumRows {
+            start,
+            here,
+            other,
+            last: row + 1 == ring,
+        };
+        let moving = moving_in(start, columns, write, in_place);
         let p = struck_row(plan, older, newer, rows, moving, hit, &mut sums, out);
         if !p.within {
             return p;
         }
         put_piece(out, moving, older, in_place);
         inexact += p.inexact;
-        rows = next_rows(rows, columns, ring);
+        let spare = other;
+        other = here;
+        here = spare;
+        row += 1;
+        start += columns;
     }
     Progress {
         within: true,

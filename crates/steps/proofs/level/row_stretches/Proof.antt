@@ -1,13 +1,17 @@
 -- `row_stretches` meets its contract: stretch by stretch, one force on the points of each.
-use Prim.Native.Nat.{_-_}
+use mathlib.Core.Path.{subst}
+use mathlib.Core.List.{List}
+use Prim.Native.Nat.{ℕ, _-_}
 use native.Mathlib.Omega.{arith}
 use borrow.Author.Needs.{needs}
 use borrow.Author.Tests.{not-true, not-false}
-use Rattle.steps.specs.Run.{nextOf}
+use lib.IntN.{ℤ}
+use Rattle.steps.specs.declared.progress.Progress.{Progress}
+use Rattle.steps.specs.Run.{nextOf, Advanced}
 use Rattle.steps.proofs.PlanLaws.{few-points}
 use Rattle.steps.proofs.FillLaws.{Running, running-start, running-done}
 use Rattle.steps.proofs.HitLaws.{Struck, struck-ends, struck-ready, struck-placed, struck-moves, struck-some, struck-on, struck-most, struck-stops}
-use Rattle.steps.proofs.HitLaws.{run-inside}
+use Rattle.steps.proofs.HitLaws.{struck-from, run-inside}
 use Rattle.steps.proofs.level.row_stretches.Statement.{statement}
 use Rattle.steps.proofs.level.row_stretches.Tie as tie
 
@@ -30,6 +34,16 @@ module _ (c : tie.After-stretch-at Inv-loop μ-loop) where
       (loop .loop .out) (loop .loop .at) (loop .loop .inexact) (c .stretch-at .result)
   struck = record { moves = s .pre .1 .0; inv = loop .loop .inv; more = c .before .if1 .taken; is = c .stretch-at .ensures }
 
+  -- what was made of it
+  ran : {out′ : List ℤ} {r : Progress}
+      → Advanced (s .args .plan) (c .stretch-at .result) (s .args .older .now) (s .args .newer .now) (loop .loop .out) out′
+      (c .stretch-at .result .from) (c .stretch-at .result .to) r
+      → Advanced (s .args .plan) (c .stretch-at .result) (s .args .older .now) (s .args .newer .now) (loop .loop .out) out′
+      (loop .loop .at) (c .stretch-at .result .to) r
+  ran {out′} {r} = subst
+      (λ (a : ℕ). Advanced (s .args .plan) (c .stretch-at .result) (s .args .older .now) (s .args .newer .now) (loop .loop .out) out′ a
+      (c .stretch-at .result .to) r) (struck-from struck)
+
 -- once the stretch is done
 abbrev done : tie.After-out Inv-loop μ-loop → tie.After-stretch-at Inv-loop μ-loop
 done c = c .before .before .before
@@ -50,7 +64,9 @@ same-length : tie.Need-same-length Inv-loop μ-loop
 same-length c = search needs
 
 returns : tie.Need-returns Inv-loop μ-loop
-returns c = let o = c .before .before in struck-stops (struck (done o)) (o .before .points-run .ensures) (not-true _ (c .if2 .taken))
+returns c =
+    let o = c .before .before in
+    struck-stops (struck (done o)) (struck-ends (struck (done o)) .some) (omega arith) (ran (done o) (o .before .points-run .ensures)) (not-true _ (c .if2 .taken))
 
 -- its answer, once it was looked at
 abbrev looked : tie.After-struct-known3 Inv-loop μ-loop → tie.After-out Inv-loop μ-loop
@@ -61,7 +77,7 @@ add-inexact c =
     let o = looked c in
     let t = struck (done o) in
     let r = s (done o) .pre .0 .0 in
-    let most = struck-most t (o .before .points-run .ensures) (not-false _ (c .before .if2 .left)) in
+    let most = struck-most t (struck-ends t .some) (omega arith) (ran (done o) (o .before .points-run .ensures)) (not-false _ (c .before .if2 .left)) in
     let last = run-inside (struck-moves t) (struck-some t) in
     record { fits = omega (arith, most, last, few-points (r .planned)) }
 
@@ -69,7 +85,10 @@ loop-less : tie.Need-loop-less Inv-loop μ-loop
 loop-less c = let e = struck-ends (struck (done (looked c))) in omega (arith, e .some, e .upto)
 
 loop-again : tie.Need-loop-again Inv-loop μ-loop
-loop-again c = let o = looked c in struck-on (struck (done o)) (o .before .points-run .ensures) (not-false _ (c .before .if2 .left))
+loop-again c =
+    let o = looked c in
+    let t = struck (done o) in
+    struck-on t (struck-ends t .some) (omega arith) (ran (done o) (o .before .points-run .ensures)) (not-false _ (c .before .if2 .left))
 
 same-length-2 : tie.Need-same-length-2 Inv-loop μ-loop
 same-length-2 c = search needs

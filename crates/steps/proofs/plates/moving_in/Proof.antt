@@ -10,30 +10,30 @@ use Rattle.steps.proofs.plates.moving_in.Statement.{statement}
 use Rattle.steps.proofs.plates.moving_in.Tie as tie
 
 -- in place the first point, else 0
-base-is : (c : tie.Joined1) → let a = c .before .before .args in c .if1 .base ≡ baseOf (a .in-place) (a .rows .start + 1)
+base-is : (c : tie.Joined1) → let a = c .before .args in c .if1 .base ≡ baseOf (a .in-place) (a .start + 1)
 base-is c =
-    let a = c .before .before .args in
+    let a = c .before .args in
     ⊎-elim
-    (λ b. b .1 ∙ sym (ap (λ (t : Bool). baseOf t (a .rows .start + 1)) (b .0 .taken)))
-    (λ b. b .1 ∙ sym (ap (λ (t : Bool). baseOf t (a .rows .start + 1)) (b .0 .left)))
+    (λ b. b .1 ∙ sym (ap (λ (t : Bool). baseOf t (a .start + 1)) (b .0 .taken)))
+    (λ b. b .1 ∙ sym (ap (λ (t : Bool). baseOf t (a .start + 1)) (b .0 .left)))
     (c .if1 .came)
 
 add-from : tie.Need-add-from
-add-from c = record { fits = omega (arith, c .before .pre) }
+add-from c = record { fits = omega (arith, c .pre) }
 
 sub-t9 : tie.Need-sub-t9
-sub-t9 c = omega (arith, c .before .before .pre)
+sub-t9 c = omega (arith, c .before .pre)
 
 add-t10 : tie.Need-add-t10
-add-t10 c = record { fits = omega (arith, c .before .before .before .pre) }
+add-t10 c = record { fits = omega (arith, c .before .pre) }
 
 returns : tie.Need-returns
 returns c =
-    let a = c .before .before .before .args in
-    let base = base-is (c .before) in
+    let a = c .before .args in
+    let base = base-is c in
     λ j. record {
-      from = a .rows .start + 1;
-      to = a .rows .start + (a .columns - 1);
+      from = a .start + 1;
+      to = a .start + (a .columns - 1);
       force = pos 0;
       base = base j;
       write = a .write;

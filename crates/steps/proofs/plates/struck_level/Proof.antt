@@ -9,7 +9,6 @@ use Rattle.types.specs.declared.Grid.{Grid}
 use Rattle.scheme.specs.Instruments.{plate, kind, points}
 use Rattle.slices.proofs.SliceLaws.{zeros}
 use Rattle.stretches.specs.declared.Stretch.{Stretch}
-use Rattle.steps.specs.declared.plates.SumRows.{SumRows}
 use Rattle.steps.specs.Pass.{Passable}
 use Rattle.steps.proofs.PlanLaws.{few-rows, few-points}
 use Rattle.steps.proofs.RowLaws.{steppable-ready}
@@ -20,11 +19,13 @@ use Rattle.steps.proofs.plates.struck_level.Statement.{statement}
 use Rattle.steps.proofs.plates.struck_level.Tie as tie
 
 abbrev Inv-loop : tie.InvT-loop
-Inv-loop plan older₀ newer out₀ hit write in-place columns ring sums₀ inexact₀ rows₀ older out sums inexact rows =
-    PlateRows (plan .instrument) hit write in-place older₀ newer out₀ older out sums rows inexact
+Inv-loop plan older₀ newer out₀ hit write in-place columns ring sums₀ inexact₀ other₀ here₀ row₀ start₀ older out sums inexact other
+    here row start =
+    PlateRows (plan .instrument) hit write in-place older₀ newer out₀ older out sums other here row start inexact
 
 abbrev μ-loop : tie.MeasureT-loop
-μ-loop plan older₀ newer out₀ hit write in-place columns ring sums₀ inexact₀ rows₀ older out sums inexact rows = ring - rows .row
+μ-loop plan older₀ newer out₀ hit write in-place columns ring sums₀ inexact₀ other₀ here₀ row₀ start₀ older out sums inexact other
+    here row start = ring - row
 
 -- what the caller showed
 module _ (s : tie.Start Inv-loop μ-loop) where
@@ -41,22 +42,23 @@ module _ (s : tie.Start Inv-loop μ-loop) where
   small = few-points (given .given .planned)
 
 -- a row
-module _ (c : tie.Then1 Inv-loop μ-loop) where
+module _ (c : tie.In-loop Inv-loop μ-loop) where
   abbrev loop : tie.At-loop Inv-loop μ-loop
-  loop = c .before .before
+  loop = c .before
 
   abbrev start : tie.Start Inv-loop μ-loop
-  start = loop .before .before .before .before .before .before
+  start = loop .before .before .before .before .before
 
   abbrev inv : PlateRows (start .args .plan .instrument) (start .args .hit) (start .args .write) (start .args .in-place)
       (start .args .older .now) (start .args .newer .now) (start .args .out .now) (loop .loop .older) (loop .loop .out)
-      (loop .loop .sums) (loop .loop .rows) (loop .loop .inexact)
+      (loop .loop .sums) (loop .loop .other) (loop .loop .here) (loop .loop .row)
+      (loop .loop .start) (loop .loop .inexact)
   inv = loop .loop .inv
 
-  last : loop .loop .rows .row + 1 < g start .rows
-  last = omega (arith, c .if1 .taken)
+  last : loop .loop .row + 1 < g start .rows
+  last = omega (arith, c .loop-test .taken)
 
-  room : loop .loop .rows .start + g start .columns ≤ points (g start)
+  room : loop .loop .start + g start .columns ≤ points (g start)
   room = in-level (given start) (is-plate start) inv last
 
 sub-ring : tie.Need-sub-ring Inv-loop μ-loop
@@ -72,18 +74,18 @@ put-first-requires c κs =
       steppable-ready (given s .given) .newer-low,
     )
 
-first-rows-requires : tie.Need-first-rows-requires Inv-loop μ-loop
-first-rows-requires c κs = tt
-
 loop-holds : tie.Need-loop-holds Inv-loop μ-loop
 loop-holds c =
-    let s = c .before .before .before .before .before in
-    plate-start (given s) (is-plate s) _ (zeros 128) refl (c .before .before .put-first .ensures) (c .first-rows .ensures)
+    let s = c .before .before .before .before in
+    plate-start (given s) (is-plate s) _ (zeros 128) refl (c .before .put-first .ensures)
+
+add-if1 : tie.Need-add-if1 Inv-loop μ-loop
+add-if1 c = record { fits = omega (arith, last c, few-rows (given (start c) .given .planned)) }
 
 moving-in-requires : tie.Need-moving-in-requires Inv-loop μ-loop
 moving-in-requires c κs =
     let s = start c in
-    (some-columns (given s) (is-plate s), few-columns (given s) (is-plate s), omega (arith, room c, small s))
+    (some-columns (given s) (is-plate s), omega (arith, room c, small s))
 
 slice-aggregate-struck-row : tie.Need-slice-aggregate-struck-row Inv-loop μ-loop
 slice-aggregate-struck-row c = sym (inv (c .before .before .before) .long)
@@ -110,7 +112,7 @@ module _ (o : tie.After-out Inv-loop μ-loop) where
   abbrev moving : tie.After-moving-in Inv-loop μ-loop
   moving = o .before .before .before .before .before .before
 
-  abbrev row : tie.Then1 Inv-loop μ-loop
+  abbrev row : tie.In-loop Inv-loop μ-loop
   row = moving .before
 
 same-length : tie.Need-same-length Inv-loop μ-loop
@@ -127,7 +129,7 @@ returns c =
     let t = row o in
     let s = start t in
     plate-stops (given s) (is-plate s) (inv t) (last t) (moving o .moving-in .ensures) (o .before .before .struck-row .ensures .0)
-    (not-true _ (c .if2 .taken))
+    (not-true _ (c .if1 .taken))
 
 put-piece-requires : tie.Need-put-piece-requires Inv-loop μ-loop
 put-piece-requires c κs =
@@ -145,21 +147,21 @@ put-piece-requires c κs =
     )
 
 -- and put in its place
-module _ (c : tie.After-struct-known4 Inv-loop μ-loop) where
+module _ (c : tie.After-struct-known3 Inv-loop μ-loop) where
   abbrev put : tie.After-put-piece Inv-loop μ-loop
   put = c .before .before
 
-  abbrev seen : tie.Else2 Inv-loop μ-loop
+  abbrev seen : tie.Else1 Inv-loop μ-loop
   seen = put .before .before .before
 
   abbrev worked : tie.After-out Inv-loop μ-loop
   worked = seen .before .before
 
-  abbrev done : tie.Then1 Inv-loop μ-loop
+  abbrev done : tie.In-loop Inv-loop μ-loop
   done = row worked
 
   abbrev within : worked .before .before .struck-row .result .within ≡ true
-  within = not-false _ (seen .if2 .left)
+  within = not-false _ (seen .if1 .left)
 
 add-inexact : tie.Need-add-inexact Inv-loop μ-loop
 add-inexact c =
@@ -169,38 +171,35 @@ add-inexact c =
     (worked c .before .before .struck-row .ensures .0) (within c) (put c .put-piece .ensures .0) (put c .put-piece .ensures .1) in
     record { fits = omega (arith, most, small s) }
 
-next-rows-requires : tie.Need-next-rows-requires Inv-loop μ-loop
-next-rows-requires c κs =
-    let t = done c in
-    let s = start t in
-    (omega (arith, last t, few-rows (given s .given .planned)), omega (arith, room t, small s))
+add-row : tie.Need-add-row Inv-loop μ-loop
+add-row c = let t = done c in record { fits = omega (arith, last t, few-rows (given (start t) .given .planned)) }
+
+add-start : tie.Need-add-start Inv-loop μ-loop
+add-start c = let t = done c in record { fits = omega (arith, room t, small (start t)) }
 
 loop-less : tie.Need-loop-less Inv-loop μ-loop
-loop-less c =
-    let t = done (c .before) in
-    omega (arith, t .if1 .taken, ap (λ (r : SumRows). r .row) (c .next-rows .ensures))
+loop-less c = omega (arith, done c .loop-test .taken)
 
 loop-again : tie.Need-loop-again Inv-loop μ-loop
 loop-again c =
-    let k = c .before in
-    let o = worked k in
+    let o = worked c in
     let t = row o in
     let s = start t in
     let ran = o .before .before .struck-row .ensures in
-    plate-next (given s) (is-plate s) (inv t) (last t) (moving o .moving-in .ensures) (ran .0) (within k) (put k .put-piece .ensures .0)
-    (put k .put-piece .ensures .1) (ran .1 (within k)) (search needs) (c .next-rows .ensures)
+    plate-next (given s) (is-plate s) (inv t) (last t) (moving o .moving-in .ensures) (ran .0) (within c) (put c .put-piece .ensures .0)
+    (put c .put-piece .ensures .1) (ran .1 (within c)) (search needs)
 
 same-length-3 : tie.Need-same-length-3 Inv-loop μ-loop
-same-length-3 c = c .before .before .loop .inv .rows .done .older-long
+same-length-3 c = c .before .loop .inv .rows .done .older-long
 
 same-length-4 : tie.Need-same-length-4 Inv-loop μ-loop
-same-length-4 c = c .before .before .loop .inv .rows .done .out-long
+same-length-4 c = c .before .loop .inv .rows .done .out-long
 
 returns-2 : tie.Need-returns-2 Inv-loop μ-loop
 returns-2 c =
-    let l = c .before .before in
-    let s = l .before .before .before .before .before .before in
-    plate-done (given s) (is-plate s) (l .loop .inv) (omega (arith, c .if1 .left, some-rows (given s) (is-plate s)))
+    let l = c .before in
+    let s = l .before .before .before .before .before in
+    plate-done (given s) (is-plate s) (l .loop .inv) (omega (arith, c .loop-test .left, some-rows (given s) (is-plate s)))
 
 pub struck-level-spec : {M : Type 1} → statement M
 struck-level-spec =
@@ -211,8 +210,8 @@ struck-level-spec =
     sub-ring
     slice-aggregate-put-first
     put-first-requires
-    first-rows-requires
     loop-holds
+    add-if1
     moving-in-requires
     slice-aggregate-struck-row
     struck-row-requires
@@ -221,7 +220,8 @@ struck-level-spec =
     returns
     put-piece-requires
     add-inexact
-    next-rows-requires
+    add-row
+    add-start
     loop-less
     loop-again
     same-length-3

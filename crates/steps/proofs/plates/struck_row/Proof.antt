@@ -1,4 +1,4 @@
--- `struck_row` meets its contract: where the hit is not in the row, no force is; else stretch by stretch, one force on the points of each.
+-- `struck_row` meets its contract: where the hit is not in the row, no force is; else point by point, each with its force.
 use mathlib.Core.Path.{_≡_, refl, sym, _∙_, subst}
 use mathlib.Core.Bool.{true≢false}
 use Prim.Native.Nat.{ℕ, _-_}
@@ -81,15 +81,19 @@ loop-holds c =
 stretch-at-requires : tie.Need-stretch-at-requires Inv-loop μ-loop
 stretch-at-requires c κs = tt
 
-plate-run-requires-2 : tie.Need-plate-run-requires-2 Inv-loop μ-loop
-plate-run-requires-2 c κs =
+plate-point-requires : tie.Need-plate-point-requires Inv-loop μ-loop
+plate-point-requires c κs =
     let b = c .before .before in
     let t = struck b in
     let p = s b .pre in (
-      (struck-ready t (p .0 .2) (ready b), struck-placed t (p .0 .1)),
       (
-        subst (TwoRows (s b .args .plan .instrument .grid) (s b .args .newer .now) (loop b .loop .sums) (s b .args .rows))
-            (sym (struck-from t)) (loop b .loop .inv .1),
+        struck-ready t (p .0 .2) (ready b),
+        struck-placed t (p .0 .1),
+        omega (arith, struck-from t),
+        omega (arith, struck-ends t .some),
+      ),
+      (
+        loop b .loop .inv .1,
         some-row (p .1 .1 .1) (omega (arith, t .inv .order, struck-from t)) (struck-moves t) (struck-ends t .upto),
       ),
     )
@@ -103,8 +107,11 @@ same-length-4 c = search needs
 returns-2 : tie.Need-returns-2 Inv-loop μ-loop
 returns-2 c =
     let o = c .before .before in
-    let beyond = not-true _ (c .if3 .taken) in
-    (struck-stops (struck (done o)) (o .before .before .plate-run2 .ensures .0) beyond, λ e. absurd (true≢false (sym e ∙ beyond)))
+    let t = struck (done o) in
+    let beyond = not-true _ (c .if3 .taken) in (
+      struck-stops t (omega arith) (omega (arith, struck-ends t .some)) (o .before .before .plate-point .ensures .0) beyond,
+      λ e. absurd (true≢false (sym e ∙ beyond)),
+    )
 
 -- its answer, once it was looked at
 abbrev looked : tie.After-struct-known3 Inv-loop μ-loop → tie.After-out2 Inv-loop μ-loop
@@ -114,19 +121,26 @@ add-inexact : tie.Need-add-inexact Inv-loop μ-loop
 add-inexact c =
     let o = looked c in
     let t = struck (done o) in
-    let most = struck-most t (o .before .before .plate-run2 .ensures .0) (not-false _ (c .before .if3 .left)) in
+    let most = struck-most t (omega arith) (omega (arith, struck-ends t .some)) (o .before .before .plate-point .ensures .0)
+    (not-false _ (c .before .if3 .left)) in
     let last = run-inside (struck-moves t) (struck-some t) in
-    record { fits = omega (arith, most, last, few-points (ready (done o) .planned)) }
+    record { fits = omega (arith, most, last, struck-ends t .some, few-points (ready (done o) .planned)) }
+
+add-at : tie.Need-add-at Inv-loop μ-loop
+add-at c =
+    let t = struck (done (looked c)) in
+    let last = run-inside (struck-moves t) (struck-some t) in
+    record { fits = omega (arith, last, struck-ends t .some, few-points (ready (done (looked c)) .planned)) }
 
 loop-less : tie.Need-loop-less Inv-loop μ-loop
-loop-less c = let e = struck-ends (struck (done (looked c))) in omega (arith, e .some, e .upto)
+loop-less c = omega (arith, struck (done (looked c)) .more)
 
 loop-again : tie.Need-loop-again Inv-loop μ-loop
 loop-again c =
     let o = looked c in
-    let p = o .before .before .plate-run2 .ensures in
-    let within = not-false _ (c .before .if3 .left) in
-    (struck-on (struck (done o)) (p .0) within, p .1 within, search needs)
+    let t = struck (done o) in
+    let p = o .before .before .plate-point .ensures in
+    (struck-on t (omega arith) (omega (arith, struck-ends t .some)) (p .0) (not-false _ (c .before .if3 .left)), p .1, search needs)
 
 same-length-5 : tie.Need-same-length-5 Inv-loop μ-loop
 same-length-5 c = c .before .before .loop .inv .2
@@ -156,11 +170,12 @@ struck-row-spec =
     returns
     loop-holds
     stretch-at-requires
-    plate-run-requires-2
+    plate-point-requires
     same-length-3
     same-length-4
     returns-2
     add-inexact
+    add-at
     loop-less
     loop-again
     same-length-5
