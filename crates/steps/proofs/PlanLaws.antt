@@ -6,7 +6,7 @@ use native.Mathlib.Omega.{arith}
 use lib.IntN.{ℤ, pos, natAbs, _-ℤ_, _*ℤ_}
 use mir.Syntax.{w64}
 use mir.Val.{toZ, ofZ}
-use Rattle.integers.proofs.Ring.{#_, _⊕_, _⊖_, _⊗_, _≈_, ring}
+use Rattle.integers.proofs.Ring.{#_, _⊗_, _≈_, ring}
 use Rattle.integers.proofs.Order.{pos-inj}
 use Rattle.integers.proofs.Size.{size-mul, size-less}
 use Rattle.bounded.proofs.Num.{given}

@@ -1,7 +1,6 @@
 -- `force_at` meets its contract: the force of the hit at its point, read back as it was stored.
 use mathlib.Core.Path.{_≡_, sym, ap, _∙_}
 use borrow.Author.Needs.{needs}
-use lib.IntN.{ℤ}
 use mir.Syntax.{w64}
 use mir.ValLaws.{toZ-ofZ}
 use Rattle.types.specs.declared.Hit.{Hit}

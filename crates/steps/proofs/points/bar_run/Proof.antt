@@ -9,7 +9,7 @@ use lib.ListN.{length}
 use mir.Syntax.{w64}
 use mir.Val.{toZ, ofZ}
 use Rattle.bounded.proofs.Num.{back}
-use Rattle.bounded.proofs.Expr.{E, _⊞_, fits, is, red}
+use Rattle.bounded.proofs.Expr.{E, _⊞_, fits, is}
 use Rattle.scheme.specs.Instruments.{bar, kind}
 use Rattle.plans.specs.Plans.{countOf}
 use Rattle.scheme.specs.Lists.{point}
