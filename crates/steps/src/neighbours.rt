@@ -31,7 +31,7 @@ pub(crate) fn sum_at(xs: &[i64], k: usize) -> i64
     if k == 0 {
         return 0;
     }
-    if k + 1 == xs.len() {
+    if k == xs.len() - 1 {
         return 0;
     }
     sum_beside(xs, k)

@@ -2,8 +2,10 @@
 use mathlib.Core.Path.{_≡_, sym, ap, _∙_}
 use mathlib.Core.Bool.{Bool, cond}
 use mathlib.Core.Logic.{inl, inr}
+use native.Mathlib.Omega.{arith}
 use borrow.Author.Needs.{needs}
 use borrow.Author.Tests.{ne-eqb}
+use Prim.Native.Nat.{_+_}
 use lib.IntN.{pos}
 use lib.ListN.{length}
 use Rattle.bounded.proofs.Num.{back}
@@ -22,11 +24,14 @@ value c e = sym (ap (λ (t : Bool). cond t (pos 0) (twoBeside (c .args .xs .now)
 returns : tie.Need-returns
 returns c = value (c .before) (at-edge _ _ (inl (c .if1 .taken)))
 
-add-if2 : tie.Need-add-if2
-add-if2 c = search needs
+sub-if2 : tie.Need-sub-if2
+sub-if2 c = omega (arith, c .before .pre)
 
 returns-2 : tie.Need-returns-2
-returns-2 c = value (c .before .before) (at-edge _ _ (inr (c .if2 .taken)))
+returns-2 c =
+    let s = c .before .before in
+    let last : s .args .k + 1 ≡ length (s .args .xs .now) = omega (arith, c .if2 .taken, s .pre) in
+    value s (at-edge _ _ (inr last))
 
 sum-beside-requires : tie.Need-sum-beside-requires
 sum-beside-requires c κs = search needs
@@ -34,8 +39,9 @@ sum-beside-requires c κs = search needs
 returns-3 : tie.Need-returns-3
 returns-3 c =
     let s = c .before .before .before in
+    let inner : s .args .k + 1 ≡ length (s .args .xs .now) → ⊥ = λ e. c .before .if2 .left (omega (arith, e)) in
     back (c .sum-beside .result) (c .sum-beside .ok) ∙ c .sum-beside .ensures ∙
-    value s (neither-or (ne-eqb _ 0 (c .before .before .if1 .left)) (ne-eqb _ _ (c .before .if2 .left)))
+    value s (neither-or (ne-eqb _ 0 (c .before .before .if1 .left)) (ne-eqb _ _ inner))
 
 pub sum-at-spec : {M : Type 1} → statement M
-sum-at-spec = tie.close (tie.spec returns add-if2 returns-2 sum-beside-requires returns-3)
+sum-at-spec = tie.close (tie.spec returns sub-if2 returns-2 sum-beside-requires returns-3)
