@@ -43,14 +43,17 @@ module _ (c : tie.After-piece-at Inv-loop μ-loop) where
   is-piece = c .piece-at .ensures
 
   -- by its own end
-  is : x ≡ record { from = loop .loop .at; to = x .to; force = pos 0; base = baseOf (s .args .in-place) (loop .loop .at); write = s .args .write }
-  is = is-piece ∙ ap (λ (n : ℕ). record {
+  abbrev ending : ℕ → Stretch
+  ending n = record {
     from = loop .loop .at;
     to = n;
     force = pos 0;
     base = baseOf (s .args .in-place) (loop .loop .at);
     write = s .args .write;
-  }) (sym (ap (λ (x : Stretch). x .to) is-piece))
+  }
+
+  is : x ≡ ending (x .to)
+  is = is-piece ∙ ap (λ (n : ℕ). ending n) (sym (ap (λ (x : Stretch). x .to) is-piece))
 
   ends : PieceEnds (s .args .in-place) (loop .loop .at) (s .args .to) (x .to)
   ends = subst (λ (x : Stretch). PieceEnds (s .args .in-place) (loop .loop .at) (s .args .to) (x .to)) (sym is-piece)

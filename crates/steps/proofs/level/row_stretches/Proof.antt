@@ -10,8 +10,8 @@ use Rattle.steps.specs.declared.progress.Progress.{Progress}
 use Rattle.steps.specs.Run.{nextOf, Advanced}
 use Rattle.steps.proofs.PlanLaws.{few-points}
 use Rattle.steps.proofs.FillLaws.{Running, running-start, running-done}
-use Rattle.steps.proofs.HitLaws.{Struck, struck-ends, struck-ready, struck-placed, struck-moves, struck-some, struck-on, struck-most, struck-stops}
-use Rattle.steps.proofs.HitLaws.{struck-from, run-inside}
+use Rattle.steps.proofs.HitLaws.{Struck, struck-ends, struck-ready, struck-placed, struck-moves, struck-some, struck-on}
+use Rattle.steps.proofs.HitLaws.{struck-most, struck-stops, struck-from, run-inside}
 use Rattle.steps.proofs.level.row_stretches.Statement.{statement}
 use Rattle.steps.proofs.level.row_stretches.Tie as tie
 
@@ -66,7 +66,8 @@ same-length c = search needs
 returns : tie.Need-returns Inv-loop μ-loop
 returns c =
     let o = c .before .before in
-    struck-stops (struck (done o)) (struck-ends (struck (done o)) .some) (omega arith) (ran (done o) (o .before .points-run .ensures)) (not-true _ (c .if2 .taken))
+    let t = struck (done o) in
+    struck-stops t (struck-ends t .some) (omega arith) (ran (done o) (o .before .points-run .ensures)) (not-true _ (c .if2 .taken))
 
 -- its answer, once it was looked at
 abbrev looked : tie.After-struct-known3 Inv-loop μ-loop → tie.After-out Inv-loop μ-loop
@@ -77,7 +78,8 @@ add-inexact c =
     let o = looked c in
     let t = struck (done o) in
     let r = s (done o) .pre .0 .0 in
-    let most = struck-most t (struck-ends t .some) (omega arith) (ran (done o) (o .before .points-run .ensures)) (not-false _ (c .before .if2 .left)) in
+    let most = struck-most t (struck-ends t .some) (omega arith) (ran (done o) (o .before .points-run .ensures))
+    (not-false _ (c .before .if2 .left)) in
     let last = run-inside (struck-moves t) (struck-some t) in
     record { fits = omega (arith, most, last, few-points (r .planned)) }
 

@@ -16,9 +16,9 @@ use Rattle.steps.specs.Pass.{Passable}
 use Rattle.steps.proofs.PlanLaws.{few-rows, few-points}
 use Rattle.steps.proofs.HitLaws.{no-force}
 use Rattle.steps.proofs.RowLaws.{steppable-ready}
-use Rattle.steps.proofs.PlateRowLaws.{PlateRows, some-columns, some-rows, few-columns, three-rows, plate-start, in-level, moving-ready}
-use Rattle.steps.proofs.PlateRowLaws.{moving-placed, moving-inside, moving-row, moving-sums, plate-stops, plate-most, plate-next}
-use Rattle.steps.proofs.PlateRowLaws.{plate-done}
+use Rattle.steps.proofs.PlateRowLaws.{PlateRows, some-columns, some-rows, few-columns, three-rows, plate-start, in-level}
+use Rattle.steps.proofs.PlateRowLaws.{moving-ready, moving-placed, moving-inside, moving-row, moving-sums, plate-stops}
+use Rattle.steps.proofs.PlateRowLaws.{plate-most, plate-next, plate-done}
 use Rattle.steps.proofs.plates.plate_level.Statement.{statement}
 use Rattle.steps.proofs.plates.plate_level.Tie as tie
 
