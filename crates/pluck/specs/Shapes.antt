@@ -14,7 +14,7 @@ pub record Shaped (s : Shape) : Type 0 where
   pub starts : s.run.from ≤ s.centre
   pub ends : s.centre < s.run.to
 
--- "A moving point at distance d ≤ w gets ..; the others get 0": on a line, whose moving points are one run (`Shape-is`)
+-- "A moving point at distance d ≤ w gets ..; the others get 0": on a line, whose moving points are one run (`shape_is`)
 unfoldable pub shape_at : (table : List ℕ) → Shape → ℕ → ℤ
 shape_at table s i =
     let d = distance_from s.centre i in
