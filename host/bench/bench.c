@@ -13,36 +13,33 @@
 /* A level has room to spare, so that point k of one does not lie a multiple of 4 KB from point k of another. */
 enum { ROOM = 4096 + 40, PLACES = 64, ROUNDS = 40, THREE_LEVELS = 4, ENGINES, CALLS_COUNTED = 20 };
 
-/* Every call that an engine has beside its two blocks. */
-#define CALLS(of) of(ask) of(commit) of(withdraw) of(pluck) of(pluck_with) of(reading) of(sheet)
+extern __typeof__(buvcsolta_block) gcc_block, clang_block, reciprocal_block;
+extern __typeof__(buvcsolta_block_in_place) gcc_block_in_place, clang_block_in_place;
+extern __typeof__(buvcsolta_pluck) gcc_pluck, clang_pluck;
+extern __typeof__(buvcsolta_pluck_with) gcc_pluck_with, clang_pluck_with;
+extern __typeof__(buvcsolta_reading) gcc_reading, clang_reading;
+extern __typeof__(buvcsolta_sheet) gcc_sheet, clang_sheet;
 
-#define BY_BOTH(name) extern __typeof__(buvcsolta_abi_##name) gcc_##name, clang_##name;
-CALLS(BY_BOTH)
-BY_BOTH(block)
-BY_BOTH(block_in_place)
-extern __typeof__(buvcsolta_abi_block) reciprocal_block;
-
-#define MEMBER(name) __typeof__(buvcsolta_abi_##name) *name;
 struct engine {
     const char *name;
-    MEMBER(block)
-    MEMBER(block_in_place)
-    CALLS(MEMBER)
+    __typeof__(buvcsolta_block) *block;
+    __typeof__(buvcsolta_block_in_place) *block_in_place;
+    __typeof__(buvcsolta_pluck) *pluck;
+    __typeof__(buvcsolta_pluck_with) *pluck_with;
+    __typeof__(buvcsolta_reading) *reading;
+    __typeof__(buvcsolta_sheet) *sheet;
 };
 
-#define PROVED(name) , buvcsolta_abi_##name
-#define BY_GCC(name) , gcc_##name
-#define BY_CLANG(name) , clang_##name
 static const struct engine engines[ENGINES] = {
-    {"proved", buvcsolta_abi_block, buvcsolta_abi_block_in_place CALLS(PROVED)},
-    {"gcc", gcc_block, gcc_block_in_place CALLS(BY_GCC)},
+    {"proved", buvcsolta_block, buvcsolta_block_in_place, buvcsolta_pluck, buvcsolta_pluck_with, buvcsolta_reading, buvcsolta_sheet},
+    {"gcc", gcc_block, gcc_block_in_place, gcc_pluck, gcc_pluck_with, gcc_reading, gcc_sheet},
 #ifdef WITH_CLANG
-    {"clang", clang_block, clang_block_in_place CALLS(BY_CLANG)},
+    {"clang", clang_block, clang_block_in_place, clang_pluck, clang_pluck_with, clang_reading, clang_sheet},
 #else
-    {.name = NULL},
+    {0},
 #endif
-    {.name = "reciprocal", .block = reciprocal_block},
-    {.name = "three levels", .block = buvcsolta_abi_block}, /* of rows in place */
+    {"reciprocal", reciprocal_block, 0, 0, 0, 0, 0},
+    {"three levels", buvcsolta_block, 0, 0, 0, 0, 0}, /* of rows in place */
 };
 
 /* What an engine is lent and what it leaves. */
@@ -52,8 +49,6 @@ struct state {
     size_t steps;
     uint64_t refusal, inexact, q, m, s;
     double value;
-    uint64_t held;
-    buvcsolta_hit held_hit;
 };
 
 static struct state states[ENGINES];
@@ -68,92 +63,50 @@ struct row {
     size_t size;
 };
 
-static buvcsolta_voice voice_of(const struct row *r)
+static struct buvcsolta_instrument instrument_of(const struct row *r)
 {
     static const uint64_t q[] = {0, 60000, 60000, 60000, 20000, 30000, 30000, 20000}, m[] = {0, 0, 0, 0, 9000, 0, 0, 1500};
-    buvcsolta_voice v = {.grid = {r->kind, r->size, r->kind >= 5 ? r->size : 1}, .settings = {q[r->kind], m[r->kind], 3}};
-    return v;
+    struct buvcsolta_instrument i = {r->kind, r->size, r->kind >= 5 ? r->size : 1, q[r->kind], m[r->kind], 3};
+    return i;
 }
 
-static size_t middle(buvcsolta_grid g)
+static size_t middle(const struct buvcsolta_instrument *i)
 {
-    return g.rows / 2 * g.columns + g.columns / 2;
+    return i->rows / 2 * i->columns + i->columns / 2;
 }
 
-/* What a state holds before a call. */
-static void hold(struct state *x, uint64_t held, size_t point, int64_t force)
+static void some_steps(const struct engine *e, struct state *x, const struct row *r, size_t places, int is_in_place, int64_t force)
 {
-    x->held = held;
-    x->held_hit.point = point;
-    x->held_hit.force = force;
-}
-
-/* A block with a hit in the middle: given to it, or committed before. */
-static void some_steps(const struct engine *e, struct state *x, const struct row *r, size_t places, int is_in_place, int is_committed,
-                       int64_t force)
-{
-    buvcsolta_voice v = voice_of(r);
-    size_t n = v.grid.columns * v.grid.rows, at = middle(v.grid);
+    struct buvcsolta_instrument i = instrument_of(r);
+    size_t n = i.columns * i.rows, at = middle(&i);
     uint64_t inexact;
-    hold(x, is_committed ? BUVCSOLTA_HELD_COMMITTED : BUVCSOLTA_HELD_NONE, is_committed ? at : 0, is_committed ? force : 0);
     if (is_in_place && e->block_in_place)
-        x->refusal |= e->block_in_place(v.grid.kind, v.grid.columns, v.grid.rows, v.settings.q, v.settings.m, v.settings.s, &x->held,
-                                        &x->held_hit.point, &x->held_hit.force, x->older, n, x->newer, n, x->samples, places, at + 1,
-                                        !is_committed, at, force, &x->steps, &inexact);
+        x->refusal |= e->block_in_place(i.kind, i.columns, i.rows, i.q, i.m, i.s, x->older, n, x->newer, n, x->samples, places, at + 1, 1,
+                                        at, force, &x->steps, &inexact);
     else
-        x->refusal |= e->block(v.grid.kind, v.grid.columns, v.grid.rows, v.settings.q, v.settings.m, v.settings.s, &x->held,
-                               &x->held_hit.point, &x->held_hit.force, x->older, n, x->newer, n, x->work, n, x->samples, places, at + 1,
-                               !is_committed, at, force, &x->steps, &inexact);
+        x->refusal |= e->block(i.kind, i.columns, i.rows, i.q, i.m, i.s, x->older, n, x->newer, n, x->work, n, x->samples, places, at + 1,
+                               1, at, force, &x->steps, &inexact);
     x->inexact += inexact;
 }
 
 static void long_block(const struct engine *e, struct state *x, const struct row *r, int64_t force)
 {
-    some_steps(e, x, r, PLACES, 0, 0, force);
+    some_steps(e, x, r, PLACES, 0, force);
 }
 
 static void short_block(const struct engine *e, struct state *x, const struct row *r, int64_t force)
 {
-    some_steps(e, x, r, 1, 0, 0, force);
+    some_steps(e, x, r, 1, 0, force);
 }
 
 static void long_block_in_place(const struct engine *e, struct state *x, const struct row *r, int64_t force)
 {
-    some_steps(e, x, r, PLACES, 1, 0, force);
+    some_steps(e, x, r, PLACES, 1, force);
 }
 
 static void short_block_in_place(const struct engine *e, struct state *x, const struct row *r, int64_t force)
 {
-    some_steps(e, x, r, 1, 1, 0, force);
-}
-
-static void committed_block(const struct engine *e, struct state *x, const struct row *r, int64_t force)
-{
-    some_steps(e, x, r, 1, 0, 1, force);
-}
-
-static void committed_block_in_place(const struct engine *e, struct state *x, const struct row *r, int64_t force)
-{
-    some_steps(e, x, r, 1, 1, 1, force);
-}
-
-static void ask(const struct engine *e, struct state *x, const struct row *r, int64_t force)
-{
-    buvcsolta_voice v = voice_of(r);
-    hold(x, BUVCSOLTA_HELD_NONE, 0, 0);
-    x->refusal |= e->ask(v.grid.kind, v.grid.columns, v.grid.rows, &x->held, &x->held_hit.point, &x->held_hit.force, middle(v.grid), force);
-}
-
-static void commit(const struct engine *e, struct state *x, const struct row *r, int64_t force)
-{
-    hold(x, BUVCSOLTA_HELD_ASKED, r->size / 2, force);
-    x->refusal |= e->commit(&x->held, &x->held_hit.point, &x->held_hit.force);
-}
-
-static void withdraw(const struct engine *e, struct state *x, const struct row *r, int64_t force)
-{
-    hold(x, BUVCSOLTA_HELD_COMMITTED, r->size / 2, force);
-    x->refusal |= e->withdraw(&x->held, &x->held_hit.point, &x->held_hit.force);
+    some_steps(e, x, r, 1, 1, force);
 }
 
 static void pluck(const struct engine *e, struct state *x, const struct row *r, int64_t force)
@@ -169,16 +122,16 @@ static void pluck_with(const struct engine *e, struct state *x, const struct row
 
 static void reading(const struct engine *e, struct state *x, const struct row *r, int64_t force)
 {
-    buvcsolta_grid g = voice_of(r).grid;
-    x->newer[middle(g)] = force;
-    x->refusal |= e->reading(g.kind, g.columns, g.rows, x->newer, g.columns * g.rows, middle(g), &x->value);
+    struct buvcsolta_instrument i = instrument_of(r);
+    x->newer[middle(&i)] = force;
+    x->refusal |= e->reading(i.kind, i.columns, i.rows, x->newer, i.columns * i.rows, middle(&i), &x->value);
 }
 
 static void sheet(const struct engine *e, struct state *x, const struct row *r, int64_t force)
 {
-    buvcsolta_grid g = voice_of(r).grid;
+    struct buvcsolta_instrument i = instrument_of(r);
     double speed = force < 0 ? 100 : 101;
-    x->refusal |= e->sheet(g.kind, g.columns, g.rows, 48000, 1, 0, g.kind >= 5, speed, 1, g.kind >= 5, 6, &x->q, &x->m, &x->s);
+    x->refusal |= e->sheet(i.kind, i.columns, i.rows, 48000, 1, 0, i.kind >= 5, speed, 1, i.kind >= 5, 6, &x->q, &x->m, &x->s);
 }
 
 static const struct row rows[] = {
@@ -194,10 +147,6 @@ static const struct row rows[] = {
     {"block of one step, membrane", short_block, 5, 8}, {"block of one step, membrane", short_block, 5, 64},
     {"block of one step, round membrane", short_block, 6, 8}, {"block of one step, round membrane", short_block, 6, 64},
     {"block of one step, plate", short_block, 7, 8}, {"block of one step, plate", short_block, 7, 64},
-    {"block of one step, string, committed hit", committed_block, 1, 32},
-    {"block of one step, round membrane, committed hit", committed_block, 6, 64},
-    {"ask, string", ask, 1, 32}, {"ask, string", ask, 1, 1024}, {"ask, round membrane", ask, 6, 64}, {"ask, plate", ask, 7, 64},
-    {"commit", commit, 1, 32}, {"withdraw", withdraw, 1, 32},
     {"pluck", pluck, 1, 32}, {"pluck", pluck, 1, 1024},
     {"pluck by a lent table", pluck_with, 1, 32}, {"pluck by a lent table", pluck_with, 1, 1024},
     {"reading, string", reading, 1, 32}, {"reading, string", reading, 1, 1024}, {"reading, round membrane", reading, 6, 64},
@@ -208,19 +157,19 @@ enum { ROW_COUNT = sizeof rows / sizeof *rows };
 
 static int is_block(const struct row *r)
 {
-    return r->call == long_block || r->call == short_block || r->call == committed_block;
+    return r->call == long_block || r->call == short_block;
 }
 
 static int is_in_place(const struct row *r)
 {
-    return r->call == long_block_in_place || r->call == short_block_in_place || r->call == committed_block_in_place;
+    return r->call == long_block_in_place || r->call == short_block_in_place;
 }
 
 /* The row of a block in place. */
 static struct row in_place(const struct row *r)
 {
     struct row other = *r;
-    other.call = r->call == long_block ? long_block_in_place : r->call == short_block ? short_block_in_place : committed_block_in_place;
+    other.call = r->call == long_block ? long_block_in_place : short_block_in_place;
     return other;
 }
 
@@ -248,11 +197,11 @@ static int64_t arch(int64_t size, int64_t k)
 }
 
 /* A smooth shape as high as half the ceiling, 0 at the fixed points. */
-static int64_t loud(buvcsolta_grid g, size_t point)
+static int64_t loud(const struct buvcsolta_instrument *i, size_t point)
 {
-    int64_t size = (int64_t)g.columns - 1, whole = size * size;
-    int64_t a = arch(size, (int64_t)(point % g.columns)), b = g.rows == 1 ? whole : arch(size, (int64_t)(point / g.columns));
-    if (g.kind == 6) {
+    int64_t size = (int64_t)i->columns - 1, whole = size * size;
+    int64_t a = arch(size, (int64_t)(point % i->columns)), b = i->rows == 1 ? whole : arch(size, (int64_t)(point / i->columns));
+    if (i->kind == 6) {
         a = a + b > whole ? a + b - whole : 0;
         b = whole;
     }
@@ -262,11 +211,11 @@ static int64_t loud(buvcsolta_grid g, size_t point)
 /* All engines in the same loud state, so that no step is known beforehand to stay within the ceiling. */
 static void start(const struct row *r)
 {
-    buvcsolta_grid g = voice_of(r).grid;
+    struct buvcsolta_instrument i = instrument_of(r);
     memset(states, 0, sizeof states);
     memset(double_levels, 0, sizeof double_levels);
-    for (size_t k = 0; k < g.columns * g.rows; k++) {
-        states[0].older[k] = states[0].newer[k] = loud(g, k);
+    for (size_t k = 0; k < i.columns * i.rows; k++) {
+        states[0].older[k] = states[0].newer[k] = loud(&i, k);
         double_levels[0][k] = double_levels[1][k] = (double)states[0].newer[k];
     }
     for (int which = 1; which < ENGINES; which++)
@@ -278,11 +227,11 @@ static void start(const struct row *r)
 /* Calls of one row by one engine. The force changes its sign from call to call, so that a free string stays in its place. */
 __attribute__((noinline, noclone)) void counted(const struct row *r, int which, size_t calls)
 {
-    buvcsolta_voice v = voice_of(r);
+    struct buvcsolta_instrument i = instrument_of(r);
     int64_t force = INT64_C(1) << 34;
     for (size_t k = 0; k < calls; k++, force = -force) {
         if (which == ENGINES)
-            double_block(&v, doubles, double_samples, PLACES, middle(v.grid) + 1, middle(v.grid), (double)force);
+            double_block(&i, doubles, double_samples, PLACES, middle(&i) + 1, middle(&i), (double)force);
         else
             r->call(&engines[which], &states[which], r, force);
     }

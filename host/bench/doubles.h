@@ -5,6 +5,7 @@
 #include "buvcsolta.h"
 
 /* One block. The three levels change their roles from step to step: levels[0] is older, levels[1] newer. */
-void double_block(const buvcsolta_voice *v, double *levels[3], float *samples, size_t places, size_t pick_up, size_t hit, double force);
+void double_block(const struct buvcsolta_instrument *i, double *levels[3], float *samples, size_t places, size_t pick_up, size_t hit,
+                  double force);
 
 #endif

@@ -1,9 +1,10 @@
-/* The functions of buvcsolta_abi.h in plain C, as fast as we could write them: the same arguments, refusals and results. A compiler's copy
- * of them has that compiler's PREFIX. */
+/* The calls of buvcsolta.h in plain C, as fast as we could write them: the same arguments, refusals and results. A compiler's copy of
+ * them has that compiler's PREFIX. */
 #ifndef PLAIN_H
 #define PLAIN_H
 
-#include "buvcsolta.h"
+#include <stddef.h>
+#include <stdint.h>
 
 #ifndef PREFIX
 #define PREFIX plain_

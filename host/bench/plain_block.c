@@ -159,31 +159,10 @@ static uint64_t settings_refusal(uint64_t kind, uint64_t q, uint64_t m, uint64_t
     return is_stable(kind, q, m) ? 0 : 5;
 }
 
-/* The hits of a block: the one given, and the one that its record holds. */
-struct hits {
-    int is_given, is_asked, is_committed;
-    size_t point, held_point;
-    int64_t force, held_force;
-};
-
-static inline struct hits hits_of(uint64_t held, size_t held_point, int64_t held_force, uint64_t hit, size_t point, int64_t force)
-{
-    struct hits h = {hit != 0, held == 1, held == 2, point, held_point, force, held_force};
-    return h;
-}
-
-/* 7 and 8 of the hit given and of a committed one. */
-static inline uint64_t hits_refusal(const struct plan *x, struct hits h)
-{
-    if ((h.is_given && !is_moving(&x->edges, x->columns, x->rows, h.point))
-        || (h.is_committed && !is_moving(&x->edges, x->columns, x->rows, h.held_point)))
-        return 7;
-    return (h.is_given && passes(h.force, CEILING) < 0) || (h.is_committed && passes(h.held_force, CEILING) < 0) ? 8 : 0;
-}
-
 /* What refuses a block before its first step, and its plan where 1 to 5 let it pass. */
 static inline uint64_t refusal_of(struct plan *x, uint64_t kind, size_t columns, size_t rows, uint64_t q, uint64_t m, uint64_t s,
-                                  int has_lengths, const int64_t *older, const int64_t *newer, size_t pick_up, struct hits h)
+                                  int has_lengths, const int64_t *older, const int64_t *newer, size_t pick_up, int is_hit, size_t point,
+                                  int64_t force)
 {
     size_t points = columns * rows;
     uint64_t refusal = grid_refusal(kind, 7, columns, rows);
@@ -194,13 +173,12 @@ static inline uint64_t refusal_of(struct plan *x, uint64_t kind, size_t columns,
     make_plan(x, kind, columns, rows, (int64_t)q, (int64_t)m, (int64_t)s);
     if (!has_lengths)
         return 6;
-    refusal = hits_refusal(x, h);
-    if (refusal)
-        return refusal;
+    if (is_hit && !is_moving(&x->edges, columns, rows, point))
+        return 7;
+    if (is_hit && passes(force, CEILING) < 0)
+        return 8;
     if (pick_up >= points)
         return 9;
-    if (h.is_given && (h.is_asked || h.is_committed))
-        return 15;
     if (some_beyond(older, points) || some_beyond(newer, points))
         return 11;
     if (some_fixed_not_zero(&x->edges, columns, rows, older) || some_fixed_not_zero(&x->edges, columns, rows, newer))
@@ -208,23 +186,7 @@ static inline uint64_t refusal_of(struct plan *x, uint64_t kind, size_t columns,
     return 0;
 }
 
-/* The steps of a block that nothing refuses: the hit given acts, else the committed one. A step done clears what is held, but for an asked
- * hit. */
-static inline size_t play_held(const struct plan *x, int is_in_place, int64_t *levels[3], int16_t *samples, size_t places, size_t pick_up,
-                               struct hits h, uint64_t *held, size_t *held_point, int64_t *held_force, uint64_t *inexact)
-{
-    size_t steps = play(x, is_in_place, levels, samples, places, pick_up, h.is_given | h.is_committed,
-                        h.is_given ? h.point : h.held_point, h.is_given ? h.force : h.held_force, inexact);
-    if (steps > 0 && !h.is_asked) {
-        *held = 0;
-        *held_point = 0;
-        *held_force = 0;
-    }
-    return steps;
-}
-
 uint64_t PLAIN(block)(uint64_t kind, size_t columns, size_t rows, uint64_t q, uint64_t m, uint64_t s,
-                      uint64_t *held, size_t *held_point, int64_t *held_force,
                       int64_t *older, size_t older_length, int64_t *newer, size_t newer_length,
                       int64_t *work, size_t work_length, int16_t *samples, size_t samples_length,
                       size_t pick_up, uint64_t hit, size_t point, int64_t force, size_t *steps, uint64_t *inexact)
@@ -232,36 +194,33 @@ uint64_t PLAIN(block)(uint64_t kind, size_t columns, size_t rows, uint64_t q, ui
     int64_t *levels[3] = {older, newer, work};
     size_t points = columns * rows;
     int has_lengths = older_length == points && newer_length == points && work_length == points;
-    struct hits h = hits_of(*held, *held_point, *held_force, hit, point, force);
     struct plan x;
-    uint64_t refusal = refusal_of(&x, kind, columns, rows, q, m, s, has_lengths, older, newer, pick_up, h);
+    uint64_t refusal = refusal_of(&x, kind, columns, rows, q, m, s, has_lengths, older, newer, pick_up, hit != 0, point, force);
     *steps = 0;
     *inexact = 0;
     if (refusal)
         return refusal;
     memset(work, 0, points * sizeof *work);
-    *steps = play_held(&x, 0, levels, samples, samples_length, pick_up, h, held, held_point, held_force, inexact);
+    *steps = play(&x, 0, levels, samples, samples_length, pick_up, hit != 0, point, force, inexact);
     settle(levels, older, newer, work, points * sizeof *work);
     return *steps < samples_length ? 13 : 0;
 }
 
 uint64_t PLAIN(block_in_place)(uint64_t kind, size_t columns, size_t rows, uint64_t q, uint64_t m, uint64_t s,
-                               uint64_t *held, size_t *held_point, int64_t *held_force,
                                int64_t *older, size_t older_length, int64_t *newer, size_t newer_length,
                                int16_t *samples, size_t samples_length,
                                size_t pick_up, uint64_t hit, size_t point, int64_t force, size_t *steps, uint64_t *inexact)
 {
     int64_t *levels[3] = {older, newer, NULL};
     size_t points = columns * rows;
-    struct hits h = hits_of(*held, *held_point, *held_force, hit, point, force);
     struct plan x;
     uint64_t refusal = refusal_of(&x, kind, columns, rows, q, m, s, older_length == points && newer_length == points, older, newer,
-                                  pick_up, h);
+                                  pick_up, hit != 0, point, force);
     *steps = 0;
     *inexact = 0;
     if (refusal)
         return refusal;
-    *steps = play_held(&x, 1, levels, samples, samples_length, pick_up, h, held, held_point, held_force, inexact);
+    *steps = play(&x, 1, levels, samples, samples_length, pick_up, hit != 0, point, force, inexact);
     if (levels[1] == older)
         exchange(older, newer, points);
     return *steps < samples_length ? 13 : 0;

@@ -1,4 +1,4 @@
-/* Plucks, a reading and a sheet; asking for a hit, committing and withdrawing it; the version. */
+/* Plucks, a reading and a sheet. */
 #include "plain.h"
 #include "table.h"
 #include <math.h>
@@ -139,59 +139,4 @@ uint64_t PLAIN(sheet)(uint64_t kind, size_t columns, size_t rows, double rate, d
         return 5;
     *q = (uint64_t)a, *m = (uint64_t)b, *s = (uint64_t)c;
     return 0;
-}
-
-/* Whether a point moves, of a grid whose size the table has: without the edges of its other rows. */
-static inline int point_moves(uint64_t kind, size_t columns, size_t rows, size_t point)
-{
-    size_t row = point / columns, column = point % columns;
-    int64_t g = (int64_t)columns - 1, x = 2 * (int64_t)column - g, y = 2 * (int64_t)row - g;
-    if (row >= rows)
-        return 0;
-    if (kind <= 4)
-        return (column > 0 || kind == 3) && (column < columns - 1 || kind == 2 || kind == 3);
-    return kind == 6 ? x * x + y * y < g * g : column - 1 < columns - 2 && row - 1 < rows - 2;
-}
-
-uint64_t PLAIN(ask)(uint64_t kind, size_t columns, size_t rows, uint64_t *held, size_t *held_point, int64_t *held_force, size_t point,
-                    int64_t force)
-{
-    uint64_t refusal = grid_refusal(kind, 7, columns, rows);
-    if (refusal)
-        return refusal;
-    if (!point_moves(kind, columns, rows, point))
-        return 7;
-    if (passes(force, CEILING) < 0)
-        return 8;
-    if (*held - 1 < 2)
-        return 15;
-    *held = 1;
-    *held_point = point;
-    *held_force = force;
-    return 0;
-}
-
-uint64_t PLAIN(commit)(uint64_t *held, size_t *held_point, int64_t *held_force)
-{
-    (void)held_point;
-    (void)held_force;
-    if (*held - 1 >= 2)
-        return 16;
-    *held = 2;
-    return 0;
-}
-
-uint64_t PLAIN(withdraw)(uint64_t *held, size_t *held_point, int64_t *held_force)
-{
-    if (*held - 1 >= 2)
-        return 16;
-    *held = 0;
-    *held_point = 0;
-    *held_force = 0;
-    return 0;
-}
-
-uint64_t PLAIN(version)(void)
-{
-    return BUVCSOLTA_VERSION;
 }

@@ -15,7 +15,6 @@ from arguments import folder, parser_of
 CALLS_COUNTED = 20
 PLAIN = ("gcc", "clang")
 THREE = "three levels"  # whom a row in place has beside it
-COMMITTED = ", committed hit"  # how a row ends whose hit is held by the record; the row without that is given the same hit, none held
 
 # What stands above a table, its first head and its further columns of nanoseconds, by whether its rows are told for a point and step, and
 # whether they are in place.
@@ -83,15 +82,6 @@ def table(rows, first, others, is_in_place, has_counts):
     return ["| " + " | ".join(heads) + " |", "|" + "---|" * len(heads), *rows]
 
 
-def cost_of_holding(told, unit):
-    """A line for each row with a committed hit: what it takes, less what the same call takes with none held and the hit given to it."""
-    for (what, grid, is_in_place), value in told.items():
-        given = told.get((what.removesuffix(COMMITTED), grid, is_in_place))
-        if what.endswith(COMMITTED) and given is not None:
-            name = what.removesuffix(COMMITTED) + (" in place" if is_in_place else "")
-            yield f"- {name}, {grid}: {shown(value)} - {shown(given)} = {value - given:+.{0 if unit == 'instructions' else 1}f} {unit}"
-
-
 def main():
     parser = parser_of(__doc__)
     parser.add_argument("folder", metavar="FOLDER", nargs="?", type=folder)
@@ -108,17 +98,14 @@ def main():
         if len(found) != wanted:
             parser.error(f"{options.folder} has {len(found)} dumps, not {wanted}")
         counts = iter(found)
-    rows, wrong, told = {key: [] for key in TABLES}, [], {}
+    rows, wrong = {key: [] for key in TABLES}, []
     for what, grid, units, same, times in measured:
         counted = {who: next(counts) for who in times} if counts else {}
         key = units > 1, THREE in times
         rows[key].append(row(what, grid, units, times, counted, TABLES[key][2]))
-        told[what, grid, key[1]] = counted["proved"] / CALLS_COUNTED if counted else times["proved"]
         wrong += [] if same == "yes" else [f"{what}, {grid}{' in place' if key[1] else ''}"]
     for key, (above, first, others) in TABLES.items():
         print(above, "", *table(rows[key], first, others, key[1], counts), "", sep="\n")
-    print("A committed hit beside the same hit given, none held, by the proved call:", "",
-          *cost_of_holding(told, "instructions" if counts else "ns"), "", sep="\n")
     print("NOT THE SAME: " + "; ".join(wrong) if wrong else "All left the same levels, samples and results in every row.")
     return 1 if wrong or not all(rows.values()) else 0
 

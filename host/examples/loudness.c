@@ -6,38 +6,36 @@
 
 enum { RATE = 48000, POINTS = 101, CENTRE = 50, QUARTER = 25, HALF_WIDTH = 20 };
 
-static int64_t older[POINTS], newer[POINTS], work_points[POINTS];
-static int16_t heard[RATE];
+static int64_t older[POINTS], newer[POINTS], work[POINTS];
+static int16_t samples[RATE];
 
 /* A cell: the largest sample of a second, its sign dropped, of a string at rest that is plucked, or hit, in its middle. */
-static void cell(buvcsolta_voice *string, int64_t loud, int is_hit, size_t pick_up)
+static void cell(const struct buvcsolta_instrument *string, int64_t loud, int is_hit, size_t pick_up)
 {
-    buvcsolta_levels levels = {older, newer, POINTS};
-    buvcsolta_points work = {work_points, POINTS};
-    buvcsolta_samples samples = {heard, RATE};
-    buvcsolta_hit hit = {CENTRE, loud * BUVCSOLTA_UNITS_PER_SAMPLE};
-    buvcsolta_done done;
-    buvcsolta_answer answer = BUVCSOLTA_OK;
+    struct buvcsolta_levels levels = {older, newer, work, POINTS};
+    struct buvcsolta_hit hit = {CENTRE, loud * BUVCSOLTA_UNITS_PER_SAMPLE};
+    size_t steps;
+    uint64_t refusal = 0, inexact;
     int most = 0;
     memset(older, 0, sizeof older);
     memset(newer, 0, sizeof newer);
     if (!is_hit)
-        answer = buvcsolta_voice_pluck(string, levels, CENTRE, HALF_WIDTH, hit.force);
-    if (answer == BUVCSOLTA_OK)
-        answer = buvcsolta_voice_block(string, levels, work, samples, pick_up, is_hit ? &hit : NULL, &done);
-    if (answer != BUVCSOLTA_OK) {
-        printf(" refused, %d |", (int)answer);
+        refusal = buvcsolta_instrument_pluck(string, &levels, CENTRE, HALF_WIDTH, hit.force);
+    if (!refusal)
+        refusal = buvcsolta_instrument_block(string, &levels, samples, RATE, pick_up, is_hit ? &hit : NULL, &steps, &inexact);
+    if (refusal) {
+        printf(" refused, %d |", (int)refusal);
         return;
     }
     for (size_t k = 0; k < RATE; k++)
-        most = abs(heard[k]) > most ? abs(heard[k]) : most;
+        most = abs(samples[k]) > most ? abs(samples[k]) : most;
     printf(" %d |", most);
 }
 
 int main(void)
 {
     static const int64_t loud[] = {1, 100, 1000, 8000, 16000, 32767};
-    buvcsolta_voice string = {.grid = {BUVCSOLTA_STRING_FIXED, POINTS, 1}, .settings = {11378, 0, 8}};
+    struct buvcsolta_instrument string = {BUVCSOLTA_STRING_FIXED, POINTS, 1, 11378, 0, 8};
     puts("| height or force, sample units | pluck, at its centre | pluck, at a quarter | hit, at its point | hit, at a quarter |");
     puts("|---|---|---|---|---|");
     for (size_t k = 0; k < sizeof loud / sizeof *loud; k++) {

@@ -1,6 +1,6 @@
 /* A second of a plucked string, written to a WAV file: pluck_wav FILE.wav [straight]
  * With `straight` it is plucked by a table of this program. It is played in place, on two levels, for a board without room for a third;
- * with one, buvcsolta_voice_block takes less time. */
+ * with one, buvcsolta_instrument_block takes less time. */
 #include "buvcsolta.h"
 #include <errno.h>
 #include <stdio.h>
@@ -11,11 +11,11 @@ enum { RATE = 48000, POINTS = 101, BLOCK = 64, PICK_UP = 30, HALF_WIDTH = 25, LO
 
 static int64_t older[POINTS], newer[POINTS];
 
-static void check(buvcsolta_answer answer)
+static void check(uint64_t refusal)
 {
-    if (answer == BUVCSOLTA_OK)
+    if (refusal == BUVCSOLTA_NOTHING)
         return;
-    fprintf(stderr, "refused: %s\n", buvcsolta_text(answer));
+    fprintf(stderr, "refused: %s\n", buvcsolta_refusal_text(refusal));
     exit(1);
 }
 
@@ -42,24 +42,23 @@ static void put_header(FILE *file, uint32_t samples)
 }
 
 /* A sharp plectrum: the string is drawn out in two straight lines. */
-static buvcsolta_answer pluck_straight(const buvcsolta_voice *string, buvcsolta_levels levels, int64_t height)
+static uint64_t pluck_straight(const struct buvcsolta_instrument *string, const struct buvcsolta_levels *levels, int64_t height)
 {
-    static uint32_t entries[BUVCSOLTA_TABLE_LENGTH];
-    buvcsolta_table table = {entries, BUVCSOLTA_TABLE_LENGTH};
+    static uint32_t table[BUVCSOLTA_TABLE_LENGTH];
     for (uint32_t j = 0; j < BUVCSOLTA_TABLE_LENGTH; j++)
-        entries[j] = j * BUVCSOLTA_TABLE_END / (BUVCSOLTA_TABLE_LENGTH - 1);
-    return buvcsolta_voice_pluck_with(string, levels, PICK_UP, HALF_WIDTH, height, table);
+        table[j] = j * BUVCSOLTA_TABLE_END / (BUVCSOLTA_TABLE_LENGTH - 1);
+    return buvcsolta_instrument_pluck_with(string, levels, PICK_UP, HALF_WIDTH, height, table, BUVCSOLTA_TABLE_LENGTH);
 }
 
 int main(int argc, char **argv)
 {
-    buvcsolta_voice string = {.grid = {BUVCSOLTA_STRING_FIXED, POINTS, 1}};
-    buvcsolta_sheet sheet = {.rate = RATE, .length = 1.0, .speed = 220.0, .loss = 4.0};
-    buvcsolta_levels levels = {older, newer, POINTS};
+    struct buvcsolta_instrument string = {BUVCSOLTA_STRING_FIXED, POINTS, 1, 0, 0, 0};
+    struct buvcsolta_player_sheet sheet = {.rate = RATE, .length = 1.0, .speed = 220.0, .loss = 4.0};
+    struct buvcsolta_levels levels = {older, newer, NULL, POINTS};
     int64_t height = LOUD * BUVCSOLTA_UNITS_PER_SAMPLE;
-    int16_t heard[BLOCK];
-    buvcsolta_samples samples = {heard, BLOCK};
-    buvcsolta_done done;
+    int16_t samples[BLOCK];
+    size_t steps;
+    uint64_t inexact;
     int straight = argc == 3 && strcmp(argv[2], "straight") == 0;
     FILE *file;
     if (argc != 2 && !straight) {
@@ -69,13 +68,14 @@ int main(int argc, char **argv)
     file = fopen(argv[1], "wb");
     if (!file)
         return no_file(argv[1]);
-    check(buvcsolta_voice_sheet(&string, &sheet));
-    check(straight ? pluck_straight(&string, levels, height) : buvcsolta_voice_pluck(&string, levels, PICK_UP, HALF_WIDTH, height));
+    check(buvcsolta_instrument_sheet(&string, &sheet));
+    check(straight ? pluck_straight(&string, &levels, height)
+                   : buvcsolta_instrument_pluck(&string, &levels, PICK_UP, HALF_WIDTH, height));
     put_header(file, RATE);
-    for (int n = 0; n < RATE; n += BLOCK) {
-        check(buvcsolta_voice_block_in_place(&string, levels, samples, PICK_UP, NULL, &done));
+    for (int done = 0; done < RATE; done += BLOCK) {
+        check(buvcsolta_instrument_block_in_place(&string, &levels, samples, BLOCK, PICK_UP, NULL, &steps, &inexact));
         for (int k = 0; k < BLOCK; k++)
-            put(file, (uint16_t)heard[k], 2);
+            put(file, (uint16_t)samples[k], 2);
     }
     return fflush(file) != 0 || fclose(file) != 0 ? no_file(argv[1]) : 0;
 }

@@ -1,35 +1,26 @@
-"""The nine calls as functions of their arguments and the lent levels.
+"""The six calls as functions of their arguments and the lent levels.
 
 Each gives back its answer and the lent levels, work and samples afterwards; the lists handed over
 are not changed. kind, columns, rows, q, m, s, pick-up, point, centre and half width are whole
 numbers 0..2^64-1; force, height and the points of levels are signed 64-bit, the entries of a lent
 table 0..2^32-1; a level or table may have any length. A refused call gives back what it was lent,
-except for 13. The block in place is in in_place.py, asking, committing and withdrawing a hit in held_hit.py. block_holding and
-block_in_place_holding are the blocks of an instrument that may hold a hit, block and block_in_place those of one that holds none.
+except for 13. The block in place is in in_place.py.
 """
 
 import refusals as r
 import sheet as sheets
-from held_hit import acting_hit, after_steps, ask, commit, held_of, numbers_left, withdraw
-from in_place import block_in_place, block_in_place_holding
+from in_place import block_in_place
 from pluck import T, pluck_level
 from step import one_step, reading as float_reading, sample, sum_held
 
 
 def block(kind, columns, rows, q, m, s, older, newer, work, samples, pick_up, hit):
-    """((steps, inexact, refusal), older, newer, work, samples); hit is None or (point, force), and none is held."""
-    return block_holding(kind, columns, rows, q, m, s, older, newer, work, samples, pick_up, hit, None)[:5]
-
-
-def block_holding(kind, columns, rows, q, m, s, older, newer, work, samples, pick_up, hit, held):
-    """((steps, inexact, refusal), older, newer, work, samples, held); hit is None or (point, force), held None or what is held."""
+    """((steps, inexact, refusal), older, newer, work, samples); hit is None or (point, force)."""
     grid, settings = (kind, columns, rows), (q, m, s)
-    refusal = r.of_block(grid, settings, (older, newer, work), pick_up, hit, held)
+    refusal = r.of_block(grid, settings, (older, newer, work), pick_up, hit)
     if refusal:
-        # "For 1 to 12: zero steps, ... every lent level and sample unchanged."; 15 "returns and leaves what 1 to 12 do".
-        return (0, 0, refusal), older, newer, work, samples, after_steps(held, 0)
-    # "A hit asked and committed sounds as one given directly to the block that does its step".
-    hit = acting_hit(held, hit)
+        # "For 1 to 12: zero steps, ... every lent level and sample unchanged."
+        return (0, 0, refusal), older, newer, work, samples
     # "A block has as many steps as the lent sample buffer has places".
     samples = list(samples)
     steps = inexact = 0
@@ -46,7 +37,7 @@ def block_holding(kind, columns, rows, q, m, s, older, newer, work, samples, pic
         # "A block reports the sum over its steps done".
         inexact = sum_held(inexact, count)
     # "Work is all zeros after 13 and after every accepted block."
-    return (steps, inexact, refusal), older, newer, [0] * len(work), samples, after_steps(held, steps)
+    return (steps, inexact, refusal), older, newer, [0] * len(work), samples
 
 
 def pluck(kind, columns, rows, older, newer, centre, half_width, height):

@@ -24,9 +24,7 @@ import must_fail
 from library import open_library, stand_in, wrong_stand_in
 from run import REFERENCE, Difference, Run
 
-NAMES = ("block", "block_in_place", "ask", "commit", "withdraw", "pluck", "pluck_with", "reading", "sheet")
-# Those of lists, each accepted and refused.
-IN_LISTS = tuple(name + how for name in NAMES[:7] for how in ("", " refused"))
+NAMES = ("block", "block_in_place", "pluck", "pluck_with", "reading", "sheet")
 PROGRESS = 10  # seconds
 
 
@@ -112,11 +110,6 @@ def plucks_by_tables(counts):
     return sum(counts[key] for key in counts if isinstance(key, tuple) and key[0] == "pluck_with")
 
 
-def pairs_of_calls(counts):
-    """How often each ordered pair of calls, accepted or refused, followed each other in lists."""
-    return [counts[f"pair {first}, {second}"] for first in IN_LISTS for second in IN_LISTS]
-
-
 def summary(counts, seconds, jobs):
     total = compared(counts)
     print(f"{total} calls agree, in {seconds:.1f} s with {jobs} jobs: {60 * total / max(seconds, 0.001):.0f} a minute")
@@ -136,17 +129,9 @@ def summary(counts, seconds, jobs):
           f"work alone of a wrong length in {counts['both, work of a wrong length']}")
     print(f"{plucks_by_tables(counts)} plucks by lent tables: {counts['pluck_with', 0]} accepted, {counts['pluck_with', 14]} refused by "
           f"14; {counts['copies of T']} by a copy of T beside the built-in pluck")
-    print(f"{counts['committed, acted']} committed hits acted, {counts['committed, kept']} times one was kept by a block without a step, "
-          f"{counts['committed, withdrawn']} committed and {counts['asked, withdrawn']} asked ones withdrawn; "
-          f"{counts['committed beside direct']} blocks with a committed hit beside the same given directly, "
-          f"{counts['asked beside none']} with an asked one beside none")
-    pairs = pairs_of_calls(counts)
-    print(f"{sum(number > 0 for number in pairs)} of {len(pairs)} ordered pairs of calls, accepted or refused, in lists, "
-          f"each at least {min(pairs)} times")
     print(f"{counts['mirrored lists']} lists also as their mirror image, {counts['mirrored lists with hits']} of them "
-          f"with hits in steps done, {counts['mirrored hits that were committed']} such hits committed, "
-          f"{counts['mirror images ended']} more up to a number without a negative; "
-          f"{counts['mirrored calls']} calls in them: {counts['mirrored, refused']} refused otherwise than by 13, "
+          f"with hits in steps done, {counts['mirror images ended']} more up to a number without a negative; "
+          f"{counts['mirrored calls']} calls in them: {counts['mirrored, refused']} refused by 1 to 12 or 14, "
           f"13 in the first step of {counts['mirrored, 13 first']}, in a later step of {counts['mirrored, 13 later']}, "
           f"{counts['mirrored plucks']} plucks accepted, {counts['mirrored plucks by lent tables']} of them by lent tables")
 

@@ -4,7 +4,6 @@ import math
 import random
 import struct
 
-from held_hit import ASKED, COMMITTED
 from instrument import (CEILING, D, GRID_KINDS, KINDS, LINE_KINDS, RECTANGULAR_KINDS, STABILITY, STIFF_KINDS, fixed_points,
                         moving, moving_set, size_in_table)
 from pluck import cut_toward_zero
@@ -219,13 +218,6 @@ class Draws(random.Random):
 
     def hit(self, grid):
         return None if self.rarely(0.4) else (self.point(grid, True), self.force())
-
-    def held(self, grid):
-        """The three numbers of the held hit: none, asked, committed, or another first number, with which none is held."""
-        state = self.choice((0, 0, 0, ASKED, ASKED, COMMITTED, COMMITTED, COMMITTED, self.choice((3, 7, U64 - 1, self.wild()))))
-        if state in (ASKED, COMMITTED):
-            return state, self.point(grid, True), self.force()
-        return (state, self.wild(), self.wild_signed()) if state or self.rarely(0.2) else (0, 0, 0)
 
     def samples(self, most=8):
         count = self.choice((0, 1, 1, 2, 3, self.randint(0, most), self.randint(0, most)))

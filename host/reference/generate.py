@@ -1,10 +1,10 @@
-"""Vector files for a program that interprets them: calls.txt, sheets.txt, in_place.txt, plucks.txt and held.txt.
+"""Vector files for a program that interprets them: calls.txt, sheets.txt, in_place.txt and plucks.txt.
 
     python3 generate.py DIR          writes them
     python3 generate.py --check DIR  says whether the files there are what it would write
 
 A file is a sequence of decimal numbers, one record per line, ended by 0:
-    1 which length v0 v1 ..   the lent buffer (0 older, 1 newer, 2 work, 3 samples, 4 table, 5 held hit) is now this
+    1 which length v0 v1 ..   the lent buffer (0 older, 1 newer, 2 work, 3 samples, 4 table) is now this
     2 which length v0 v1 ..   the lent buffer must be this now
     3 kind columns rows q m s pickup hit point force steps inexact refusal
     4 kind columns rows centre halfwidth height refusal
@@ -12,19 +12,14 @@ A file is a sequence of decimal numbers, one record per line, ended by 0:
     6 kind columns rows rate length bending speedkind speed1 speed2 losskind loss q m s refusal
     7 kind columns rows q m s pickup hit point force steps inexact refusal
     8 kind columns rows centre halfwidth height refusal
-    9 kind columns rows point force refusal
-    10 refusal
-    11 refusal
 3 is a block with older, newer, work and samples, 7 a block in place without work; 4 is a pluck with older and newer, 8 one by the
-lent table; 9 asks for a hit, 10 commits it, 11 withdraws it. The held hit is always three values, 0 0 0 at the start of a file: 0,
-1 for asked or 2 for committed, point and force. 3, 7, 9, 10 and 11 use and update it.
+lent table.
 """
 
 import sys
 
 from arguments import folder, parser_of
 from call_vectors import call_records
-from held_vectors import held_records
 from in_place_vectors import in_place_records
 from pluck_vectors import pluck_records
 from sheet_vectors import sheet_records
@@ -42,7 +37,7 @@ def main():
     status = 0
     calls = call_records()
     for name, records in (("calls.txt", calls), ("sheets.txt", sheet_records()), ("in_place.txt", in_place_records(calls)),
-                          ("plucks.txt", pluck_records()), ("held.txt", held_records())):
+                          ("plucks.txt", pluck_records())):
         written = text(records).encode("ascii")
         path = options.folder / name
         if not options.check:

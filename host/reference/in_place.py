@@ -1,7 +1,6 @@
 """Request 4: "a block that takes only older and newer". It holds no third level."""
 
 import refusals as r
-from held_hit import acting_hit, after_steps
 from instrument import D, laplacian_at, laplacian_twice_at, moving
 from step import force_at, numerator_of, round_half_away, sample, sum_held
 
@@ -30,18 +29,12 @@ def overwrite(grid, settings, older, newer, hit):
 
 
 def block_in_place(kind, columns, rows, q, m, s, older, newer, samples, pick_up, hit):
-    """((steps, inexact, refusal), older, newer, samples); hit is None or (point, force), and none is held."""
-    return block_in_place_holding(kind, columns, rows, q, m, s, older, newer, samples, pick_up, hit, None)[:4]
-
-
-def block_in_place_holding(kind, columns, rows, q, m, s, older, newer, samples, pick_up, hit, held):
-    """((steps, inexact, refusal), older, newer, samples, held); hit is None or (point, force), held None or what is held."""
+    """((steps, inexact, refusal), older, newer, samples); hit is None or (point, force)."""
     grid, settings = (kind, columns, rows), (q, m, s)
     # "Refusal 6 looks at the two lengths only."
-    refusal = r.of_block(grid, settings, (older, newer), pick_up, hit, held)
+    refusal = r.of_block(grid, settings, (older, newer), pick_up, hit)
     if refusal:
-        return (0, 0, refusal), older, newer, samples, after_steps(held, 0)
-    hit = acting_hit(held, hit)
+        return (0, 0, refusal), older, newer, samples
     older, newer, samples = list(older), list(newer), list(samples)
     steps = inexact = 0
     for place in range(len(samples)):
@@ -56,4 +49,4 @@ def block_in_place_holding(kind, columns, rows, q, m, s, older, newer, samples, 
         samples[place] = sample(newer[pick_up])
         steps += 1
         inexact = sum_held(inexact, count)
-    return (steps, inexact, refusal), older, newer, samples, after_steps(held, steps)
+    return (steps, inexact, refusal), older, newer, samples

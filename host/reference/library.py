@@ -1,12 +1,8 @@
 """The C library through ctypes, the reference in the same form, and stand-ins for the library.
 
-Both sides take the C functions' plain arguments, with buffers as lists and the three numbers of the held hit as one tuple, and
-give back
-    block:          (refusal, steps, inexact, held, older, newer, work, samples)
-    block_in_place: (refusal, steps, inexact, held, older, newer, samples)
-    ask:            (refusal, held)
-    commit:         (refusal, held)
-    withdraw:       (refusal, held)
+Both sides take the C functions' plain arguments, with buffers as lists, and give back
+    block:          (refusal, steps, inexact, older, newer, work, samples)
+    block_in_place: (refusal, steps, inexact, older, newer, samples)
     pluck:          (refusal, older, newer)
     pluck_with:     (refusal, older, newer, table)
     reading:        (refusal, bits of the value, newer)
@@ -26,28 +22,21 @@ from sheet import Sheet
 
 U64, I64, U32, SIZE, F64, PLACE = (ctypes.c_uint64, ctypes.c_int64, ctypes.c_uint32, ctypes.c_size_t, ctypes.c_double,
                                    ctypes.c_void_p)
-# The outer interface whose arguments stand here; a library says its own as major * 10000 + minor * 100 + patch.
-MAJOR = 3
 LEVEL = TABLE = (PLACE, SIZE)
-# The held hit: 0, asked or committed; its point and its force. Each is read and written.
-HELD = (PLACE, PLACE, PLACE)
-INSTRUMENT = (U64, SIZE, SIZE, U64, U64, U64, *HELD)
+INSTRUMENT = (U64, SIZE, SIZE, U64, U64, U64)
 # The samples, the pick-up, the hit with its point and force, the counts of steps and of inexact points.
 PLAYED = (PLACE, SIZE, SIZE, U64, SIZE, I64, PLACE, PLACE)
 PLUCK = (U64, SIZE, SIZE, *LEVEL, *LEVEL, SIZE, SIZE, I64)
 SIGNATURES = {
     "block": (*INSTRUMENT, *LEVEL, *LEVEL, *LEVEL, *PLAYED),
     "block_in_place": (*INSTRUMENT, *LEVEL, *LEVEL, *PLAYED),
-    "ask": (U64, SIZE, SIZE, *HELD, SIZE, I64),
-    "commit": HELD,
-    "withdraw": HELD,
     "pluck": PLUCK,
     "pluck_with": (*PLUCK, *TABLE),
     "reading": (U64, SIZE, SIZE, *LEVEL, SIZE, PLACE),
     "sheet": (U64, SIZE, SIZE, F64, F64, F64, U64, F64, F64, U64, F64, PLACE, PLACE, PLACE),
 }
 GUARD = 21930
-MODULES = ("instrument", "step", "pluck", "sheet", "refusals", "held_hit", "in_place", "calls")
+MODULES = ("instrument", "step", "pluck", "sheet", "refusals", "in_place", "calls")
 
 
 class Overwritten(Exception):
@@ -69,49 +58,25 @@ class Lent:
         return values
 
 
-class LentHit:
-    """The three numbers of the held hit, each between two guards."""
-
-    def __init__(self, held):
-        self.numbers = [Lent(code, [number]) for code, number in zip("QQq", held)]
-        self.places = [number.place for number in self.numbers]
-
-    def values(self):
-        return tuple(number.values()[0] for number in self.numbers)
-
-
 class Library:
-    """The nine functions of a library, given as {name: C function}."""
+    """The six functions of a library, given as {name: C function}."""
 
     def __init__(self, functions):
         self.functions = functions
 
-    def either_block(self, name, instrument, held, levels, samples, rest):
+    def either_block(self, name, instrument, levels, samples, rest):
         """instrument: kind to s; rest: pick-up, hit, point and force."""
-        held = LentHit(held)
         lent = [*(Lent("q", level) for level in levels), Lent("h", samples)]
         steps, inexact = Lent("Q", [GUARD]), Lent("Q", [GUARD])
         places = [number for buffer in lent for number in (buffer.place, buffer.length)]
-        refusal = self.functions[name](*instrument, *held.places, *places, *rest, steps.place, inexact.place)
-        return refusal, steps.values()[0], inexact.values()[0], held.values(), *(buffer.values() for buffer in lent)
+        refusal = self.functions[name](*instrument, *places, *rest, steps.place, inexact.place)
+        return refusal, steps.values()[0], inexact.values()[0], *(buffer.values() for buffer in lent)
 
     def block(self, *arguments):
-        return self.either_block("block", arguments[:6], arguments[6], arguments[7:10], arguments[10], arguments[11:])
+        return self.either_block("block", arguments[:6], arguments[6:9], arguments[9], arguments[10:])
 
     def block_in_place(self, *arguments):
-        return self.either_block("block_in_place", arguments[:6], arguments[6], arguments[7:9], arguments[9], arguments[10:])
-
-    def ask(self, kind, columns, rows, held, point, force):
-        held = LentHit(held)
-        return self.functions["ask"](kind, columns, rows, *held.places, point, force), held.values()
-
-    def commit(self, held):
-        held = LentHit(held)
-        return self.functions["commit"](*held.places), held.values()
-
-    def withdraw(self, held):
-        held = LentHit(held)
-        return self.functions["withdraw"](*held.places), held.values()
+        return self.either_block("block_in_place", arguments[:6], arguments[6:8], arguments[8], arguments[9:])
 
     def pluck(self, kind, columns, rows, older, newer, centre, half_width, height):
         a, b = Lent("q", older), Lent("q", newer)
@@ -137,20 +102,15 @@ class Library:
         return refusal, q.values()[0], m.values()[0], s.values()[0]
 
 
-def function_of(handle, name, signature):
-    """A function of an opened library."""
-    function = getattr(handle, "buvcsolta_abi_" + name)
-    function.argtypes, function.restype = signature, U64
-    return function
-
-
 def open_library(path):
-    """The library at path, its functions named buvcsolta_abi_..., of the outer interface that is called here."""
+    """The library at path, its functions named buvcsolta_..."""
     handle = ctypes.CDLL(path)
-    version = function_of(handle, "version", ())()
-    if version // 10000 != MAJOR:
-        raise OSError(f"{path}: outer interface {version}, {MAJOR}0000 or a later one of {MAJOR} is called")
-    return Library({name: function_of(handle, name, signature) for name, signature in SIGNATURES.items()})
+    functions = {}
+    for name, signature in SIGNATURES.items():
+        function = getattr(handle, "buvcsolta_" + name)
+        function.argtypes, function.restype = signature, U64
+        functions[name] = function
+    return Library(functions)
 
 
 class Reference:
@@ -160,30 +120,15 @@ class Reference:
         self.calls = module
 
     def either_block(self, call, *arguments):
-        *instrument, numbers = arguments[:7]
-        *lent, hit, point, force = arguments[7:]
-        (steps, inexact, refusal), *after, held = call(
-            *instrument, *lent, (point, force) if hit else None, self.calls.held_of(numbers))
-        return refusal, steps, inexact, self.calls.numbers_left(numbers, held, steps > 0), *after
+        *before, hit, point, force = arguments
+        (steps, inexact, refusal), *after = call(*before, (point, force) if hit else None)
+        return (refusal, steps, inexact, *after)
 
     def block(self, *arguments):
-        return self.either_block(self.calls.block_holding, *arguments)
+        return self.either_block(self.calls.block, *arguments)
 
     def block_in_place(self, *arguments):
-        return self.either_block(self.calls.block_in_place_holding, *arguments)
-
-    def left(self, numbers, refusal, held):
-        """The outcome of an asking, committing or withdrawing that was given these numbers."""
-        return refusal, self.calls.numbers_left(numbers, held, refusal == 0)
-
-    def ask(self, kind, columns, rows, numbers, point, force):
-        return self.left(numbers, *self.calls.ask(kind, columns, rows, self.calls.held_of(numbers), point, force))
-
-    def commit(self, numbers):
-        return self.left(numbers, *self.calls.commit(self.calls.held_of(numbers)))
-
-    def withdraw(self, numbers):
-        return self.left(numbers, *self.calls.withdraw(self.calls.held_of(numbers)))
+        return self.either_block(self.calls.block_in_place, *arguments)
 
     def pluck(self, *arguments):
         return self.calls.pluck(*arguments)
@@ -207,20 +152,6 @@ def cells(code, place, length):
     return (code * length).from_address(place)
 
 
-def held_numbers(places):
-    """The three numbers of the held hit."""
-    return [cells(code, place, 1) for code, place in zip((U64, SIZE, I64), places)]
-
-
-def read(numbers):
-    return tuple(number[0] for number in numbers)
-
-
-def write(numbers, values):
-    for number, value in zip(numbers, values):
-        number[0] = value
-
-
 def stand_in(module=calls):
     """A library made of the calls of a module, behind C functions of the same signatures."""
     reference = Reference(module)
@@ -230,35 +161,16 @@ def stand_in(module=calls):
         codes = (*[I64] * levels, ctypes.c_int16)
 
         def block(*arguments):
-            instrument, held, lent, rest = arguments[:6], held_numbers(arguments[6:9]), arguments[9:9 + 2 * len(codes)], \
-                arguments[9 + 2 * len(codes):-2]
+            instrument, lent, rest = arguments[:6], arguments[6:6 + 2 * len(codes)], arguments[6 + 2 * len(codes):-2]
             buffers = [cells(code, *lent[2 * k:2 * k + 2]) for k, code in enumerate(codes)]
             steps, inexact = arguments[-2:]
-            refusal, cells(SIZE, steps, 1)[0], cells(U64, inexact, 1)[0], left, *after = call(
-                *instrument, read(held), *map(list, buffers), *rest)
-            write(held, left)
+            refusal, cells(SIZE, steps, 1)[0], cells(U64, inexact, 1)[0], *after = call(
+                *instrument, *map(list, buffers), *rest)
             for buffer, values in zip(buffers, after):
                 buffer[:] = values
             return refusal
 
         return block
-
-    def ask(*arguments):
-        held = held_numbers(arguments[3:6])
-        refusal, left = reference.ask(*arguments[:3], read(held), *arguments[6:])
-        write(held, left)
-        return refusal
-
-    def held_alone(call):
-        """The C function of a call that takes the held hit alone."""
-
-        def commit_or_withdraw(*places):
-            held = held_numbers(places)
-            refusal, left = call(read(held))
-            write(held, left)
-            return refusal
-
-        return commit_or_withdraw
 
     def pluck_of(call):
         """The C function of a pluck, by a lent table or by T."""
@@ -294,7 +206,6 @@ def stand_in(module=calls):
         return answer
 
     functions = {"block": block_of(reference.block, 3), "block_in_place": block_of(reference.block_in_place, 2),
-                 "ask": ask, "commit": held_alone(reference.commit), "withdraw": held_alone(reference.withdraw),
                  "pluck": pluck_of(reference.pluck), "pluck_with": pluck_of(reference.pluck_with),
                  "reading": reading, "sheet": sheet}
     return Library({name: ctypes.CFUNCTYPE(U64, *SIGNATURES[name])(total(function))

@@ -12,18 +12,14 @@ from arguments import file, folder, parser_of
 from draws import from_bits
 from library import open_library, wrong_stand_in
 
-# By opcode: the block and the lent buffers that it takes beside the held hit.
+# By opcode: the block and the lent buffers that it takes.
 BLOCKS = {3: ("block", (0, 1, 2, 3)), 7: ("block_in_place", (0, 1, 3))}
-# The buffer of the held hit, and the opcodes of the calls that take it alone.
-HELD, HELD_ALONE = 5, {10: "commit", 11: "withdraw"}
-# The shortest first.
-FILES = ("held", "sheets", "plucks", "calls", "in_place")
 
 
 def play(library, numbers):
     """None, or the record that does not hold."""
     take = lambda count: [next(numbers) for _ in range(count)]
-    lent = [[], [], [], [], [], [0, 0, 0]]
+    lent = [[], [], [], [], []]
     played = 0
     for opcode in numbers:
         played += 1
@@ -33,24 +29,16 @@ def play(library, numbers):
         if opcode in (1, 2):
             which, length = take(2)
             values = take(length)
-            assert which != HELD or length == 3
             if opcode == 1:
                 lent[which] = values
             holds = lent[which] == values
         elif opcode in BLOCKS:
             name, buffers = BLOCKS[opcode]
             *arguments, steps, inexact, refusal = take(13)
-            found = getattr(library, name)(*arguments[:6], tuple(lent[HELD]), *(lent[which] for which in buffers), *arguments[6:])
-            for which, values in zip((HELD, *buffers), found[3:]):
-                lent[which] = list(values)
+            found = getattr(library, name)(*arguments[:6], *(lent[which] for which in buffers), *arguments[6:])
+            for which, values in zip(buffers, found[3:]):
+                lent[which] = values
             holds = found[:3] == (refusal, steps, inexact)
-        elif opcode == 9:
-            *arguments, refusal = take(6)
-            found, held = library.ask(*arguments[:3], tuple(lent[HELD]), *arguments[3:])
-            lent[HELD], holds = list(held), found == refusal
-        elif opcode in HELD_ALONE:
-            found, held = getattr(library, HELD_ALONE[opcode])(tuple(lent[HELD]))
-            lent[HELD], holds = list(held), [found] == take(1)
         elif opcode == 4:
             *arguments, refusal = take(7)
             found, lent[0], lent[1] = library.pluck(*arguments[:3], lent[0], lent[1], *arguments[3:])
@@ -102,7 +90,7 @@ def main():
         return 1 if fault else 0
     edits = must_fail.seen_by_calls()
     try:
-        files = [vectors(f"{options.wrong}/{name}.txt") for name in FILES]
+        files = [vectors(f"{options.wrong}/{name}.txt") for name in ("calls", "sheets", "in_place", "plucks")]
     except argparse.ArgumentTypeError as fault:
         parser.error(str(fault))
     survived = [edit[0] for edit in edits if not any(play(wrong_stand_in(edit), iter(numbers)) for numbers in files)]

@@ -9,48 +9,31 @@ from instrument import (CEILING, D, GRID_KINDS, KINDS, LINE_KINDS, STIFF_KINDS, 
                         stable)
 
 
-def place_of(number):
-    """Where a number stands in the order in which they are checked: 15 "after 10", before 11."""
-    return 10.5 if number == 15 else number
-
-
 def lowest(tests):
     """"The lowest number that applies answers"; 0 for none. tests: {number: test}."""
-    for number in sorted(tests, key=place_of):
+    for number in sorted(tests):
         if tests[number]():
             return number
     return 0
 
 
-def of_block(grid, settings, levels, pick_up, hit, held):
-    """The refusal of a block before its first step; levels are older, newer and, where it is lent, work.
-
-    hit is the one given directly, None or (point, force); held is None or the hit that is held, asked or committed.
-    """
+def of_block(grid, settings, levels, pick_up, hit):
+    """The refusal of a block before its first step; levels are older, newer and, where it is lent, work."""
     kind, columns, rows = grid
-    hits = hits_checked(hit, held)
     return lowest({
         1: lambda: unknown_kind(kind),
         2: lambda: outside_table(*grid),
         4: lambda: bad_coefficient(settings),
         5: lambda: not_stable(kind, settings),
         6: lambda: bad_length(columns, rows, levels),
-        7: lambda: any(not_moving(grid, hit[0]) for hit in hits),
-        8: lambda: any(beyond(hit[1]) for hit in hits),
+        # "with 7 and 8 only if a hit is given".
+        7: lambda: hit is not None and not_moving(grid, hit[0]),
+        8: lambda: hit is not None and beyond(hit[1]),
         9: lambda: not_a_point(columns, rows, pick_up),
         # "The old content of work plays no part."
         11: lambda: some_beyond(levels[:2]),
         12: lambda: fixed_not_zero(grid, levels[:2]),
-        # "15, asking, or giving directly, while a hit is held"; "a block that holds one takes no other".
-        15: lambda: hit is not None and is_held(held),
     })
-
-
-def hits_checked(hit, held):
-    """The hits that a block checks by 7 and 8."""
-    # "with 7 and 8 only if a hit is given"; request 8: "A block checks a committed hit by 7 and 8".
-    committed = [(held.point, held.force)] if is_held(held) and held.is_committed else []
-    return committed if hit is None else [hit, *committed]
 
 
 def unknown_kind(kind):  # 1, "1 now admits kind 7 except for plucks"
@@ -125,7 +108,3 @@ def bad_table(table):  # 14, "the table breaks a rule or has another length"
         return True
     # "it must begin at 0, end at 65536 and never fall; the mirrored sum is not required of it".
     return table[0] != 0 or table[1024] != 65536 or any(after < before for before, after in zip(table, table[1:]))
-
-
-def is_held(held):  # 15, and 16 for the opposite; asked or committed
-    return held is not None

@@ -1,5 +1,5 @@
 """Tests of the reference: the paper's examples, its rules for T, lent tables, energy, distance and counts, each refusal,
-both blocks, hits asked and committed, mirror images; and of the lists and calls of run.py."""
+both blocks, mirror images; and of the lists and calls of run.py."""
 
 import math
 import multiprocessing
@@ -9,22 +9,19 @@ from unittest import mock
 
 import book
 import calls
-import compare
 import draws
 import in_place
 import instrument
 import mirror
 import must_fail
 import pluck
-import ring
 import run
 import sheet
 import step
 import tables
 from arguments import run_tests
-from held_hit import Held, held_of, numbers_left, numbers_of
 from instrument import CEILING, D, KINDS, LINE_KINDS
-from library import SIGNATURES, Reference, open_library, stand_in, wrong_stand_in
+from library import Reference, stand_in, wrong_stand_in
 from sheet import Sheet
 
 PLAIN = Sheet(1.0, 2.0, 0.0, ("tension", 0.25, 1.0), ("per second", 0.0))
@@ -59,11 +56,6 @@ def beside(case):
     """The outcomes of block, without work, and of block_in_place for the arguments of a block by name."""
     answer, older, newer, _, samples = calls.block(**case)
     return (answer, older, newer, samples), calls.block_in_place(**without_work(case))
-
-
-def holding(held, arguments):
-    """The arguments of a block in the form of library.py, with this held."""
-    return *arguments[:6], held, *arguments[6:]
 
 
 def without_work(case):
@@ -1117,295 +1109,6 @@ class InPlace(unittest.TestCase):
         self.assertLessEqual({7, 8, 9}, {refusal for _, refusal, _ in found})
 
 
-class HeldHit(unittest.TestCase):
-    """Request 8, "Ask, then commit a hit"."""
-
-    grids = InPlace.grids
-    none, asked, committed = None, Held(False, 1, 100), Held(True, 1, 100)
-    base = {**Refusals.block_base, "hit": None}
-
-    def both(self, held, **case):
-        """What both blocks answer and leave and what they hold then, without work, after a look that it is the same."""
-        case = {**self.base, **case}
-        answer, older, newer, _, samples, left = calls.block_holding(**case, held=held)
-        two = calls.block_in_place_holding(**without_work(case), held=held)
-        self.assertEqual(two, (answer, older, newer, samples, left))
-        return two
-
-    def at_rest(self, grid, samples, held, settings=(0, 0, 0), pick_up=1, hit=None):
-        """The same for levels at rest."""
-        rest = [0] * (grid[1] * grid[2])
-        kind, columns, rows = grid
-        return self.both(held, kind=kind, columns=columns, rows=rows, q=settings[0], m=settings[1], s=settings[2], older=rest,
-                         newer=rest, work=rest, samples=samples, pick_up=pick_up, hit=hit)
-
-    def assert_kept(self, held, refusal, **case):
-        """Refused with no step done: all stays as it was, what is held too."""
-        case = {**self.base, **case}
-        self.assertEqual(self.both(held, **case), ((0, 0, refusal), case["older"], case["newer"], case["samples"], held), (held, case))
-
-    def test_worked_case(self):
-        refusal, held = calls.ask(1, 3, 1, None, 1, 268435456)
-        self.assertEqual((refusal, held), (0, Held(False, 1, 268435456)))
-        self.assertEqual(self.at_rest((1, 3, 1), [9] * 4, held, (D, 0, 0)), ((4, 0, 0), [0] * 3, [0] * 3, [0] * 4, held))
-        refusal, held = calls.commit(held)
-        self.assertEqual((refusal, held), (0, Held(True, 1, 268435456)))
-        self.assertEqual(self.at_rest((1, 3, 1), [], held, (D, 0, 0)), ((0, 0, 0), [0] * 3, [0] * 3, [], held))
-        answer, older, newer, samples, held = self.at_rest((1, 3, 1), [9] * 4, held, (D, 0, 0))
-        self.assertEqual((answer, samples, held), ((4, 0, 0), [1, 0, -1, 0], None))
-        self.assertEqual((older, newer), ([0, -268435456, 0], [0] * 3))
-        self.assertEqual((calls.withdraw(held), calls.commit(held)), ((16, None), (16, None)))
-
-    def test_listing_of_ring(self):
-        """Given directly, as `ring` does, and asked and committed: the same lines."""
-        line = "1 3 1 65536 0 0 1 4 1 268435456"
-        kind, columns, rows, q, m, s, pick_up, steps, point, force = map(int, line.split())
-        held = calls.commit(calls.ask(kind, columns, rows, None, point, force)[1])[1]
-        listed = []
-        for hit, held in (((point, force), None), (None, held)):
-            (count, _, refusal), *_, samples, _ = self.at_rest((kind, columns, rows), [0] * steps, held, (q, m, s), pick_up, hit)
-            listed.append("".join(f"{number} {samples[number - 1]}\n" for number in range(1, count + 1)) + f"done {count} {refusal}\n")
-        self.assertEqual(listed, [ring.ring(line.encode())] * 2)
-        self.assertEqual(listed[0], "1 1\n2 0\n3 -1\n4 0\ndone 4 0\n")
-
-    def events(self):
-        """{name: (call, refusals, states after)}: a call takes what is held and gives (refusal, held); the others in the order of none
-        held, asked, committed. In the states None is the one before."""
-        grow = CEILING // 2
-        same, cleared = (None, None, None), (0, 1, 0)
-        blocks = {
-            "block": (dict(), (0, 0, 0), cleared), "long block": (dict(samples=[9] * 5), (0, 0, 0), cleared),
-            "no places": (dict(samples=[]), (0, 0, 0), same), "refused by 9": (dict(pick_up=4), (9, 9, 9), same),
-            "refused by 12": (dict(newer=[1, 0, 0, 0]), (12, 12, 12), same),
-            "13 first": (dict(q=0, s=0, older=[0, -CEILING, 0, 0], newer=[0, CEILING, 0, 0]), (13, 13, 13), same),
-            "13 later": (dict(q=0, s=0, older=[0, -7, 0, 0], newer=[0, grow - 99, 0, 0], samples=[9] * 5), (13, 13, 13), cleared),
-            "direct": (dict(hit=(1, 5)), (0, 15, 15), same), "direct, no places": (dict(hit=(1, 5), samples=[]), (0, 15, 15), same),
-        }
-        found = {}
-        for name, (case, refusals, states) in blocks.items():
-            def block(held, case={**self.base, **case}):
-                (_, _, refusal), *_, left = calls.block_holding(**case, held=held)
-                return refusal, left
-
-            def block_in_place(held, case=without_work({**self.base, **case})):
-                (_, _, refusal), *_, left = calls.block_in_place_holding(**case, held=held)
-                return refusal, left
-
-            found[name], found[name + " in place"] = (block, refusals, states), (block_in_place, refusals, states)
-        found["ask"] = lambda held: calls.ask(1, 4, 1, held, 1, 100), (0, 15, 15), (1, None, None)
-        found["ask at a fixed point"] = lambda held: calls.ask(1, 4, 1, held, 0, 100), (7, 7, 7), same
-        found["ask beyond the ceiling"] = lambda held: calls.ask(1, 4, 1, held, 1, CEILING + 1), (8, 8, 8), same
-        found["commit"] = calls.commit, (16, 0, 0), (None, 2, None)
-        found["withdraw"] = calls.withdraw, (16, 0, 0), (None, 0, 0)
-        return found
-
-    def test_ordered_pairs(self):
-        """Every ordered pair of calls, with none held, asked and committed before it."""
-        states, events = (self.none, self.asked, self.committed), self.events()
-        for first in events:
-            for second in events:
-                for start in range(3):
-                    state, held = start, states[start]
-                    for name in (first, second):
-                        call, refusals, after = events[name]
-                        refusal, held = call(held)
-                        expected, state = refusals[state], state if after[state] is None else after[state]
-                        self.assertEqual((refusal, held), (expected, states[state]), (first, second, start, name))
-
-    def test_asking(self):
-        """"asking checks kind, grid, point and force by 1, 2, 7 and 8 and holds the hit": at every point of every kind."""
-        for grid in self.grids:
-            for point in (*range(grid[1] * grid[2] + 2), 2**64 - 1):
-                for force in (0, 1, -CEILING, CEILING):
-                    moves = point in instrument.moving_set(*grid)
-                    self.assertEqual(calls.ask(*grid, None, point, force), (0, Held(False, point, force)) if moves else (7, None))
-
-    causes = ((1, dict(kind=0)), (1, dict(kind=8)), (1, dict(kind=2**64 - 1)), (2, dict(columns=2)), (2, dict(columns=1025)),
-              (2, dict(rows=2)), (2, dict(rows=0)), (2, dict(columns=2**32, rows=2**32)), (7, dict(point=0)), (7, dict(point=3)),
-              (7, dict(point=4)), (7, dict(point=2**64 - 1)), (8, dict(force=CEILING + 1)), (8, dict(force=-CEILING - 1)),
-              (8, dict(force=-2**63)), (8, dict(force=2**63 - 1)))
-
-    def test_refused_askings(self):
-        """The lowest number answers, 15 after the others, and what is held stays."""
-        base = dict(kind=1, columns=4, rows=1, point=1, force=5)
-        for held in (self.none, self.asked, self.committed, Held(False, 0, -2**63), Held(True, 99, 0)):
-            self.assertEqual(calls.ask(**base, held=held), (0, Held(False, 1, 5)) if held is None else (15, held))
-            for low, first in self.causes:
-                self.assertEqual(calls.ask(**{**base, **first}, held=held), (low, held))
-                for high, second in self.causes:
-                    if low < high and not set(first) & set(second):
-                        self.assertEqual(calls.ask(**{**base, **second, **first}, held=held), (low, held))
-
-    def test_committing_and_withdrawing(self):
-        """They look at nothing but whether one is held: "16 .., alone"."""
-        for point, force in ((1, 5), (0, 0), (2**64 - 1, -2**63), (3, 2**63 - 1)):
-            for is_committed in (False, True):
-                held = Held(is_committed, point, force)
-                self.assertEqual(calls.commit(held), (0, Held(True, point, force)))
-                self.assertEqual(calls.withdraw(held), (0, None))
-        self.assertEqual((calls.commit(None), calls.withdraw(None)), ((16, None), (16, None)))
-
-    def test_in_the_first_step_alone(self):
-        """With q 0 a hit goes on as so much more a step; the same as given directly, and not again in the next block."""
-        for grid in self.grids:
-            point = max(instrument.moving_set(*grid))
-            for steps in (1, 2, 5):
-                outcome = self.at_rest(grid, [9] * steps, Held(True, point, 3 * 2**28), (0, 0, 0), point)
-                self.assertEqual((outcome[0], outcome[3:]), ((steps, 0, 0), ([3 * (number + 1) for number in range(steps)], None)))
-                self.assertEqual(outcome[2], on_grid(*grid[1:], {point: 3 * steps * 2**28}))
-                kind, columns, rows = grid
-                again = self.both(outcome[-1], kind=kind, columns=columns, rows=rows, q=0, s=0, older=outcome[1], newer=outcome[2],
-                                  work=[7] * columns * rows, samples=[9], pick_up=point)
-                self.assertEqual(again[3:], ([3 * (steps + 1)], None))
-
-    def cases(self, name):
-        """Blocks of every kind by name, mostly accepted, and a hit for each; 13 in the first step and later among them."""
-        draw = draws.Draws(name)
-        for number in range(700):
-            grid, settings, older, newer = accepted_start(draw, KINDS)
-            if number % 4 == 0:
-                settings, older, newer = draw.loud_at_the_end(grid)
-            draw.odds = 0.04
-            (kind, columns, rows), (q, m, s) = grid, settings
-            yield dict(kind=kind, columns=columns, rows=rows, q=q, m=m, s=s, older=older, newer=newer, work=[7] * len(newer),
-                       samples=draw.samples(), pick_up=draw.point(grid)), (draw.point(grid, True), draw.force())
-
-    def test_committed_as_given_directly(self):
-        """"A hit asked and committed sounds as one given directly to the block that does its step", refused or not."""
-        found = {}
-        for case, hit in self.cases("committed"):
-            *outcome, left = self.both(Held(True, *hit), **case)
-            *expected, none = self.both(None, **case, hit=hit)
-            self.assertEqual((outcome, none), (expected, None))
-            (steps, _, refusal), *_ = outcome
-            # "The step done clears it"; else it is kept.
-            self.assertEqual(left, None if steps else Held(True, *hit))
-            key = refusal, min(steps, 2)
-            found[key] = found.get(key, 0) + 1
-        for key in ((0, 0), (0, 1), (0, 2), (7, 0), (8, 0), (9, 0), (13, 0), (13, 1), (13, 2)):
-            self.assertGreater(found.get(key, 0), 3, key)
-
-    def test_asked_as_none(self):
-        """"An asked, uncommitted hit changes no sample of a block given no direct hit"; nor is it looked at, or cleared."""
-        for case, hit in self.cases("asked"):
-            held = Held(False, *hit)
-            *outcome, left = self.both(held, **case)
-            self.assertEqual((outcome, left), (list(self.both(None, **case)[:-1]), held))
-
-    def block_causes(self):
-        """Those of a block that gives no hit, 13 too."""
-        loud = dict(q=0, older=[0, -CEILING, 0, 0], newer=[0, CEILING, 0, 0])
-        return [(number, change) for number, change in Refusals().block_causes() if "hit" not in change and "work" not in change] + [
-            (13, loud)]
-
-    def test_kept_by_refused_blocks(self):
-        """Each number, whether the hit is asked or committed."""
-        for refusal, change in self.block_causes():
-            for held in (self.none, self.asked, self.committed):
-                self.assert_kept(held, refusal, **change)
-        for held in (self.asked, self.committed):
-            case = {**self.base, "work": [0] * 3}
-            outcome = calls.block_holding(**case, held=held)
-            self.assertEqual(outcome, ((0, 0, 6), case["older"], case["newer"], case["work"], case["samples"], held))
-
-    fixed, beyond = ((0, 5), (3, 5), (4, 5), (2**64 - 1, 5), (0, CEILING + 1)), ((1, CEILING + 1), (2, -CEILING - 1), (1, -2**63))
-
-    def test_seven_and_eight(self):
-        """"A block checks a committed hit by 7 and 8", of no places too; an asked one it does not."""
-        for refusal, hits in ((7, self.fixed), (8, self.beyond)):
-            for hit in hits:
-                for samples in ([], [11, 12]):
-                    self.assert_kept(Held(True, *hit), refusal, samples=samples)
-                    self.assertEqual(self.both(Held(False, *hit), samples=samples)[0][::2], (len(samples), 0))
-                for number, change in self.block_causes():
-                    self.assert_kept(Held(True, *hit), min(number, refusal), **change)
-        for force in (CEILING - 200, 200 - CEILING):
-            self.assertEqual(self.both(Held(True, 1, force))[0][::2], (2, 0))
-
-    def test_both_hits(self):
-        """"a block that holds one takes no other": 7 of either, then 8 of either, then 9, then 15."""
-        hits = [((1, 5), 15), *((hit, 7) for hit in self.fixed), *((hit, 8) for hit in self.beyond)]
-        for hit, direct in hits:
-            for other, of_held in hits:
-                for is_committed in (False, True):
-                    held, refusal = Held(is_committed, *other), min(direct, of_held) if is_committed else direct
-                    for samples in ([], [11, 12]):
-                        self.assert_kept(held, refusal, hit=hit, samples=samples)
-                    self.assert_kept(held, min(refusal, 9), hit=hit, pick_up=4)
-
-    def test_fifteen(self):
-        """"after 10": all that is below comes first, 11, 12 and 13 after; work is left as it is."""
-        for held in (self.asked, self.committed):
-            for number, change in self.block_causes():
-                self.assert_kept(held, 15 if number > 10 else number, hit=(2, 7), **change)
-            case = {**self.base, "hit": (2, 7)}
-            self.assertEqual(calls.block_holding(**case, held=held)[3], case["work"])
-            self.assertEqual(calls.block_holding(**{**case, "work": []}, held=held)[0], (0, 0, 6))
-        self.assertEqual(self.both(None, hit=(2, 7))[0][::2], (2, 0))
-
-    def test_thirteen(self):
-        """By the hit in the first step it is kept, in a later step the first one has cleared it; force 0 is a hit too."""
-        level = [0, CEILING, 0, 0]
-        grow = CEILING // 4
-        for held, done, newer in ((Held(True, 1, 1), 0, level), (Held(True, 1, grow), 3, [0, CEILING - 3 * grow, 0, 0]),
-                                  (Held(True, 1, -grow), 1, [0, grow - CEILING, 0, 0])):
-            answer, *_, left = self.both(held, q=0, s=0, older=newer, newer=newer, samples=[9] * 5)
-            self.assertEqual((answer, left), ((done, 0, 13), None if done else held))
-        answer, *_, left = self.both(Held(True, 1, 0), q=0, s=0, older=level, newer=level)
-        self.assertEqual((answer, left), ((2, 0, 0), None))
-
-    def test_on_another_grid(self):
-        """Asked where the point moves; kept where a block of another kind or grid refuses it, and it acts where it fits again."""
-        for asked, other, point in (((3, 4, 1), (1, 4, 1), 0), ((2, 9, 1), (5, 3, 3), 8), ((2, 5, 1), (2, 4, 1), 4),
-                                    ((6, 5, 5), (1, 3, 1), 12), ((5, 4, 5), (5, 5, 4), 14), ((1, 9, 1), (7, 3, 3), 1)):
-            held = calls.commit(calls.ask(*asked, None, point, 2**28)[1])[1]
-            outcome = self.at_rest(other, [9], held)
-            self.assertEqual((outcome[0], outcome[3:]), ((0, 0, 7), ([9], held)))
-            outcome = self.at_rest(asked, [9], held, pick_up=point)
-            self.assertEqual((outcome[0], outcome[3:]), ((1, 0, 0), ([1], None)))
-
-    def test_numbers(self):
-        """0 none, 1 asked, 2 committed; any other counts as none held."""
-        for state in (0, 3, 4, 7, 2**32 + 1, 2**63, 2**64 - 1):
-            for point, force in ((0, 0), (1, 5), (2**64 - 1, -2**63)):
-                numbers = state, point, force
-                self.assertIsNone(held_of(numbers))
-                self.assertEqual(numbers_left(numbers, None, False), numbers)
-                self.assertEqual(numbers_left(numbers, None, True), (0, 0, 0))
-        for numbers, held in (((1, 7, -9), Held(False, 7, -9)), ((2, 0, 2**63 - 1), Held(True, 0, 2**63 - 1))):
-            self.assertEqual((held_of(numbers), numbers_of(held)), (held, numbers))
-            for is_done in (False, True):
-                self.assertEqual(numbers_left((2, 7, -9), held, is_done), numbers)
-                self.assertEqual(numbers_left(numbers, None, is_done), (0, 0, 0))
-
-    def outcomes(self, numbers, library):
-        """What the calls answer and leave of three numbers, on the smallest string: {name: (refusal, numbers)}."""
-        rest, found = [0] * 3, {}
-        for name, lent in (("block", (rest, rest, rest)), ("block_in_place", (rest, rest))):
-            for what, samples, pick_up, hit in (("", [9], 1, 0), (" of no places", [], 1, 0), (" refused", [9], 3, 0),
-                                                (" given a hit", [9], 1, 1)):
-                refusal, _, _, left, *_ = getattr(library, name)(1, 3, 1, D, 0, 0, numbers, *lent, samples, pick_up, hit, 1, 7)
-                found[name + what] = refusal, left
-        found["ask"], found["ask refused"] = library.ask(1, 3, 1, numbers, 1, -8), library.ask(1, 3, 1, numbers, 0, -8)
-        found["commit"], found["withdraw"] = library.commit(numbers), library.withdraw(numbers)
-        return found
-
-    def test_numbers_left(self):
-        """By the reference and behind C functions: after what changes nothing they are as given, else those of what is held."""
-        for library in (Reference(), stand_in()):
-            for numbers in ((0, 0, 0), (0, 1, 5), (7, 1, 5), (3, 2**64 - 1, -2**63), (2**64 - 1, 0, 0)):
-                none = (0, (0, 0, 0))
-                self.assertEqual(self.outcomes(numbers, library), {
-                    **{name + what: outcome for name in ("block", "block_in_place") for what, outcome in (
-                        ("", none), (" of no places", (0, numbers)), (" refused", (9, numbers)), (" given a hit", none))},
-                    "ask": (0, (1, 1, -8)), "ask refused": (7, numbers), "commit": (16, numbers), "withdraw": (16, numbers)})
-            for numbers, after in (((1, 1, 5), (1, 1, 5)), ((2, 1, 5), (0, 0, 0))):
-                self.assertEqual(self.outcomes(numbers, library), {
-                    **{name + what: outcome for name in ("block", "block_in_place") for what, outcome in (
-                        ("", (0, after)), (" of no places", (0, numbers)), (" refused", (9, numbers)), (" given a hit", (15, numbers)))},
-                    "ask": (15, numbers), "ask refused": (7, numbers), "commit": (0, (2, 1, 5)), "withdraw": (0, (0, 0, 0))})
-
-
 class Book(unittest.TestCase):
     def watch_energy(self, draw, kinds, starts):
         """Never negative, never raised without a hit, kept without loss."""
@@ -1597,26 +1300,6 @@ class Parted(Reference):
         return self.other(*super().block_in_place(*arguments))
 
 
-class OtherHeld(Reference):
-    """A reference whose blocks give something else, told what was held and the hit given."""
-
-    def __init__(self, other):
-        super().__init__()
-        self.other = other
-
-    def either_block(self, call, *arguments):
-        return self.other(arguments[6], arguments[-3], *super().either_block(call, *arguments))
-
-
-class OtherTouch(Reference):
-    """A reference with another ask, commit or withdraw."""
-
-    def __init__(self, **others):
-        super().__init__()
-        for name, other in others.items():
-            setattr(self, name, other)
-
-
 class OtherPluck(Reference):
     """A reference whose pluck by a copy of T gives something else."""
 
@@ -1642,7 +1325,6 @@ def play(library, lists=200, singles=0, odds=0.0, stop_at=None):
 
 # Every list of the comparison with its mirror image.
 all_mirrored = mock.patch.object(run, "MIRRORED", 1.0)
-none_mirrored = mock.patch.object(run, "MIRRORED", 0.0)
 
 
 class Comparison(unittest.TestCase):
@@ -1681,10 +1363,9 @@ class Comparison(unittest.TestCase):
         blocks, in_place = (sum(counts[key] for key in counts if key[0] == name) for name in ("block", "block_in_place"))
         self.assertGreater(min(blocks, in_place), 400)
         self.assertTrue(100 < counts["both"] < min(blocks, in_place) / 2)
-        counts = play(Reference(), 0, 3500, 0.05)
+        counts = play(Reference(), 0, 2500, 0.05)
         blocks, in_place = (sum(counts[key] for key in counts if key[0] == name) for name in ("block", "block_in_place"))
-        beside = counts["committed beside direct"] + counts["asked beside none"]
-        self.assertEqual((2 * blocks, 2 * in_place), (2 * counts["both"] + beside,) * 2)
+        self.assertEqual((blocks, in_place), (counts["both"], counts["both"]))
         for what, least in (("both, 13 first", 20), ("both, 13 later", 10), ("both, 13 last point", 10),
                             ("both, work of a wrong length", 10)):
             self.assertGreater(counts[what], least, what)
@@ -1693,9 +1374,9 @@ class Comparison(unittest.TestCase):
         """Where both sides agree on a block in place that is not as the block, the inputs given to both find it."""
         for other in (lambda refusal, steps, *rest: (refusal, steps + 1, *rest),
                       lambda refusal, steps, inexact, *rest: (refusal, steps, inexact + 1, *rest),
-                      lambda *rest: (*rest[:4], rest[4], rest[4], rest[6]),
-                      lambda *rest: (*rest[:4], rest[5], rest[5], rest[6]),
-                      lambda *rest: (*rest[:6], [0] * len(rest[6])),
+                      lambda refusal, steps, inexact, older, newer, samples: (refusal, steps, inexact, older, older, samples),
+                      lambda refusal, steps, inexact, older, newer, samples: (refusal, steps, inexact, newer, newer, samples),
+                      lambda *rest: (*rest[:5], [0] * len(rest[5])),
                       lambda refusal, *rest: (0 if refusal == 13 else refusal, *rest)):
             with mock.patch.object(run, "REFERENCE", Parted(other)), self.assertRaisesRegex(run.Difference, "^both blocks"):
                 play(Parted(other), 0, 300)
@@ -1703,25 +1384,12 @@ class Comparison(unittest.TestCase):
     def test_stand_in(self):
         """The reference behind C functions, and its count of 0 written where a block is refused."""
         play(stand_in(), 40)
-        arguments = 1, 3, 1, 16384, 0, 0, (0, 0, 0), [0, 1, 0], [0, 1, 0], [7] * 3, [9] * 2
-        self.assertEqual(stand_in().block(*arguments, 1, 0, 0, 0), (0, 2, 2, (0, 0, 0), [0, 1, 0], [0, 1, 0], [0] * 3, [0] * 2))
+        arguments = 1, 3, 1, 16384, 0, 0, [0, 1, 0], [0, 1, 0], [7] * 3, [9] * 2
+        self.assertEqual(stand_in().block(*arguments, 1, 0, 0, 0), (0, 2, 2, [0, 1, 0], [0, 1, 0], [0] * 3, [0] * 2))
         self.assertEqual(stand_in().block(*arguments, 3, 0, 0, 0), (9, 0, 0, *arguments[6:]))
         arguments = run.without_work(arguments)
-        self.assertEqual(stand_in().block_in_place(*arguments, 1, 0, 0, 0), (0, 2, 2, (0, 0, 0), [0, 1, 0], [0, 1, 0], [0] * 2))
+        self.assertEqual(stand_in().block_in_place(*arguments, 1, 0, 0, 0), (0, 2, 2, [0, 1, 0], [0, 1, 0], [0] * 2))
         self.assertEqual(stand_in().block_in_place(*arguments, 3, 0, 0, 0), (9, 0, 0, *arguments[6:]))
-
-    def test_open_library(self):
-        """The names of the functions, and which outer interfaces are called."""
-        for version, is_opened in ((30000, True), (30001, True), (39999, True), (29999, False), (40000, False), (10000, False), (0, False)):
-            handle = mock.Mock(**{"buvcsolta_abi_version.return_value": version})
-            handle.mock_add_spec([f"buvcsolta_abi_{name}" for name in ("version", *SIGNATURES)])
-            with mock.patch("ctypes.CDLL", return_value=handle):
-                if is_opened:
-                    self.assertEqual(set(open_library("a.so").functions), set(SIGNATURES))
-                else:
-                    with self.assertRaisesRegex(OSError, f"outer interface {version}"):
-                        open_library("a.so")
-        self.assertEqual(set(SIGNATURES), set(compare.NAMES))
 
     def test_stand_in_of_a_pluck_by_a_lent_table(self):
         arguments, level = (1, 5, 1, [9] * 5, [8] * 5, 2, 3, 1000), [0, 666, 1000, 666, 0]
@@ -1746,7 +1414,7 @@ class Comparison(unittest.TestCase):
         for other in (lambda refusal, *rest: (refusal and 7, *rest),
                       lambda refusal, older, newer, table: (refusal, [0] * len(older), newer, table),
                       lambda refusal, older, newer, table: (refusal, older, [0] * len(newer), table)):
-            for lists, singles, odds in ((400, 0, 0.1), (0, 1200, 0.1)):
+            for lists, singles, odds in ((300, 0, 0.1), (0, 600, 0.1)):
                 with mock.patch.object(run, "REFERENCE", OtherPluck(other)), self.assertRaisesRegex(run.Difference, "^both plucks"):
                     play(OtherPluck(other), lists, singles, odds)
 
@@ -1763,108 +1431,6 @@ class Comparison(unittest.TestCase):
             for lists, singles in ((300, 0), (0, 300)):
                 with self.assertRaisesRegex(run.Difference, "^pluck_with"):
                     play(writing, lists, singles)
-
-    def test_draws_of_held_hits(self):
-        """Committed hits that act, are kept and withdrawn, in lists and alone, beside the same given directly; every refusal."""
-        for lists, singles, odds in ((200, 0, 0.02), (0, 2500, 0.05)):
-            counts = play(Reference(), lists, singles, odds)
-            for what, least in (("committed, acted", 60), ("committed, kept", 60), ("committed, withdrawn", 15), ("asked, withdrawn", 10),
-                                ("committed beside direct", 60), ("asked beside none", 60), (("block", 15), 15),
-                                (("block_in_place", 15), 15), (("ask", 0), 60), (("ask", 15), 60), (("commit", 0), 40),
-                                (("commit", 16), 15), (("withdraw", 16), 15)):
-                self.assertGreater(counts[what], least, (what, lists))
-        self.assertLessEqual({0, 1, 2, 7, 8, 15}, {key[1] for key in counts if key[0] == "ask"})
-
-    def test_draws_of_numbers(self):
-        """None held, asked, committed, and other numbers with which none is held, with any point and force."""
-        draw, found = draws.Draws("held"), {}
-        for _ in range(2000):
-            state, point, force = draw.held((1, 5, 1))
-            self.assertTrue(0 <= state < 2**64 and 0 <= point < 2**64 and -2**63 <= force < 2**63)
-            key = (state if state in (0, 1, 2, 3, 7, 2**64 - 1) else "other") if state or (point, force) == (0, 0) else "0, not 0 0"
-            found[key] = found.get(key, 0) + 1
-        for key, least in ((0, 300), (1, 300), (2, 400), (3, 30), (7, 30), (2**64 - 1, 30), ("other", 20), ("0, not 0 0", 60)):
-            self.assertGreater(found.get(key, 0), least, key)
-
-    def test_ordered_pairs_in_lists(self):
-        """Accepted and refused; those that the record forbids, such as two accepted askings, need a caller that alters it."""
-        counts = play(Reference(), 500, odds=0.03)
-        pairs = compare.pairs_of_calls(counts)
-        self.assertEqual((len(pairs), sum(pairs)), (14 * 14, counts["calls in lists"] - counts["lists"]))
-        self.assertGreater(sum(number > 0 for number in pairs), 175)
-        self.assertGreater(sum(number > 4 for number in pairs), 130)
-
-    def test_record_of_lists(self):
-        """Each call gets what the one before left, or the marker, where the caller alters the record; a pluck leaves it."""
-        one_list, call_of_list, marker, made = run.Run.one_list, run.Run.call_of_list, (7, 5, 5), []
-
-        def recorded(playing, *arguments):
-            *levels, left = call_of_list(playing, *arguments)
-            made.append((playing.last[0], arguments[-1], left))
-            return *levels, left
-
-        with mock.patch.object(draws.Draws, "held", lambda draw, grid: marker), mock.patch.object(run.Run, "call_of_list", recorded), \
-                mock.patch.object(run.Run, "one_list", lambda playing: (made.append((None, None, (0, 0, 0))), one_list(playing))):
-            play(Reference(), 150)
-        found = {name: 0 for name in ("altered", "cleared by a block", "asked", "committed", "withdrawn", "committed before a pluck")}
-        for (_, _, before), (name, given, left) in zip(made, made[1:]):
-            if name is None:
-                continue
-            self.assertIn(given, (before, marker))
-            if name in mirror.PLUCKS:
-                self.assertEqual(left, given)
-            found["altered"] += given == marker != before
-            found["cleared by a block"] += name in mirror.BLOCKS and given[0] == 2 and left == (0, 0, 0)
-            found["asked"] += name == "ask" and given[0] != 1 and left[0] == 1
-            found["committed"] += name == "commit" and (given[0], left[0]) == (1, 2)
-            found["withdrawn"] += name == "withdraw" and given[0] in (1, 2) and left[0] == 0
-            found["committed before a pluck"] += name in mirror.PLUCKS and left[0] == 2
-        for name, count in found.items():
-            self.assertGreater(count, 4, name)
-
-    @none_mirrored
-    def test_held_that_is_not_the_models(self):
-        """Where both sides agree on something else that is held afterwards, the lists and the single calls find it."""
-        none = (0, 0, 0)
-        blocks = (lambda held, hit, *outcome: (*outcome[:3], held, *outcome[4:]),
-                  lambda held, hit, *outcome: (*outcome[:3], none, *outcome[4:]),
-                  lambda held, hit, *outcome: (*outcome[:3], none if outcome[0] == 13 else outcome[3], *outcome[4:]),
-                  lambda held, hit, refusal, *rest: (0 if refusal == 15 else refusal, *rest))
-        right = Reference()
-        others = [OtherHeld(other) for other in blocks] + [
-            OtherTouch(ask=lambda *arguments: (right.ask(*arguments)[0], (1, *arguments[4:]))),
-            OtherTouch(ask=lambda *arguments: right.ask(*arguments[:3], (0, 0, 0), *arguments[4:])),
-            OtherTouch(ask=lambda *arguments: (right.ask(*arguments)[0], (2, *arguments[4:]))),
-            OtherTouch(commit=lambda held: (0, held)), OtherTouch(commit=lambda held: (16, held)),
-            OtherTouch(commit=lambda held: (right.commit(held)[0], (2, *held[1:]))), OtherTouch(withdraw=lambda held: (0, (0, 0, 0))),
-            OtherTouch(withdraw=lambda held: right.withdraw(held) if held[0] == 1 else (16, held)),
-            OtherTouch(withdraw=lambda held: (right.withdraw(held)[0], held))]
-        for number, other in enumerate(others):
-            for lists, singles in ((300, 0), (0, 1500)):
-                with self.subTest(number), mock.patch.object(run, "REFERENCE", other), \
-                        self.assertRaisesRegex(run.Difference, "^held afterwards"):
-                    play(other, lists, singles)
-
-    @none_mirrored
-    def test_held_that_is_not_as_given(self):
-        """Where both sides agree on a committed hit that is not as the direct one, or an asked one not as none, that is found."""
-        for other in (lambda held, hit, *rest: (*rest[:-1], [5] * len(rest[-1]) if held[0] == 2 and not hit else rest[-1]),
-                      lambda held, hit, *rest: (*rest[:-1], [5] * len(rest[-1]) if held[0] == 1 and not hit else rest[-1]),
-                      lambda held, hit, *rest: (*rest[:4], [0] * len(rest[4]) if held[0] == 2 else rest[4], *rest[5:]),
-                      lambda held, hit, *rest: (*rest[:5], [0] * len(rest[5]) if held[0] == 1 else rest[5], *rest[6:]),
-                      lambda held, hit, *rest: (*rest[:2], rest[2] + (held[0] == 2), *rest[3:])):
-            for lists, singles in ((300, 0), (0, 1500)):
-                with mock.patch.object(run, "REFERENCE", OtherHeld(other)), self.assertRaisesRegex(run.Difference, "^held and not held"):
-                    play(OtherHeld(other), lists, singles)
-
-    def test_book_that_is_told_another_hit(self):
-        """The book is fed the hit that acts: with none of those committed, or with those asked, it is too far away."""
-        right = run.acting_hit
-        for other in (lambda arguments: None, lambda arguments: right(arguments) if arguments[-3] else None,
-                      lambda arguments: right(arguments) or (arguments[6][1:] if arguments[6][0] == 1 else None)):
-            with mock.patch.object(run, "acting_hit", other), self.assertRaisesRegex(
-                    run.Difference, "^(distance|sample) beyond|^energy raised|^energy not kept|^no inexact point counted"):
-                play(Reference(), 300)
 
     def test_book_that_is_not_told_of_a_lent_table(self):
         with mock.patch.object(book.Book, "pluck_with"), self.assertRaisesRegex(run.Difference, "^distance beyond the bound"):
@@ -1888,23 +1454,13 @@ class UpAndDown(unittest.TestCase):
     """Request 5: "negated levels, negated samples for the steps done, equal counts and equal refusals, all along"."""
 
     # By call: an outcome and its mirror image. In the first a later place is 0, its own negative.
-    outcomes = (("block", (13, 2, 3, (0, 0, 0), [0, 5, 0], [0, 6, -7], [4, 0, -4], [7, -8, 0, 9]),
-                 (13, 2, 3, (0, 0, 0), [0, -5, 0], [0, -6, 7], [4, 0, -4], [-7, 8, 0, 9])),
-                ("block", (0, 1, 0, (1, 2, 70), [0, 5, 0], [0, 6, -7], [0] * 3, [7]),
-                 (0, 1, 0, (1, 2, -70), [0, -5, 0], [0, -6, 7], [0] * 3, [-7])),
-                ("block_in_place", (0, 1, 2, (1, 2, -3), [0, 5, 0], [0, 6, -7], [7]), (0, 1, 2, (1, 2, 3), [0, -5, 0], [0, -6, 7], [-7])),
-                ("block_in_place", (8, 0, 0, (2, 1, 9), [0, 5], [6], [7, 9]), (8, 0, 0, (2, 1, -9), [0, -5], [-6], [7, 9])),
-                ("block_in_place", (9, 0, 0, (7, 1, 9), [0, 5], [6], [7, 9]), (9, 0, 0, (7, 1, 9), [0, -5], [-6], [7, 9])),
-                ("ask", (0, (1, 4, 55)), (0, (1, 4, -55))), ("ask", (15, (2, 4, -55)), (15, (2, 4, 55))),
-                ("ask", (7, (0, 4, -55)), (7, (0, 4, -55))), ("commit", (0, (2, 4, -55)), (0, (2, 4, 55))),
-                ("commit", (16, (3, 4, -55)), (16, (3, 4, -55))), ("withdraw", (0, (0, 0, 0)), (0, (0, 0, 0))),
+    outcomes = (("block", (13, 2, 3, [0, 5, 0], [0, 6, -7], [4, 0, -4], [7, -8, 0, 9]),
+                 (13, 2, 3, [0, -5, 0], [0, -6, 7], [4, 0, -4], [-7, 8, 0, 9])),
+                ("block_in_place", (0, 1, 2, [0, 5, 0], [0, 6, -7], [7]), (0, 1, 2, [0, -5, 0], [0, -6, 7], [-7])),
+                ("block_in_place", (8, 0, 0, [0, 5], [6], [7, 9]), (8, 0, 0, [0, -5], [-6], [7, 9])),
                 ("pluck", (0, [0, 3, 1], [0, 3, 1]), (0, [0, -3, -1], [0, -3, -1])),
                 ("pluck_with", (0, [0, 3, 1], [0, 3, 1], [0, 9]), (0, [0, -3, -1], [0, -3, -1], [0, 9])),
                 ("pluck_with", (14, [0, 3], [0, 4, 1], [5]), (14, [0, -3], [0, -4, -1], [5])))
-
-    # What is held and its mirror image: the force of a hit, asked or committed; nothing where none is held.
-    held = (((0, 0, 0), (0, 0, 0)), ((1, 2, 77), (1, 2, -77)), ((2, 0, -5), (2, 0, 5)), ((0, 3, 9), (0, 3, 9)), ((7, 3, 9), (7, 3, 9)),
-            ((2**64 - 1, 0, -2**63), (2**64 - 1, 0, -2**63)))
 
     def pair(self, name, *arguments):
         """The outcomes of a call and of its mirror image, after a look that one is the mirror image of the other."""
@@ -1914,23 +1470,20 @@ class UpAndDown(unittest.TestCase):
         return first, second
 
     def blocks(self, *arguments):
-        """Those of a block with none held, without work and what is held; those of the block in place are the same."""
-        arguments = holding((0, 0, 0), arguments)
+        """Those of a block, without work; those of the block in place are the same."""
         three = tuple(run.left_without_work(outcome) for outcome in self.pair("block", *arguments))
         self.assertEqual(self.pair("block_in_place", *run.without_work(arguments)), three)
-        self.assertTrue(all(outcome[3] == (0, 0, 0) for outcome in three))
-        return tuple(map(run.without_held, three))
+        return three
 
     def test_arguments(self):
         """Levels, force and height negated; all else the same, and the force without a hit."""
         before, lent = (4, 4, 1, 16384, 5, 8), ([1, -2, 3, -4], [11, -12], 3)
         levels, image = ([0, 5, -6, 0], [0, 7, 8, 0]), ([0, -5, 6, 0], [0, -7, -8, 0])
         for hit, force, negative in ((1, 100, -100), (2**64 - 1, -7, 7), (0, 100, 100)):
-            for held, other in self.held:
-                self.assertEqual(mirror.of_arguments("block", (*before, held, *levels, *lent, hit, 2, force)),
-                                 (*before, other, *image, *lent, hit, 2, negative))
-                self.assertEqual(mirror.of_arguments("block_in_place", (*before, held, *levels, *lent[1:], hit, 2, force)),
-                                 (*before, other, *image, *lent[1:], hit, 2, negative))
+            self.assertEqual(mirror.of_arguments("block", (*before, *levels, *lent, hit, 2, force)),
+                             (*before, *image, *lent, hit, 2, negative))
+            self.assertEqual(mirror.of_arguments("block_in_place", (*before, *levels, *lent[1:], hit, 2, force)),
+                             (*before, *image, *lent[1:], hit, 2, negative))
         for centre in (0, 2):
             self.assertEqual(mirror.of_arguments("pluck", (4, 4, 1, *levels, centre, 3, -77)),
                              (4, 4, 1, *image, centre, 3, 77))
@@ -1946,30 +1499,13 @@ class UpAndDown(unittest.TestCase):
                 ([0, low, 0], rest, rest, 1, 5, False), (rest, [0, 0, low], rest, 1, 5, False),
                 (rest, rest, rest, 1, low, False), (rest, rest, rest, 0, low, True),
                 (rest, rest, [low, 0, 0], 1, 5, True)):
-            block = 1, 3, 1, 0, 0, 0, (7, 0, low), older, newer, work, [9], 1, hit, 1, strength
+            block = 1, 3, 1, 0, 0, 0, older, newer, work, [9], 1, hit, 1, strength
             self.assertEqual(mirror.of_arguments("block", block) is not None, is_there)
             self.assertEqual(mirror.of_arguments("block_in_place", run.without_work(block)) is not None, is_there)
             pluck = 1, 3, 1, older, newer, 1, 1, strength
             self.assertEqual(mirror.of_arguments("pluck", pluck) is not None, is_there and strength != low)
             found = mirror.of_arguments("pluck_with", (*pluck, tables.LATE))
             self.assertEqual(found is not None, is_there and strength != low)
-        for held, is_there in (((1, 1, low), False), ((2, 1, low), False), ((3, 1, low), True), ((0, 1, low), True),
-                               ((2, 1, low + 1), True)):
-            block = 1, 3, 1, 0, 0, 0, held, rest, rest, rest, [9], 1, 0, 1, 5
-            self.assertEqual(mirror.of_arguments("block", block) is not None, is_there)
-            self.assertEqual(mirror.of_arguments("block_in_place", run.without_work(block)) is not None, is_there)
-            self.assertEqual(mirror.of_arguments("ask", (1, 3, 1, held, 1, 5)) is not None, is_there)
-            for name in ("commit", "withdraw"):
-                self.assertEqual(mirror.of_arguments(name, (held,)) is not None, is_there)
-        self.assertIsNone(mirror.of_arguments("ask", (1, 3, 1, (0, 0, 0), 1, low)))
-
-    def test_arguments_of_asking(self):
-        """The force asked and the one held negated; committing and withdrawing have the one held alone."""
-        for held, other in self.held:
-            for force in (100, -100, 0, CEILING + 1):
-                self.assertEqual(mirror.of_arguments("ask", (4, 4, 1, held, 2, force)), (4, 4, 1, other, 2, -force))
-            for name in ("commit", "withdraw"):
-                self.assertEqual(mirror.of_arguments(name, (held,)), (other,))
 
     def test_outcome(self):
         for name, outcome, image in self.outcomes:
@@ -1979,7 +1515,7 @@ class UpAndDown(unittest.TestCase):
         for name, outcome, image in self.outcomes:
             self.assertTrue(mirror.is_image(name, outcome, image))
             for place, part in enumerate(image):
-                other = part + 1 if isinstance(part, int) else type(part)([*part[:-1], part[-1] + 1])
+                other = [*part[:-1], part[-1] + 1] if isinstance(part, list) else part + 1
                 found = *image[:place], other, *image[place + 1:]
                 self.assertFalse(mirror.is_image(name, outcome, found), (name, found))
 
@@ -2016,9 +1552,9 @@ class UpAndDown(unittest.TestCase):
                 self.assertFalse(mirror.is_image_book(first, newer, second), name)
 
     def test_c_and_d(self):
-        c, d = self.pair("block", 1, 3, 1, 16384, 0, 0, (0, 0, 0), [0, 1, 0], [0, 1, 0], [7] * 3, [5], 1, 0, 0, 0)
-        self.assertEqual(c, (0, 1, 1, (0, 0, 0), [0, 1, 0], [0, 1, 0], [0] * 3, [0]))
-        self.assertEqual(d, (0, 1, 1, (0, 0, 0), [0, -1, 0], [0, -1, 0], [0] * 3, [0]))
+        c, d = self.pair("block", 1, 3, 1, 16384, 0, 0, [0, 1, 0], [0, 1, 0], [7] * 3, [5], 1, 0, 0, 0)
+        self.assertEqual(c, (0, 1, 1, [0, 1, 0], [0, 1, 0], [0] * 3, [0]))
+        self.assertEqual(d, (0, 1, 1, [0, -1, 0], [0, -1, 0], [0] * 3, [0]))
 
     def test_hit(self):
         """The listing of ring, struck from above and from below."""
@@ -2042,24 +1578,6 @@ class UpAndDown(unittest.TestCase):
         table = tables.peak(tables.LATE, 9)
         self.assertEqual(self.pair("pluck_with", 1, 5, 1, [9] * 5, [8] * 5, 2, 3, 7, table),
                          ((14, [9] * 5, [8] * 5, table), (14, [-9] * 5, [-8] * 5, table)))
-
-    def test_held_hit(self):
-        """Asked from above and from below, committed and heard: each call is the mirror image of the other's."""
-        rest, held = [0] * 3, ((0, 0, 0), (0, 0, 0))
-        for name, before, after, expected in (
-                ("ask", (1, 3, 1), (1, 2**28), ((0, (1, 1, 2**28)), (0, (1, 1, -2**28)))),
-                ("commit", (), (), ((0, (2, 1, 2**28)), (0, (2, 1, -2**28)))),
-                ("block", (1, 3, 1, D, 0, 0), (rest, rest, rest, [9] * 4, 1, 0, 0, 0),
-                 ((0, 4, 0, (0, 0, 0), [0, -2**28, 0], rest, rest, [1, 0, -1, 0]),
-                  (0, 4, 0, (0, 0, 0), [0, 2**28, 0], rest, rest, [-1, 0, 1, 0]))),
-                ("withdraw", (), (), ((16, (0, 0, 0)), (16, (0, 0, 0))))):
-            outcomes = self.pair(name, *before, held[0], *after)
-            self.assertEqual(outcomes, expected)
-            place = mirror.HELD[name][1]
-            held = outcomes[0][place], outcomes[1][place]
-        for numbers in ((1, 1, 5), (2, 1, 5)):
-            self.assertEqual(self.pair("withdraw", numbers), ((0, (0, 0, 0)),) * 2)
-            self.assertEqual(self.pair("ask", 1, 3, 1, numbers, 1, 9), ((15, numbers), (15, (*numbers[:2], -5))))
 
     def test_samples(self):
         """"This rests on the read-out rounding to nearest"; q, m and s 0, older as newer."""
@@ -2110,8 +1628,7 @@ class UpAndDown(unittest.TestCase):
             self.assertEqual(image, (name, mirror.of_arguments(name, arguments)))
         self.assertEqual((counts["mirrored lists"], 2 * counts["mirrored calls"]), (150, len(made)))
         self.assertEqual(sum(counts[key] for key in counts if isinstance(key, tuple)), len(made))
-        for what in ("mirrored lists with hits", "mirrored hits that were committed", "mirrored, refused", "mirrored, 13 first",
-                     "mirrored, 13 later",
+        for what in ("mirrored lists with hits", "mirrored, refused", "mirrored, 13 first", "mirrored, 13 later",
                      "mirrored plucks", "mirrored plucks by lent tables", *(f"kind {kind}" for kind in KINDS)):
             self.assertGreater(counts[what], 3, what)
         self.assertGreater(counts["mirrored plucks"], counts["mirrored plucks by lent tables"])
@@ -2133,12 +1650,10 @@ class UpAndDown(unittest.TestCase):
 
     @all_mirrored
     def test_wrong_calls(self):
-        """A wrong copy of the calls, on both sides, beside its own mirror image; both calls are told. No other check stands by."""
-        one_block = lambda playing, arguments: run.left_without_work(playing.block("block", *arguments))
+        """A wrong copy of the calls, on both sides, beside its own mirror image; both calls are told."""
         for edit in must_fail.ONE_SIDED:
             wrong = wrong_stand_in(edit)
             with self.subTest(edit[0]), mock.patch.object(run, "REFERENCE", wrong), \
-                    mock.patch.multiple(run.Run, check_held=mock.DEFAULT, both_blocks=one_block), \
                     self.assertRaisesRegex(run.Difference, r"^not the mirror image\n(\w+)\(.*\)\n\1\(.*\)\n"):
                 play(wrong, 1000, odds=0.1)
 

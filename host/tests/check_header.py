@@ -1,10 +1,7 @@
-"""Whether the headers have what the library exports: buvcsolta_abi.h the names, arguments and their types; buvcsolta.h a call over structs
-for each, the answers' numbers with a text for each, kinds, units and ceiling; both the same numbers at each call, in the order of the
-checks. example.c uses the other constants.
+"""Whether host/include/buvcsolta.h declares what the library exports: names, arguments and their types, refusal
+numbers, kinds, units and ceiling. example.c uses the other constants.
 
-    python3 check_header.py LIBRARY.so buvcsolta.h buvcsolta_abi.h types/src/lib.rt scheme/specs/Refusals.antt EXPORTS.rt ..
-
-where EXPORTS.rt .. are the sources of the crates of exports, crates/c_api*/src/lib.rt.
+    python3 check_header.py HEADER.h c_api/src/lib.rt c_api_in_place/src/lib.rt types/src/lib.rt LIBRARY.so
 """
 
 import pathlib
@@ -27,7 +24,7 @@ def c_arguments(name, rattle):
         raise SystemExit(f"no C type for {name}: {rattle}")
     if not form[1]:
         return [f"{TYPES[form[3]]} {name}"]
-    pointer = f"{'const ' if form[1] == '&' else ''}{TYPES[form[3]]} *BUVCSOLTA_RESTRICT {name}"
+    pointer = f"{'const ' if form[1] == '&' else ''}{TYPES[form[3]]} *{name}"
     return [pointer, f"size_t {name}_length"] if form[2] else [pointer]
 
 
@@ -37,7 +34,7 @@ def exported(source):
     for name, arguments, answer in re.findall(r'extern "C" fn (\w+)\((.*?)\) -> (\w+)', source, re.S):
         pairs = [part.strip().split(": ", 1) for part in arguments.split(",") if part.strip()]
         listed = [argument for pair in pairs for argument in c_arguments(*pair)]
-        found[name] = f"{TYPES[answer]} {name}({', '.join(listed) or 'void'})"
+        found[name] = f"{TYPES[answer]} {name}({', '.join(listed)})"
     return found
 
 
@@ -51,65 +48,19 @@ def declared(header):
 
 
 def refusals(source):
-    """{enumerator: number} of the enum of refusals in Rattle; Nothing is OK in C."""
+    """{enumerator: number} of the enum of refusals in Rattle."""
     pairs = re.findall(r"Refusal::(\w+) => (\d+)", source)
-    words = {name: "_OK" if name == "Nothing" else re.sub(r"([A-Z])", r"_\1", name).upper() for name, _ in pairs}
-    return {f"BUVCSOLTA{words[name]}": int(number) for name, number in pairs}
+    return {"BUVCSOLTA" + re.sub(r"([A-Z])", r"_\1", name).upper(): int(number) for name, number in pairs}
 
 
 def enumerators(header, name):
-    body = re.search(rf"enum {name} \{{(.*?)\}} {name};", re.sub(r"/\*.*?\*/", "", header, flags=re.S), re.S)
+    body = re.search(rf"enum {name} \{{(.*?)\}};", re.sub(r"/\*.*?\*/", "", header, flags=re.S), re.S)
     return {key: int(value) for key, value in re.findall(r"(\w+) = (\d+)", body[1])} if body else {}
 
 
 def texts(header):
-    """The enumerators that buvcsolta_text tells in words."""
+    """The enumerators that buvcsolta_refusal_text tells in words."""
     return re.findall(r'case (\w+): return "', header)
-
-
-def over_structs(exported_name):
-    """The name in buvcsolta.h of an exported function."""
-    verb = exported_name.removeprefix("buvcsolta_abi_")
-    return "buvcsolta_version" if verb == "version" else f"buvcsolta_voice_{verb}"
-
-
-def calls_made(header):
-    """{name: exported functions that it calls} of the inline functions of a header that call one."""
-    bodies = re.findall(r"^static inline [\w *]*?(\w+)\([^{]*\)\n\{\n(.*?)^\}", header, re.M | re.S)
-    called = {name: re.findall(r"\b(buvcsolta_abi_\w+)\(", body) for name, body in bodies}
-    return {name: names for name, names in called.items() if names}
-
-
-def numbers_in(text):
-    return [int(number) for number in re.findall(r"\d+", text)]
-
-
-def flat_numbers(abi):
-    """{name: refusals in order} that stand first in the comment before each exported function."""
-    return {name: numbers_in(found) for found, name in re.findall(r"/\* ((?:\d+ )+\d+|\d+)\b[^/]*?\*/\nuint64_t (\w+)\(", abi)}
-
-
-def struct_numbers(header):
-    """{name: refusals in order} of "Answers: 0; .." in the comment before each call; "as NAME" is that call's."""
-    found = re.findall(r"^ \* Answers: (?:0; ([\d ]+)\.|as (\w+);).*?\*/\nstatic inline buvcsolta_answer (\w+)\(", header, re.M | re.S)
-    own = {name: numbers_in(listed) for listed, _, name in found if listed}
-    return {**own, **{name: own.get(other) for _, other, name in found if other}}
-
-
-def order_of(refusals_source):
-    """The order of all numbers, from the definition `order`."""
-    return numbers_in(re.search(r"^order = (.*)$", refusals_source, re.M)[1])
-
-
-def lists_wrong(header, abi, names, order):
-    """What is wrong with the numbers at each call."""
-    flat, over = flat_numbers(abi), struct_numbers(header)
-    for name in sorted(names - {"buvcsolta_abi_version"}):
-        mine, other = flat.get(name), over.get(over_structs(name))
-        if not mine or mine != other:
-            yield f"the numbers of {name}: {mine} and {other}"
-        elif [number for number in order if number in mine] != mine:
-            yield f"the numbers of {name} are not in order: {mine}"
 
 
 def constant(header, name):
@@ -129,33 +80,26 @@ def symbols(library):
     return {line.split()[2] for line in said.splitlines() if " T " in line}
 
 
-def read(path):
-    return pathlib.Path(path).read_text(encoding="utf-8")
+def sources(paths):
+    """The header, the sources of the two libraries of exports as one, the types; `paths` are those four."""
+    header, *exports, types = (pathlib.Path(path).read_text(encoding="utf-8") for path in paths)
+    return header, "\n".join(exports), types
 
 
-def sources(options):
-    """Both headers, the types, the definitions of refusals, the sources of the exports as one."""
-    single = (options.header, options.abi, options.types, options.refusals)
-    return *map(read, single), "\n".join(map(read, options.exports))
-
-
-def differences(header, abi, scheme, checks, exports, names):
+def differences(header, exports, scheme, names):
     """What does not agree, a line each."""
-    ours, theirs = exported(exports), declared(abi)
+    ours, theirs = exported(exports), declared(header)
     wrong = []
     for name in sorted({*ours, *theirs, *names}):
         if name not in names:
             wrong.append(f"{name} is not in the library")
         if ours.get(name) != theirs.get(name):
             wrong.append(f"{name}:\n  source {ours.get(name)}\n  header {theirs.get(name)}")
-    if calls_made(header) != {over_structs(name): [name] for name in ours}:
-        wrong.append(f"the calls over structs do not call each its function: {calls_made(header)}")
-    wrong += lists_wrong(header, abi, set(ours), order_of(checks))
-    numbers, listed = refusals(scheme), enumerators(header, "buvcsolta_answer")
+    numbers, listed = refusals(scheme), enumerators(header, "buvcsolta_refusal")
     if numbers != listed:
-        wrong.append(f"answers: {sorted(set(numbers.items()) ^ set(listed.items()))}")
+        wrong.append(f"refusals: {sorted(set(numbers.items()) ^ set(listed.items()))}")
     if sorted(texts(header)) != sorted(numbers):
-        wrong.append("answers in words are not those of the source")
+        wrong.append("refusals in words are not those of the source")
     grid = re.search(r"^impl Grid \{(.*?)^\}", scheme, re.M | re.S)
     kinds = {f"BUVCSOLTA_{name}": int(number) for name, number in re.findall(r"const (\w+): u64 = (\d+);", grid[1] if grid else "")}
     if not kinds or enumerators(header, "buvcsolta_kind") != kinds:
@@ -170,21 +114,20 @@ def differences(header, abi, scheme, checks, exports, names):
 
 def add_sources(parser):
     """The arguments that `sources` takes."""
-    for name in ("header", "abi", "types", "refusals"):
+    for name in ("header", "c_api", "c_api_in_place", "types"):
         parser.add_argument(name, type=file)
-    parser.add_argument("exports", nargs="+", metavar="EXPORTS.rt", type=file)
 
 
 def main():
     parser = parser_of(__doc__)
-    parser.add_argument("library", metavar="LIBRARY.so", type=file)
     add_sources(parser)
+    parser.add_argument("library", metavar="LIBRARY.so", type=file)
     options = parser.parse_args()
     if not shutil.which("nm"):
         parser.error("nm is missing: it lists what the library exports")
-    *found, exports = sources(options)
-    wrong = differences(*found, exports, symbols(options.library))
-    held = f"the headers have the {len(exported(exports))} functions and {len(refusals(found[2]))} answers of the library"
+    header, exports, scheme = sources((options.header, options.c_api, options.c_api_in_place, options.types))
+    wrong = differences(header, exports, scheme, symbols(options.library))
+    held = f"the header declares the {len(exported(exports))} functions and {len(refusals(scheme))} refusals of the library"
     print(*wrong or [held], sep="\n")
     return 1 if wrong else 0
 

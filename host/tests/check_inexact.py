@@ -64,8 +64,8 @@ WRONG = (*((place, text) for place in range(9) for text in ("", "-", "x", "+1", 
 
 
 def words(header):
-    """{number: text} of the answers that a header tells in words."""
-    numbers = enumerators(header, "buvcsolta_answer")
+    """{number: text} of the refusals that a header tells in words."""
+    numbers = enumerators(header, "buvcsolta_refusal")
     return {numbers[name]: text for name, text in re.findall(r'case (\w+): return "(.*)";', header)}
 
 

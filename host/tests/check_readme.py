@@ -1,7 +1,7 @@
-"""Whether the pages' program in C prints what they say, their table of loudness and their list of touches are what the examples print, and
-their table of stacks has the header's numbers.
+"""Whether the pages' program in C prints what they say, their table of loudness is what the example prints, and their table of stacks has
+the header's numbers.
 
-    python3 check_readme.py INCLUDE_FOLDER LIBRARY.a LOUDNESS_PROGRAM TOUCH_PROGRAM PAGE.md ..
+    python3 check_readme.py INCLUDE_FOLDER LIBRARY.a LOUDNESS_PROGRAM PAGE.md ..
 
 Each of these stands once in the pages, behind its marker.
 """
@@ -19,7 +19,6 @@ from arguments import file, folder, parser_of, program
 PROGRAM = "<!-- host/test compiles and runs this program -->"
 PRINTED = "<!-- what it prints -->"
 TABLE = "<!-- host/examples/loudness.c prints this table -->"
-TOUCHES = "<!-- host/examples/touch.c prints this -->"
 STACKS = "<!-- the numbers are those of the header, and host/test measures them -->"
 
 
@@ -56,10 +55,9 @@ def stacks_of(text):
     return {name: int(number) for name, number in re.findall(r"(BUVCSOLTA_STACK_\w+)`?[ |]+(\d+)", text)}
 
 
-def faults(text, include, library, loudness, touch):
+def faults(text, include, library, loudness):
     for what, said, wanted in (("the program", printed_by(after(text, PROGRAM), include, library), after(text, PRINTED)),
-                               ("the table of loudness", run(loudness), after(text, TABLE)),
-                               ("the touch surface", run(touch), after(text, TOUCHES))):
+                               ("the table of loudness", run(loudness), after(text, TABLE))):
         if said != wanted:
             yield f"{what} prints\n{said}and the page has\n{wanted}"
     header = stacks_of((include / "buvcsolta.h").read_text(encoding="utf-8"))
@@ -72,15 +70,14 @@ def main():
     parser.add_argument("include", metavar="INCLUDE_FOLDER", type=folder)
     parser.add_argument("library", metavar="LIBRARY.a", type=file)
     parser.add_argument("loudness", metavar="LOUDNESS_PROGRAM", type=program)
-    parser.add_argument("touch", metavar="TOUCH_PROGRAM", type=program)
     parser.add_argument("pages", metavar="PAGE.md", nargs="+", type=file)
     options = parser.parse_args()
     text = "\n".join(page.read_text(encoding="utf-8") for page in options.pages)
     try:
-        wrong = list(faults(text, options.include, options.library, options.loudness, options.touch))
+        wrong = list(faults(text, options.include, options.library, options.loudness))
     except Wrong as fault:
         wrong = [str(fault)]
-    print(*wrong or ["the pages' program, tables and list are what is printed"], sep="\n")
+    print(*wrong or ["the pages' program and tables are what is printed"], sep="\n")
     return 1 if wrong else 0
 
 

@@ -5,31 +5,30 @@
 #include <stdio.h>
 #include <string.h>
 
-struct worked {
-    uint64_t answer;
-    buvcsolta_settings settings;
+struct answer {
+    uint64_t refusal, q, m, s;
 };
 
-static struct worked worked_out(const buvcsolta_sheet *sheet, uint64_t kind, int is_flushed)
+static struct answer asked(const struct buvcsolta_player_sheet *sheet, uint64_t kind, int is_flushed)
 {
-    buvcsolta_voice voice = {{kind, 9, kind >= 5 ? 9 : 1}, {0, 0, 0}, 0, {0, 0}};
-    struct worked a;
+    struct buvcsolta_instrument i = {kind, 9, kind >= 5 ? 9 : 1, 0, 0, 0};
+    struct answer a;
     unsigned before = _mm_getcsr();
     if (is_flushed) {
         _MM_SET_FLUSH_ZERO_MODE(_MM_FLUSH_ZERO_ON);
         _MM_SET_DENORMALS_ZERO_MODE(_MM_DENORMALS_ZERO_ON);
     }
-    a.answer = buvcsolta_voice_sheet(&voice, sheet);
+    a.refusal = buvcsolta_instrument_sheet(&i, sheet);
     _mm_setcsr(before);
-    a.settings = voice.settings;
+    a.q = i.q, a.m = i.m, a.s = i.s;
     return a;
 }
 
 struct row {
     const char *what;
     uint64_t kind;
-    buvcsolta_sheet sheet; /* rate, length, bending, speed_by, speed, density, loss_by, loss */
-    uint64_t answer, flushed;
+    struct buvcsolta_player_sheet sheet; /* rate, length, bending, by_tension, speed, density, by_seconds, loss */
+    uint64_t refusal, flushed;
 };
 
 int main(void)
@@ -45,22 +44,20 @@ int main(void)
     };
     int wrong = 0;
     for (size_t k = 0; k < sizeof rows / sizeof *rows; k++) {
-        struct worked a = worked_out(&rows[k].sheet, rows[k].kind, 0), b = worked_out(&rows[k].sheet, rows[k].kind, 1);
+        struct answer a = asked(&rows[k].sheet, rows[k].kind, 0), b = asked(&rows[k].sheet, rows[k].kind, 1);
         int is_alike = memcmp(&a, &b, sizeof a) == 0;
-        if (a.answer != rows[k].answer || b.answer != rows[k].flushed || is_alike != (rows[k].answer == rows[k].flushed)) {
-            printf("%s: answers %d, flushed %d\n", rows[k].what, (int)a.answer, (int)b.answer);
+        if (a.refusal != rows[k].refusal || b.refusal != rows[k].flushed || is_alike != (rows[k].refusal == rows[k].flushed)) {
+            printf("%s: answers %d, flushed %d\n", rows[k].what, (int)a.refusal, (int)b.refusal);
             wrong = 1;
         }
     }
     for (int64_t unit = 1; unit <= BUVCSOLTA_CEILING && !wrong; unit *= 2) {
-        static const buvcsolta_voice string = {{BUVCSOLTA_STRING_FIXED, 3, 1}, {0, 0, 0}, 0, {0, 0}};
-        int64_t older[3], newer[3] = {0, -unit, 0};
-        buvcsolta_levels levels = {older, newer, 3};
+        int64_t level[3] = {0, -unit, 0};
         double plain, flushed;
         unsigned before = _mm_getcsr();
-        wrong |= buvcsolta_voice_reading(&string, levels, 1, &plain) != 0;
+        wrong |= buvcsolta_reading(BUVCSOLTA_STRING_FIXED, 3, 1, level, 3, 1, &plain) != 0;
         _mm_setcsr(before | _MM_FLUSH_ZERO_ON | _MM_DENORMALS_ZERO_ON | _MM_ROUND_UP);
-        wrong |= buvcsolta_voice_reading(&string, levels, 1, &flushed) != 0;
+        wrong |= buvcsolta_reading(BUVCSOLTA_STRING_FIXED, 3, 1, level, 3, 1, &flushed) != 0;
         _mm_setcsr(before);
         wrong |= memcmp(&plain, &flushed, sizeof plain) != 0;
     }

@@ -1,6 +1,6 @@
 /* The stack that each call needs: calls of every kind and size on a painted stack, and the lowest byte that lost its paint. Prints the
  * bytes below the caller's frame, arguments and return address included, and fails where they are more than the header says. A block of
- * a plate keeps rows of its own, and is counted apart, as are blocks with a committed hit and those that 15 refuses. */
+ * a plate keeps rows of its own, and is counted apart. */
 #include "buvcsolta.h"
 #include <stdio.h>
 #include <stdlib.h>
@@ -11,146 +11,71 @@ enum { STACK = 65536, PAINT = 0xA5, POINTS = 4096, PLACES = 5 };
 
 static unsigned char stack[STACK];
 static unsigned char *frame;
-static int64_t older[POINTS], newer[POINTS], work_points[POINTS];
-static int16_t heard[PLACES];
-static buvcsolta_voice voice;
-static buvcsolta_answer answer;
+static int64_t older[POINTS], newer[POINTS], work[POINTS];
+static int16_t samples[PLACES];
+static struct buvcsolta_instrument instrument;
+static size_t steps;
+static uint64_t refusal, inexact;
 static ucontext_t here, there;
 
-static buvcsolta_levels levels(void)
+static struct buvcsolta_levels levels(void)
 {
-    buvcsolta_levels lent = {older, newer, voice.grid.columns * voice.grid.rows};
+    struct buvcsolta_levels lent = {older, newer, work, instrument.columns * instrument.rows};
     return lent;
 }
 
-static buvcsolta_hit middle_hit(void)
+static struct buvcsolta_hit middle_hit(void)
 {
-    buvcsolta_hit hit = {voice.grid.rows / 2 * voice.grid.columns + voice.grid.columns / 2, 1000000};
+    struct buvcsolta_hit hit = {instrument.rows / 2 * instrument.columns + instrument.columns / 2, 1000000};
     return hit;
-}
-
-static void call_ask(void)
-{
-    buvcsolta_hit hit = middle_hit();
-    frame = __builtin_frame_address(0);
-    answer = buvcsolta_voice_ask(&voice, hit);
-}
-
-static void call_commit(void)
-{
-    voice.held = BUVCSOLTA_HELD_ASKED;
-    frame = __builtin_frame_address(0);
-    answer = buvcsolta_voice_commit(&voice);
-}
-
-static void call_withdraw(void)
-{
-    voice.held = BUVCSOLTA_HELD_COMMITTED;
-    frame = __builtin_frame_address(0);
-    answer = buvcsolta_voice_withdraw(&voice);
 }
 
 static void call_block(void)
 {
-    buvcsolta_levels lent = levels();
-    buvcsolta_points work = {work_points, lent.length};
-    buvcsolta_samples samples = {heard, PLACES};
-    buvcsolta_hit hit = middle_hit();
-    buvcsolta_done done;
+    struct buvcsolta_levels lent = levels();
+    struct buvcsolta_hit hit = middle_hit();
     frame = __builtin_frame_address(0);
-    answer = buvcsolta_voice_block(&voice, lent, work, samples, hit.point, &hit, &done);
+    refusal = buvcsolta_instrument_block(&instrument, &lent, samples, PLACES, hit.point, &hit, &steps, &inexact);
 }
 
 static void call_block_in_place(void)
 {
-    buvcsolta_levels lent = levels();
-    buvcsolta_samples samples = {heard, PLACES};
-    buvcsolta_hit hit = middle_hit();
-    buvcsolta_done done;
+    struct buvcsolta_levels lent = levels();
+    struct buvcsolta_hit hit = middle_hit();
     frame = __builtin_frame_address(0);
-    answer = buvcsolta_voice_block_in_place(&voice, lent, samples, hit.point, &hit, &done);
-}
-
-/* A block with the hit that the record holds, committed. */
-static void call_committed(void)
-{
-    buvcsolta_levels lent = levels();
-    buvcsolta_points work = {work_points, lent.length};
-    buvcsolta_samples samples = {heard, PLACES};
-    buvcsolta_done done;
-    voice.held = BUVCSOLTA_HELD_COMMITTED;
-    voice.held_hit = middle_hit();
-    frame = __builtin_frame_address(0);
-    answer = buvcsolta_voice_block(&voice, lent, work, samples, voice.held_hit.point, NULL, &done);
-}
-
-static void call_committed_in_place(void)
-{
-    buvcsolta_levels lent = levels();
-    buvcsolta_samples samples = {heard, PLACES};
-    buvcsolta_done done;
-    voice.held = BUVCSOLTA_HELD_COMMITTED;
-    voice.held_hit = middle_hit();
-    frame = __builtin_frame_address(0);
-    answer = buvcsolta_voice_block_in_place(&voice, lent, samples, voice.held_hit.point, NULL, &done);
-}
-
-/* The longest way to a refusal: a hit given while one is committed. */
-static void call_refused(void)
-{
-    buvcsolta_levels lent = levels();
-    buvcsolta_points work = {work_points, lent.length};
-    buvcsolta_samples samples = {heard, PLACES};
-    buvcsolta_hit hit = middle_hit();
-    buvcsolta_done done;
-    voice.held = BUVCSOLTA_HELD_COMMITTED;
-    voice.held_hit = hit;
-    frame = __builtin_frame_address(0);
-    answer = buvcsolta_voice_block(&voice, lent, work, samples, hit.point, &hit, &done);
-}
-
-static void call_refused_in_place(void)
-{
-    buvcsolta_levels lent = levels();
-    buvcsolta_samples samples = {heard, PLACES};
-    buvcsolta_hit hit = middle_hit();
-    buvcsolta_done done;
-    voice.held = BUVCSOLTA_HELD_COMMITTED;
-    voice.held_hit = hit;
-    frame = __builtin_frame_address(0);
-    answer = buvcsolta_voice_block_in_place(&voice, lent, samples, hit.point, &hit, &done);
+    refusal = buvcsolta_instrument_block_in_place(&instrument, &lent, samples, PLACES, hit.point, &hit, &steps, &inexact);
 }
 
 static void call_pluck(void)
 {
-    buvcsolta_levels lent = levels();
+    struct buvcsolta_levels lent = levels();
     frame = __builtin_frame_address(0);
-    answer = buvcsolta_voice_pluck(&voice, lent, 1, 1, 1000000);
+    refusal = buvcsolta_instrument_pluck(&instrument, &lent, 1, 1, 1000000);
 }
 
 static void call_pluck_with(void)
 {
-    static uint32_t entries[BUVCSOLTA_TABLE_LENGTH];
-    buvcsolta_levels lent = levels();
-    buvcsolta_table table = {entries, BUVCSOLTA_TABLE_LENGTH};
-    entries[BUVCSOLTA_TABLE_LENGTH - 1] = BUVCSOLTA_TABLE_END;
+    static uint32_t table[BUVCSOLTA_TABLE_LENGTH];
+    struct buvcsolta_levels lent = levels();
+    table[BUVCSOLTA_TABLE_LENGTH - 1] = BUVCSOLTA_TABLE_END;
     frame = __builtin_frame_address(0);
-    answer = buvcsolta_voice_pluck_with(&voice, lent, 1, 1, 1000000, table);
+    refusal = buvcsolta_instrument_pluck_with(&instrument, &lent, 1, 1, 1000000, table, BUVCSOLTA_TABLE_LENGTH);
 }
 
 static void call_reading(void)
 {
-    buvcsolta_levels lent = levels();
+    struct buvcsolta_levels lent = levels();
     double value;
     frame = __builtin_frame_address(0);
-    answer = buvcsolta_voice_reading(&voice, lent, 1, &value);
+    refusal = buvcsolta_instrument_reading(&instrument, &lent, 1, &value);
 }
 
 static void call_sheet(void)
 {
-    buvcsolta_sheet sheet = {48000.0, 1.0, 0.0, BUVCSOLTA_BY_TENSION, 1.0, 1.0, BUVCSOLTA_PER_SECOND, 6.0};
+    struct buvcsolta_player_sheet sheet = {48000.0, 1.0, 0.0, 1, 1.0, 1.0, 0, 6.0};
+    struct buvcsolta_instrument i = instrument;
     frame = __builtin_frame_address(0);
-    answer = buvcsolta_voice_sheet(&voice, &sheet);
+    refusal = buvcsolta_instrument_sheet(&i, &sheet);
 }
 
 /* The bytes below its frame that a call on a stack of its own needs. */
@@ -176,7 +101,6 @@ struct row {
     void (*call)(void);
     uint64_t first, last; /* kinds */
     size_t allowed;       /* bytes */
-    uint64_t wanted;      /* answer */
 };
 
 static uint64_t stiffness(uint64_t kind)
@@ -192,11 +116,11 @@ static size_t most(const struct row *r)
     for (uint64_t kind = r->first; kind <= r->last; kind++)
         for (int large = 0; large < 2; large++) {
             size_t side = sides[kind >= 5][large], bytes;
-            buvcsolta_voice fresh = {{kind, side, kind >= 5 ? side : 1}, {10000, stiffness(kind), 3}, 0, {0, 0}};
-            voice = fresh;
+            struct buvcsolta_instrument i = {kind, side, kind >= 5 ? side : 1, 10000, stiffness(kind), 3};
+            instrument = i;
             bytes = needed(r->call);
-            if (answer != r->wanted && !((r->call == call_pluck || r->call == call_pluck_with) && kind >= 5)) {
-                printf("%s, kind %d, %d columns: %s\n", r->name, (int)kind, (int)side, buvcsolta_text(answer));
+            if (refusal != BUVCSOLTA_NOTHING && !((r->call == call_pluck || r->call == call_pluck_with) && kind >= 5)) {
+                printf("kind %d, %d columns: %s\n", (int)kind, (int)side, buvcsolta_refusal_text(refusal));
                 exit(1);
             }
             found = bytes > found ? bytes : found;
@@ -207,21 +131,14 @@ static size_t most(const struct row *r)
 int main(void)
 {
     static const struct row rows[] = {
-        {"ask", call_ask, 1, 7, BUVCSOLTA_STACK_ASK, 0},
-        {"commit", call_commit, 1, 7, BUVCSOLTA_STACK_COMMIT, 0},
-        {"withdraw", call_withdraw, 1, 7, BUVCSOLTA_STACK_WITHDRAW, 0},
-        {"block", call_block, 1, 6, BUVCSOLTA_STACK_BLOCK, 0},
-        {"block of a plate", call_block, 7, 7, BUVCSOLTA_STACK_BLOCK, 0},
-        {"block with a committed hit", call_committed, 1, 7, BUVCSOLTA_STACK_BLOCK, 0},
-        {"block refused", call_refused, 1, 7, BUVCSOLTA_STACK_BLOCK, BUVCSOLTA_HIT_HELD},
-        {"block in place", call_block_in_place, 1, 6, BUVCSOLTA_STACK_BLOCK_IN_PLACE, 0},
-        {"block in place of a plate", call_block_in_place, 7, 7, BUVCSOLTA_STACK_BLOCK_IN_PLACE, 0},
-        {"block in place with a committed hit", call_committed_in_place, 1, 7, BUVCSOLTA_STACK_BLOCK_IN_PLACE, 0},
-        {"block in place refused", call_refused_in_place, 1, 7, BUVCSOLTA_STACK_BLOCK_IN_PLACE, BUVCSOLTA_HIT_HELD},
-        {"pluck", call_pluck, 1, 7, BUVCSOLTA_STACK_PLUCK, 0},
-        {"pluck by a lent table", call_pluck_with, 1, 7, BUVCSOLTA_STACK_PLUCK_WITH, 0},
-        {"reading", call_reading, 1, 7, BUVCSOLTA_STACK_READING, 0},
-        {"sheet", call_sheet, 1, 7, BUVCSOLTA_STACK_SHEET, 0},
+        {"block", call_block, 1, 6, BUVCSOLTA_STACK_BLOCK},
+        {"block of a plate", call_block, 7, 7, BUVCSOLTA_STACK_BLOCK},
+        {"block in place", call_block_in_place, 1, 6, BUVCSOLTA_STACK_BLOCK_IN_PLACE},
+        {"block in place of a plate", call_block_in_place, 7, 7, BUVCSOLTA_STACK_BLOCK_IN_PLACE},
+        {"pluck", call_pluck, 1, 7, BUVCSOLTA_STACK_PLUCK},
+        {"pluck by a lent table", call_pluck_with, 1, 7, BUVCSOLTA_STACK_PLUCK_WITH},
+        {"reading", call_reading, 1, 7, BUVCSOLTA_STACK_READING},
+        {"sheet", call_sheet, 1, 7, BUVCSOLTA_STACK_SHEET},
     };
     enum { ROWS = sizeof rows / sizeof *rows };
     int passed = 0;

@@ -19,7 +19,7 @@ from arguments import parser_of
 TESTS, REFERENCE, BENCH = (f"host/{folder}/" for folder in ("tests", "reference", "bench"))
 COMPARE = ("python3", REFERENCE + "compare.py")
 HEADER = "host/include/buvcsolta.h"
-SOURCES = ("host/include/buvcsolta_abi.h", "crates/types/src/lib.rt", "crates/scheme/specs/Refusals.antt", "crates/c_api/src/lib.rt")
+SOURCES = ("crates/c_api/src/lib.rt", "crates/c_api_in_place/src/lib.rt", "crates/types/src/lib.rt")
 
 # (command, programs that are there or None for all, what it says)
 CASES = (
@@ -37,9 +37,6 @@ CASES = (
     (("host/test", "--calls", "0"), None, "usage: host/test"),
     (("host/test", "all"), None, "usage: host/test"),
     (("host/build", "all"), None, "usage: host/build"),
-    (("host/build", "--install"), None, "usage: host/build"),
-    (("host/build", "--install", "--help"), None, "usage: host/build"),
-    (("host/build", "--install", "a", "b"), None, "usage: host/build"),
     (("host/bench/run", "all"), None, "usage: host/bench/run"),
     (("host/bench/build", "all"), None, "usage: host/bench/build"),
     (("host/hear", "a.wav", "b.wav"), None, "usage: host/hear"),
@@ -57,13 +54,12 @@ CASES = (
     (("python3", TESTS + "check_wav.py"), None, "arguments are required"),
     (("python3", TESTS + "check_wav.py", "no-such.wav"), None, "cannot read no-such.wav"),
     (("python3", TESTS + "check_header.py", HEADER), None, "arguments are required"),
-    (("python3", TESTS + "check_header.py", "no-such.so", HEADER, *SOURCES), None, "cannot read no-such.so"),
+    (("python3", TESTS + "check_header.py", HEADER, *SOURCES, "no-such.so"), None, "cannot read no-such.so"),
     (("python3", TESTS + "test_check_header.py", "no-such.h", *SOURCES), None, "cannot read no-such.h"),
     (("python3", TESTS + "check_inexact.py", "no-such", HEADER), None, "no such program"),
     (("python3", TESTS + "check_inexact.py", "README.md", HEADER), None, "no such program"),
-    (("python3", TESTS + "check_readme.py", "host/include", "no-such.a", "host/test", "host/test", "README.md"), None,
-     "cannot read no-such.a"),
-    (("python3", TESTS + "check_readme.py", "no-such", "README.md", "host/test", "host/test", "README.md"), None, "no such folder"),
+    (("python3", TESTS + "check_readme.py", "host/include", "no-such.a", "host/test", "README.md"), None, "cannot read no-such.a"),
+    (("python3", TESTS + "check_readme.py", "no-such", "README.md", "host/test", "README.md"), None, "no such folder"),
     (("python3", TESTS + "check_rattle.py"), None, "arguments are required"),
     (("python3", TESTS + "check_rattle.py", "no-such.md"), None, "cannot read no-such.md"),
     (("python3", TESTS + "check_lines.py", "no-such.md"), None, "cannot read no-such.md"),

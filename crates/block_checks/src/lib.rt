@@ -29,8 +29,7 @@ fn state_refusal(g: Grid, older: &[i64], newer: &[i64]) -> Refusal
 }
 
 // 6 of two levels by their lengths, and of what else is lent. One length is compared with the grid, the other with that one.
-// Ruled out: a newer level of another length passes; what else is lent not looked at.
-pub fn wrong_lengths(g: Grid, older: usize, newer: usize, wrong: bool) -> bool
+fn wrong_lengths(g: Grid, older: usize, newer: usize, wrong: bool) -> bool
     ensures { result ≡ (not_long g older || not_long g newer || wrong) }
 {
     if wrong_length(g, older) {

@@ -1,88 +1,69 @@
--- What a C program learns from the promises of `buvcsolta_abi_block`, `buvcsolta_abi_pluck` and `buvcsolta_abi_pluck_with` is what the claim
--- about a program asks of its calls: a call was made and kept, with these arguments and slices, and C got its counts of steps and of inexact
--- points, its refusal's number, and numbers that stand for what the record holds then.
-use mathlib.Core.Path.{◌≡◌, ap, ◌∙◌}
+-- What a C program learns from the promises of `buvcsolta_block`, `buvcsolta_pluck` and `buvcsolta_pluck_with` is what the claim about a
+-- program asks of its calls: a call was made and kept, with these arguments and slices, and C got its counts of steps and of inexact points
+-- and its refusal's number.
+use mathlib.Core.Path.{◌≡◌, ap}
 use contract.Lifetimes.{Lfts}
 use borrow.Fn.Kinds.{ended_of}
 use borrow.Fn.World.{ArgsD, ResD}
 use denote.Triple.Clauses.{AtExit}
 use Rattle.types.specs.declared.Grid.{Grid}
+use Rattle.types.specs.declared.Instrument.{Instrument}
 use Rattle.types.specs.declared.Hit.{Hit}
-use Rattle.types.specs.declared.Voice.{Voice}
 use Rattle.types.specs.Numbers.{number}
 use Rattle.scheme.specs.Calls as Calls
-use Rattle.scheme.specs.Held.{Voiced, answers, held_block}
-use Rattle.scheme.specs.Book.{held_call, pluck_call, pluck_with_call, block_outcome, pluck_outcome, with_voice, leaves, left_by_held, left_by_pluck}
+use Rattle.scheme.specs.Book.{block_call, pluck_call, pluck_with_call, block_outcome, pluck_outcome, leaves, left_by_block, left_by_pluck}
 use Rattle.scheme.specs.Program.{Made, Kept}
-use Rattle.scheme.proofs.Theorems.Held.{held-table}
-use Rattle.packing.specs.Packing.{grid_of, instrument_of, hit_of, held_numbers, held_of, voice_of}
-use Rattle.packing.specs.declared.HeldNumbers.{HeldNumbers}
-use Rattle.packing.proofs.HeldLaws.{block_stands}
+use Rattle.packing.specs.Packing.{grid_of, instrument_of, hit_of}
 use Rattle.c_api.specs.Exports.{BlockLeft, PluckLeft}
-use Rattle.c_api.specs.contracts.buvcsolta_abi_block as block
-use Rattle.c_api.proofs.buvcsolta_abi_block.Kinds as block-kinds
-use Rattle.c_api.proofs.buvcsolta_abi_block.Reads as block_reads
-use Rattle.c_api.specs.contracts.buvcsolta_abi_pluck as pluck
-use Rattle.c_api.proofs.buvcsolta_abi_pluck.Kinds as pluck-kinds
-use Rattle.c_api.proofs.buvcsolta_abi_pluck.Reads as pluck-reads
-use Rattle.c_api.specs.contracts.buvcsolta_abi_pluck_with as with
-use Rattle.c_api.proofs.buvcsolta_abi_pluck_with.Kinds as with-kinds
-use Rattle.c_api.proofs.buvcsolta_abi_pluck_with.Reads as with-reads
+use Rattle.c_api.specs.contracts.buvcsolta_block as block
+use Rattle.c_api.proofs.buvcsolta_block.Kinds as block-kinds
+use Rattle.c_api.proofs.buvcsolta_block.Reads as block_reads
+use Rattle.c_api.specs.contracts.buvcsolta_pluck as pluck
+use Rattle.c_api.proofs.buvcsolta_pluck.Kinds as pluck-kinds
+use Rattle.c_api.proofs.buvcsolta_pluck.Reads as pluck-reads
+use Rattle.c_api.specs.contracts.buvcsolta_pluck_with as with
+use Rattle.c_api.proofs.buvcsolta_pluck_with.Kinds as with-kinds
+use Rattle.c_api.proofs.buvcsolta_pluck_with.Reads as with-reads
 
--- kind, columns, rows, q, m, s, held, point, force, older, newer, work, samples, pick-up, hit, point, force, steps, inexact
-module _ (κs : Lfts 9) (a : ArgsD block.signature κs) (r : ResD block.signature κs)
-    (s : AtExit (ended_of 9 block-kinds.ps block-kinds.r) κs) (learnt : block_reads.Learnt κs a r s) where
-  -- the held hit's numbers, before and after
-  abbrev given : HeldNumbers
-  given = let h = a.1.1.1.1.1.1 in held_numbers h.0.now h.1.0.now h.1.1.0.now
-
-  abbrev left_held : HeldNumbers
-  left_held = let h = s.1.1.1.1.1.1 in held_numbers h.0.now h.1.0.now h.1.1.0.now
-
-  abbrev voice : Voice
-  voice = let c = a.1.1.1 in voice_of (instrument_of a.0 a.1.0 a.1.1.0 c.0 c.1.0 c.1.1.0) given
+-- kind, columns, rows, q, m, s, older, newer, work, samples, pick-up, hit, point, force, steps, inexact
+module _ (κs : Lfts 6) (a : ArgsD block.signature κs) (r : ResD block.signature κs)
+    (s : AtExit (ended_of 6 block-kinds.ps block-kinds.r) κs) (learnt : block_reads.Learnt κs a r s) where
+  abbrev instrument : Instrument
+  instrument = let c = a.1.1.1 in instrument_of a.0 a.1.0 a.1.1.0 c.0 c.1.0 c.1.1.0
 
   abbrev hit : Hit
-  hit = let h = a.1.1.1.1.1.1.1.1.1.1.1.1.1.1 in hit_of h.0 h.1.0 h.1.1.0
+  hit = let h = a.1.1.1.1.1.1.1.1.1.1.1 in hit_of h.0 h.1.0 h.1.1.0
 
-  abbrev done : Voiced Calls.AfterBlock
+  abbrev done : Calls.AfterBlock
   done =
-      let lent = a.1.1.1.1.1.1.1.1.1 in
-      held_block voice lent.0.now lent.1.0.now lent.1.1.0.now lent.1.1.1.0.now lent.1.1.1.1.0 hit
+      let lent = a.1.1.1.1.1.1 in
+      Calls.block instrument lent.0.now lent.1.0.now lent.1.1.0.now lent.1.1.1.0.now lent.1.1.1.1.0 hit
 
   abbrev block_made : Made
   block_made =
-      let lent = a.1.1.1.1.1.1.1.1.1 in
-      let left = s.1.1.1.1.1.1.1.1.1 in
+      let lent = a.1.1.1.1.1.1 in
+      let left = s.1.1.1.1.1.1 in
       record {
-        call = held_call voice lent.1.1.0.now lent.1.1.1.0.now lent.1.1.1.1.0 hit;
+        call = block_call instrument lent.1.1.0.now lent.1.1.1.0.now lent.1.1.1.1.0 hit;
         left = record {
-          outcome = with_voice done.voice (block_outcome done.left.answer left.1.1.0.now left.1.1.1.0.now);
+          outcome = block_outcome done.answer left.1.1.0.now left.1.1.1.0.now;
           older = left.0.now;
           newer = left.1.0.now;
         };
       }
 
-  pub block-kept : Kept a.1.1.1.1.1.1.1.1.1.0.now a.1.1.1.1.1.1.1.1.1.1.0.now block_made
+  pub block-kept : Kept a.1.1.1.1.1.1.0.now a.1.1.1.1.1.1.1.0.now block_made
   unfolding leaves
-  block-kept = ap (λ (x : BlockLeft). left_by_held (answers (Calls.block_left done.left.answer x.older x.newer x.work
-      x.samples) done.voice)) learnt
+  block-kept = ap (λ (x : BlockLeft). left_by_block (Calls.block_left done.answer x.older x.newer x.work x.samples)) learnt
 
-  pub block-steps : s.1.1.1.1.1.1.1.1.1.1.1.1.1.1.1.1.1.0.now ≡ done.left.answer.steps
+  pub block-steps : s.1.1.1.1.1.1.1.1.1.1.1.1.1.1.0.now ≡ done.answer.steps
   block-steps = ap (λ (x : BlockLeft). x.steps) learnt
 
-  pub block_inexact : s.1.1.1.1.1.1.1.1.1.1.1.1.1.1.1.1.1.1.0.now ≡ done.left.answer.inexact
+  pub block_inexact : s.1.1.1.1.1.1.1.1.1.1.1.1.1.1.1.0.now ≡ done.answer.inexact
   block_inexact = ap (λ (x : BlockLeft). x.inexact) learnt
 
-  pub block-refusal : r ≡ number done.left.answer.refusal
+  pub block-refusal : r ≡ number done.answer.refusal
   block-refusal = ap (λ (x : BlockLeft). x.refusal) learnt
-
-  pub block_held_lem : held_of left_held ≡ done.voice.held
-  block_held_lem =
-      let lent = a.1.1.1.1.1.1.1.1.1 in
-      ap (λ (x : BlockLeft). held_of x.held) learnt ∙ block_stands given (record { answer = done.left.answer; voice = done.voice })
-      (λ e. ap (λ (v : Voice). v.held) ((held-table.no_step voice lent.0.now lent.1.0.now lent.1.1.0.now
-      lent.1.1.1.0.now lent.1.1.1.1.0 hit).0 e))
 
 -- kind, columns, rows, older, newer, centre, half width, height
 module _ (κs : Lfts 2) (a : ArgsD pluck.signature κs) (r : ResD pluck.signature κs)

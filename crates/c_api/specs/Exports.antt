@@ -1,55 +1,42 @@
 -- The calls as C sees them: numbers and slices in, and all that comes back, the refusal by its number.
 use Rattle.std.specs.Prelude.{List, ℕ, Float, ℤ}
 use Rattle.types.specs.declared.ReadingAnswer.{ReadingAnswer}
-use Rattle.types.specs.declared.VoiceAnswer.{VoiceAnswer}
 use Rattle.types.specs.Numbers.{number}
 use Rattle.scheme.specs.Calls.{AfterBlock, AfterPluck}
 use Rattle.scheme.specs.Calls as Calls
-use Rattle.scheme.specs.Held.{Voiced, held_block}
 use Rattle.sheet.specs.declared.SheetAnswer.{SheetAnswer}
 use Rattle.sheet.specs.Call.{sheet_call}
-use Rattle.packing.specs.Packing.{grid_of, instrument_of, hit_of, voice_of, block_held, sheet_of}
-use Rattle.packing.specs.declared.HeldNumbers.{HeldNumbers}
+use Rattle.packing.specs.Packing.{grid_of, instrument_of, hit_of, sheet_of}
 
--- the header's version: major × 10000 + minor × 100 + patch
-abbrev pub version : ℕ
-version = 30000
-
--- ---- a block of a record
+-- ---- a block
 
 pub record BlockLeft : Type 0 where
   pub refusal : ℕ
   pub steps : ℕ
   pub inexact : ℕ
-  pub held : HeldNumbers
   pub older : List ℤ
   pub newer : List ℤ
   pub work : List ℤ
   pub samples : List ℤ
 
-abbrev pub block_left : (refusal steps inexact : ℕ) → HeldNumbers → (older newer work samples : List ℤ) → BlockLeft
-block_left refusal steps inexact held older newer work samples = record {
+abbrev pub block_left : (refusal steps inexact : ℕ) → (older newer work samples : List ℤ) → BlockLeft
+block_left refusal steps inexact older newer work samples = record {
   refusal = refusal;
   steps = steps;
   inexact = inexact;
-  held = held;
   older = older;
   newer = newer;
   work = work;
   samples = samples;
 }
 
--- the held hit's numbers as they were given, or those of what is held after a step
-abbrev pub block_numbers : HeldNumbers → Voiced AfterBlock → BlockLeft
-block_numbers n a =
-    let b = a.left in
-    let told : VoiceAnswer = record { answer = b.answer; voice = a.voice } in
-    block_left (number b.answer.refusal) b.answer.steps b.answer.inexact (block_held n told) b.older b.newer b.work
-    b.samples
+abbrev pub block_numbers : AfterBlock → BlockLeft
+block_numbers a =
+    block_left (number a.answer.refusal) a.answer.steps a.answer.inexact a.older a.newer a.work a.samples
 
-abbrev pub block : (kind columns rows q m s : ℕ) → HeldNumbers → (older newer work samples : List ℤ) → (pickUp hit point : ℕ) → ℤ → BlockLeft
-block kind columns rows q m s held older newer work samples pickUp hit point force =
-    block_numbers held (held_block (voice_of (instrument_of kind columns rows q m s) held) older newer work samples pickUp (hit_of hit point force))
+abbrev pub block : (kind columns rows q m s : ℕ) → (older newer work samples : List ℤ) → (pickUp hit point : ℕ) → ℤ → BlockLeft
+block kind columns rows q m s older newer work samples pickUp hit point force =
+    block_numbers (Calls.block (instrument_of kind columns rows q m s) older newer work samples pickUp (hit_of hit point force))
 
 -- ---- a pluck, and one by a lent table
 

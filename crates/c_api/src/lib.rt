@@ -1,33 +1,20 @@
-// The engine for C: numbers and lent slices in, the refusal's number out. host/include/buvcsolta_abi.h declares these functions.
+// The engine for C: numbers and lent slices in, the refusal's number out. host/include/buvcsolta.h declares these functions.
 // A slice arrives as a pointer and a length.
 ghost use Rattle.std.specs.Prelude.{◌≡◌};
-ghost use Rattle.packing.specs.Packing.{held_numbers};
 ghost use Rattle.c_api.specs.Exports as Exports;
 
 use engine::{Grid, block, pluck, pluck_with, reading, settings_for};
-use packing::{HeldNumbers, block_left, hit_of, instrument_of, sheet_of, voice_of};
+use packing::{hit_of, instrument_of, sheet_of};
 
-// The header's version. Ruled out: the version before it; 0.
+// A block. Ruled out: the count of steps not told; the steps told as the inexact points; a hit where its flag is 0 (`hit_of`).
 #[unsafe(no_mangle)]
-pub extern "C" fn buvcsolta_abi_version() -> u64
-    ensures { result ≡ Exports.version }
-{
-    30000
-}
-
-// A block of a record, whose held hit is three numbers. Ruled out: the count of steps not told; the steps told as the inexact points; the
-// held hit's numbers not told.
-#[unsafe(no_mangle)]
-pub extern "C" fn buvcsolta_abi_block(
+pub extern "C" fn buvcsolta_block(
     kind: u64,
     columns: usize,
     rows: usize,
     q: u64,
     m: u64,
     s: u64,
-    held: &mut u64,
-    held_point: &mut usize,
-    held_force: &mut i64,
     older: &mut [i64],
     newer: &mut [i64],
     work: &mut [i64],
@@ -39,28 +26,14 @@ pub extern "C" fn buvcsolta_abi_block(
     steps: &mut usize,
     inexact: &mut u64,
 ) -> u64
-    ensures { Exports.block_left result steps.new inexact.new
-        (held_numbers held.new held_point.new held_force.new)
-        older.new newer.new work.new samples.new
-        ≡ Exports.block kind columns rows q m s
-        (held_numbers held.old held_point.old held_force.old)
-        older.old newer.old work.old samples.old pick_up hit point force }
+    ensures { Exports.block_left result steps.new inexact.new older.new newer.new
+        work.new samples.new
+        ≡ Exports.block kind columns rows q m s older.old newer.old work.old samples.old
+        pick_up hit point force }
 {
-    let force_given = *held_force;
-    let given = HeldNumbers {
-        held: *held,
-        point: *held_point,
-        force: force_given,
-    };
-    let v = voice_of(instrument_of(kind, columns, rows, q, m, s), given);
+    let i = instrument_of(kind, columns, rows, q, m, s);
     let h = hit_of(hit, point, force);
-    let told = block(v, older, newer, work, samples, pick_up, h);
-    let left = block_left(given, told);
-    *held = left.held;
-    *held_point = left.point;
-    let force_left = left.force;
-    *held_force = force_left;
-    let answer = told.answer;
+    let answer = block(i, older, newer, work, samples, pick_up, h);
     *steps = answer.steps;
     *inexact = answer.inexact;
     let refusal = answer.refusal;
@@ -69,7 +42,7 @@ pub extern "C" fn buvcsolta_abi_block(
 
 // A pluck. Ruled out: the centre taken for the half width; columns and rows exchanged (`Grid::new`).
 #[unsafe(no_mangle)]
-pub extern "C" fn buvcsolta_abi_pluck(
+pub extern "C" fn buvcsolta_pluck(
     kind: u64,
     columns: usize,
     rows: usize,
@@ -89,7 +62,7 @@ pub extern "C" fn buvcsolta_abi_pluck(
 
 // A pluck by a lent table. Ruled out: the centre taken for the half width; columns and rows exchanged (`Grid::new`).
 #[unsafe(no_mangle)]
-pub extern "C" fn buvcsolta_abi_pluck_with(
+pub extern "C" fn buvcsolta_pluck_with(
     kind: u64,
     columns: usize,
     rows: usize,
@@ -111,7 +84,7 @@ pub extern "C" fn buvcsolta_abi_pluck_with(
 
 // The float reading. Ruled out: the value not told; columns and rows exchanged (`Grid::new`).
 #[unsafe(no_mangle)]
-pub extern "C" fn buvcsolta_abi_reading(
+pub extern "C" fn buvcsolta_reading(
     kind: u64,
     columns: usize,
     rows: usize,
@@ -130,7 +103,7 @@ pub extern "C" fn buvcsolta_abi_reading(
 
 // The settings of a sheet. Ruled out: q and m exchanged; a tension taken as hertz (`sheet_of`).
 #[unsafe(no_mangle)]
-pub extern "C" fn buvcsolta_abi_sheet(
+pub extern "C" fn buvcsolta_sheet(
     kind: u64,
     columns: usize,
     rows: usize,

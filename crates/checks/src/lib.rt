@@ -1,5 +1,5 @@
-// The checks that a pluck or an asking makes before it is carried out, and a block's checks of its input.
+// The checks that a pluck makes before it is carried out, and a block's checks of its input.
 mod groups;
 mod refusals;
 
-pub use refusals::{ask_refusal, held_input_refusal, input_refusal, pluck_refusal};
+pub use refusals::{input_refusal, pluck_refusal};

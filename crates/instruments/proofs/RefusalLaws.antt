@@ -21,18 +21,18 @@ use Rattle.instruments.specs.Refused.{not_long}
 -- ---- one check before others, and two checks: the answer by what each test said
 
 module _ (x : Refusal) (cs : List Check) (t : Bool) where
-  pub refused-here : t ≡ true → x ≡ lowest (t ⇒ x ∷ cs)
-  refused-here e = sym (ap (λ (b : Bool). lowest (b ⇒ x ∷ cs)) e)
+  pub refused_here : t ≡ true → x ≡ lowest (t ⇒ x ∷ cs)
+  refused_here e = sym (ap (λ (b : Bool). lowest (b ⇒ x ∷ cs)) e)
 
   pub passed_here : {r : Refusal} → t ≡ false → r ≡ lowest cs → r ≡ lowest (t ⇒ x ∷ cs)
   passed_here e f = f ∙ sym (ap (λ (b : Bool). lowest (b ⇒ x ∷ cs)) e)
 
 module _ (x y : Refusal) (t u : Bool) where
   pub refused-first : t ≡ true → x ≡ lowest (t ⇒ x ∷ u ⇒ y ∷ [])
-  refused-first = refused-here x (u ⇒ y ∷ []) t
+  refused-first = refused_here x (u ⇒ y ∷ []) t
 
   pub refused_second : t ≡ false → u ≡ true → y ≡ lowest (t ⇒ x ∷ u ⇒ y ∷ [])
-  refused_second e f = passed_here x (u ⇒ y ∷ []) t e (refused-here y [] u f)
+  refused_second e f = passed_here x (u ⇒ y ∷ []) t e (refused_here y [] u f)
 
   pub refused_neither : t ≡ false → u ≡ false → Nothing ≡ lowest (t ⇒ x ∷ u ⇒ y ∷ [])
   refused_neither e f = passed_here x (u ⇒ y ∷ []) t e (passed_here y [] u f refl)

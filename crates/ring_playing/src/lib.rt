@@ -8,7 +8,7 @@ use ring_setup::set_up;
 use types::{BlockAnswer, Hit, Instrument, Refusal};
 
 // A level at rest.
-fn at_rest_lem() -> [i64; 1024]
+fn at_rest() -> [i64; 1024]
     ensures { result ≡ replicate 1024 (pos 0) }
 {
     [0i64; 1024]
@@ -25,9 +25,9 @@ fn play_at_rest(
     requires { length ≤ 1024 }
     ensures { heard result samples.new ≡ heard_of (block_at_rest i length samples.old pick hit) }
 {
-    let mut older = at_rest_lem();
-    let mut newer = at_rest_lem();
-    let mut work = at_rest_lem();
+    let mut older = at_rest();
+    let mut newer = at_rest();
+    let mut work = at_rest();
     block(
         i,
         &mut older[..length],

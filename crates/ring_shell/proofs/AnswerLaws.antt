@@ -10,7 +10,7 @@ use lib.ListN.{length, take}
 use Rattle.types.specs.declared.Refusal.{Refusal}
 use Rattle.types.specs.declared.Refusal.TheVariants.{Nothing, UnknownKind, WrongSize, SheetNumber, Coefficient, Unstable, WrongLength}
 use Rattle.types.specs.declared.Refusal.TheVariants.{NotMoving, TooStrong, PickUp, HalfWidth, PointBeyond, FixedNotZero, NextBeyond}
-use Rattle.types.specs.declared.Refusal.TheVariants.{BrokenTable, HitHeld, NoHitHeld}
+use Rattle.types.specs.declared.Refusal.TheVariants.{BrokenTable}
 use Rattle.types.specs.Numbers.{number}
 use Rattle.scheme.proofs.Laws.Bools.{and_both}
 use Rattle.ring_decimals.specs.Decimals.{all, digits_value, is_unsigned, is_signed}
@@ -46,8 +46,6 @@ number-low PointBeyond = omega arith
 number-low FixedNotZero = omega arith
 number-low NextBeyond = omega arith
 number-low BrokenTable = omega arith
-number-low HitHeld = omega arith
-number-low NoHitHeld = omega arith
 
 -- ---- the steps that a line may ask for
 

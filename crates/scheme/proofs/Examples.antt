@@ -10,10 +10,7 @@ use Rattle.scheme.specs.Step.{beside, neighbours, laplacian, inner_laplacian, nu
 use Rattle.scheme.specs.Step.{inexact_in, some_beyond, sample_of, float_of}
 use Rattle.scheme.specs.Pluck.{pluck_at, pluck_level}
 use Rattle.scheme.specs.Refusals.{fixed_not_zero, block_refusal, pluck_refusal, pluck_with_refusal, reading_refusal, instrument_refusal}
-use Rattle.scheme.specs.Refusals.{ask_refusal, none_held_refusal, held_block_refusal}
-use Rattle.scheme.specs.Calls.{play, capped, block_by, block, block_in_place, pluck_by, pluck, pluck_with, reading}
-use Rattle.scheme.specs.Held.{ask, commit, withdraw, held_block, held_block_in_place}
-use Rattle.scheme.specs.HeldClaims.{passed_on}
+use Rattle.scheme.specs.Calls.{play, capped, block, block_in_place, pluck_by, pluck, pluck_with, reading}
 use Rattle.scheme.specs.Energy.{weight, squares, later, pair_sum, laplacian_sum, energy}
 use Rattle.scheme.specs.Book.{unrounded_at, unrounded_step, unrounded_steps, goes_on, book_block, book_pluck, sum_block, sum_pluck}
 use Rattle.scheme.specs.Book.{leaves, book_call, sum_call, calls}
@@ -21,21 +18,18 @@ use Rattle.scheme.specs.Examples.{ExamplesHold}
 use Rattle.scheme.specs.FurtherExamples.{FurtherHold}
 use Rattle.scheme.specs.PlateExamples.{PlatesHold}
 use Rattle.scheme.specs.LentExamples.{LentHold}
-use Rattle.scheme.specs.HeldExamples.{HeldHold}
 use Rattle.scheme.specs.MirrorExamples.{MirrorsHold, RunsHold, LowestBeyond}
 
 -- first, so that a definition by which up and down differ is refused by `MirrorImage`
 pub mirrors_hold : MirrorsHold
 unfolding sum_over tabulate some_below count_below only kind_of size_in stable_in fixed_in moving free_in beside neighbours laplacian inner_laplacian
     numerator round_away next_at next_level inexact_at inexact_in some_beyond sample_of table pluck_at pluck_level fixed_not_zero block_refusal
-    ask_refusal none_held_refusal held_block_refusal pluck_refusal pluck_with_refusal keeps_rule loaded_table play capped block_by block block_in_place
-    ask commit held_block held_block_in_place pluck_by pluck pluck_with unrounded_at unrounded_step unrounded_steps goes_on book_block book_pluck
-    sum_block sum_pluck leaves book_call sum_call calls
+    pluck_refusal pluck_with_refusal keeps_rule loaded_table play capped block block_in_place pluck_by pluck pluck_with unrounded_at unrounded_step
+    unrounded_steps goes_on book_block book_pluck sum_block sum_pluck leaves book_call sum_call calls
 mirrors_hold = record {
   halves = refl;
   read_out = refl;
   struck = refl;
-  touched = refl;
   bent = refl;
   ended = refl;
   plucked = refl;
@@ -64,9 +58,9 @@ examples_hold = record {
 pub further_hold : FurtherHold
 unfolding sum sum_over tabulate some_below count_below only kind_of size_in stable_in round_edge fixed_in moving free_in beside neighbours laplacian
     inner_laplacian numerator round_away next_at next_level inexact_at inexact_in some_beyond sample_of float_of table pluck_at pluck_level
-    fixed_not_zero block_refusal pluck_refusal reading_refusal instrument_refusal play capped block_by block block_in_place pluck_by pluck reading
-    weight squares later pair_sum laplacian_sum energy unrounded_at unrounded_step unrounded_steps goes_on book_block book_pluck sum_block sum_pluck
-    leaves book_call sum_call calls of_bits div of_int
+    fixed_not_zero block_refusal pluck_refusal reading_refusal instrument_refusal play capped block block_in_place pluck_by pluck reading weight
+    squares later pair_sum laplacian_sum energy unrounded_at unrounded_step unrounded_steps goes_on book_block book_pluck sum_block sum_pluck leaves
+    book_call sum_call calls of_bits div of_int
 further_hold = record {
   free_end_twice = refl;
   half_free = (refl, refl);
@@ -140,7 +134,7 @@ further_hold = record {
 pub plates_hold : PlatesHold
 unfolding sum sum_over tabulate some_below only count_below kind_of size_in stable_in round_edge fixed_in moving free_in beside neighbours laplacian
     inner_laplacian numerator round_away next_at next_level inexact_at inexact_in some_beyond sample_of fixed_not_zero block_refusal pluck_refusal
-    reading_refusal instrument_refusal play capped block_by block weight squares later pair_sum laplacian_sum energy unrounded_at unrounded_step
+    reading_refusal instrument_refusal play capped block weight squares later pair_sum laplacian_sum energy unrounded_at unrounded_step
     unrounded_steps goes_on book_block sum_block leaves book_call sum_call calls
 plates_hold = record {
   middle = refl;
@@ -168,8 +162,8 @@ plates_hold = record {
 pub lent_hold : LentHold
 unfolding sum_over tabulate some_below count_below only kind_of size_in stable_in fixed_in moving free_in beside neighbours laplacian inner_laplacian
     numerator round_away next_at next_level inexact_at inexact_in some_beyond sample_of table keeps_rule loaded_table pluck_at pluck_level fixed_not_zero
-    block_refusal pluck_refusal pluck_with_refusal play capped block_by block pluck_by pluck_with unrounded_at unrounded_step unrounded_steps goes_on
-    book_block book_pluck sum_block sum_pluck leaves book_call sum_call calls
+    block_refusal pluck_refusal pluck_with_refusal play capped block pluck_by pluck_with unrounded_at unrounded_step unrounded_steps goes_on book_block
+    book_pluck sum_block sum_pluck leaves book_call sum_call calls
 lent_hold = record {
   ordered = refl;
   tables = refl;
@@ -183,43 +177,14 @@ lent_hold = record {
   outcomes = refl;
 }
 
-pub held_hold : HeldHold
-unfolding sum_over tabulate some_below count_below only kind_of size_in stable_in fixed_in moving free_in beside neighbours laplacian inner_laplacian
-    numerator round_away next_at next_level inexact_at inexact_in some_beyond sample_of table pluck_at pluck_level fixed_not_zero block_refusal
-    pluck_refusal ask_refusal none_held_refusal held_block_refusal play capped block_by block pluck_by pluck ask commit withdraw held_block
-    held_block_in_place unrounded_at unrounded_step unrounded_steps goes_on book_block book_pluck sum_block sum_pluck leaves book_call sum_call calls
-    passed_on
-held_hold = record {
-  ordered = refl;
-  both_hits = refl;
-  asking = refl;
-  settings_not_asked = refl;
-  asked_twice = refl;
-  no_step = refl;
-  cleared = refl;
-  cleared_then13 = refl;
-  asked = (refl, refl);
-  empty = refl;
-  committing = refl;
-  withdrawing = refl;
-  no_force = (refl, refl);
-  no_longer_fits = (refl, refl, refl, refl);
-  listing = refl;
-  book = refl;
-  book_in_place = refl;
-  pluck_leaves = refl;
-}
-
 pub runs_hold : RunsHold
 unfolding sum_over tabulate some_below count_below only kind_of size_in stable_in fixed_in moving free_in beside neighbours laplacian inner_laplacian
     numerator round_away next_at next_level inexact_at inexact_in some_beyond sample_of table pluck_at pluck_level fixed_not_zero block_refusal
-    ask_refusal none_held_refusal held_block_refusal pluck_refusal pluck_with_refusal keeps_rule loaded_table play capped block_by block block_in_place
-    ask commit held_block held_block_in_place pluck_by pluck pluck_with leaves calls
+    pluck_refusal pluck_with_refusal keeps_rule loaded_table play capped block block_in_place pluck_by pluck pluck_with leaves calls
 runs_hold = record {
   halves = refl;
   read_out = refl;
   struck = refl;
-  touched = refl;
   bent = refl;
   ended = refl;
   plucked = refl;

@@ -8,5 +8,4 @@ pub mod Step
 pub mod Refusals
 pub mod Calls
 pub mod Mirror
-pub mod Held
 pub mod Content

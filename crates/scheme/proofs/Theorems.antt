@@ -1,4 +1,4 @@
--- The proofs of the four propositions of demand 3, in the order of docs/PROOF.md, and of requests 3, 5 and 8.
+-- The proofs of the four propositions of demand 3, in the order of docs/PROOF.md, and of requests 3 and 5.
 pub mod Balance
 pub mod Forms
 pub mod Bounds
@@ -10,4 +10,3 @@ pub mod Program
 pub mod Exact
 pub mod Mirror
 pub mod MirrorProgram
-pub mod Held

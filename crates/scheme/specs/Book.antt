@@ -5,7 +5,6 @@ use Rattle.types.specs.declared.Grid.{Grid}
 use Rattle.types.specs.declared.Instrument.{Instrument}
 use Rattle.types.specs.declared.Hit.{Hit}
 use Rattle.types.specs.declared.Hit.TheVariants.{Absent}
-use Rattle.types.specs.declared.Voice.{Voice}
 use Rattle.types.specs.declared.BlockAnswer.{BlockAnswer}
 use Rattle.types.specs.declared.Refusal.{Refusal}
 use Rattle.pluck_table.specs.Table.{table}
@@ -14,7 +13,6 @@ use Rattle.scheme.specs.Instruments.{points, moving}
 use Rattle.scheme.specs.Step.{numerator, force_of, divisor}
 use Rattle.scheme.specs.Pluck.{pluck_level}
 use Rattle.scheme.specs.Calls.{accepted, AfterBlock, block, AfterInPlace, block_in_place, AfterPluck, pluck, pluck_with}
-use Rattle.scheme.specs.Held.{Voiced, Touch, touch, acting, held_block, held_block_in_place}
 
 -- "the kind, grid and settings of its last step", if there was one
 pub data LastStep : Type 0 where
@@ -93,48 +91,37 @@ sum_pluck done sum = cond done 0 sum
 
 -- "Each block or pluck in it gets both levels as the last one left them": its other arguments.
 -- `in_place_call` is "a block that takes only older and newer", `pluck_with_call` a pluck that takes "a lent table".
--- `held_call`, `held_in_place_call` and `touch_call` take "the instrument's record", whatever the caller gives them: the levels alone are those
--- that the last call left. `passed_on` of HeldClaims is the list whose records are too.
 pub data Call : Type 0 where
   block_call : Instrument → (work samples : List ℤ) → ℕ → Hit → Call
   in_place_call : Instrument → (samples : List ℤ) → ℕ → Hit → Call
   pluck_call : Grid → ℕ → ℕ → ℤ → Call
   pluck_with_call : Grid → ℕ → ℕ → ℤ → (lent : List ℕ) → Call
-  held_call : Voice → (work samples : List ℤ) → ℕ → (direct : Hit) → Call
-  held_in_place_call : Voice → (samples : List ℤ) → ℕ → (direct : Hit) → Call
-  touch_call : Voice → Touch → Call
 
--- what a call answers, and what it leaves in the slices lent to it beside the two levels; `with_voice` is of a call that answers the record
--- as well, and `pluck_outcome` of one that answers a refusal alone
+-- what a call answers, and what it leaves in the slices lent to it beside the two levels
 pub data Outcome : Type 0 where
   block_outcome : BlockAnswer → (work samples : List ℤ) → Outcome
   in_place_outcome : BlockAnswer → (samples : List ℤ) → Outcome
   pluck_outcome : Refusal → Outcome
-  with_voice : Voice → Outcome → Outcome
 
 abbrev pub steps_of : Outcome → ℕ
 steps_of (block_outcome a work samples) = a.steps
 steps_of (in_place_outcome a samples) = a.steps
 steps_of (pluck_outcome r) = 0
-steps_of (with_voice v o) = steps_of o
 
 abbrev pub inexact_of : Outcome → ℕ
 inexact_of (block_outcome a work samples) = a.inexact
 inexact_of (in_place_outcome a samples) = a.inexact
 inexact_of (pluck_outcome r) = 0
-inexact_of (with_voice v o) = inexact_of o
 
 abbrev pub samples_of : Outcome → List ℤ
 samples_of (block_outcome a work samples) = samples
 samples_of (in_place_outcome a samples) = samples
 samples_of (pluck_outcome r) = []
-samples_of (with_voice v o) = samples_of o
 
 abbrev pub refusal_of : Outcome → Refusal
 refusal_of (block_outcome a work samples) = a.refusal
 refusal_of (in_place_outcome a samples) = a.refusal
 refusal_of (pluck_outcome r) = r
-refusal_of (with_voice v o) = refusal_of o
 
 -- all that a call leaves
 pub record Left : Type 0 where
@@ -151,49 +138,25 @@ left_by_in_place a = record { outcome = in_place_outcome a.answer a.samples; old
 abbrev pub left_by_pluck : AfterPluck → Left
 left_by_pluck a = record { outcome = pluck_outcome a.refusal; older = a.older; newer = a.newer }
 
--- of a call that answers the record as well
-abbrev pub left_with : Voice → Left → Left
-left_with v l = record { outcome = with_voice v l.outcome; older = l.older; newer = l.newer }
-
-abbrev pub left_by_held : Voiced AfterBlock → Left
-left_by_held a = left_with a.voice (left_by_block a.left)
-
-abbrev pub left_by_held_in_place : Voiced AfterInPlace → Left
-left_by_held_in_place a = left_with a.voice (left_by_in_place a.left)
-
--- no level is lent to it
-abbrev pub left_by_touch : (older newer : List ℤ) → Voiced Refusal → Left
-left_by_touch older newer a = left_with a.voice (record { outcome = pluck_outcome a.left; older = older; newer = newer })
-
 -- a call of the two levels
 unfoldable pub leaves : Call → (older newer : List ℤ) → Left
 leaves (block_call i work samples pick h) older newer = left_by_block (block i older newer work samples pick h)
 leaves (in_place_call i samples pick h) older newer = left_by_in_place (block_in_place i older newer samples pick h)
 leaves (pluck_call g c w a) older newer = left_by_pluck (pluck g older newer c w a)
 leaves (pluck_with_call g c w a lent) older newer = left_by_pluck (pluck_with g older newer c w a lent)
-leaves (held_call v work samples pick h) older newer = left_by_held (held_block v older newer work samples pick h)
-leaves (held_in_place_call v samples pick h) older newer = left_by_held_in_place (held_block_in_place v older newer samples pick h)
-leaves (touch_call v c) older newer = left_by_touch older newer (touch c v)
 
 -- "It is fed the calls' arguments, lent levels included, and each block's answered count of steps, which the rules above fix."
--- Of a record's block the hit is the one that acts; asking, committing and withdrawing take no level.
 unfoldable pub book_call : Call → Outcome → (older newer : List ℤ) → Book → Book
 book_call (block_call i work samples pick h) o older newer b = book_block i h older newer (steps_of o) b
 book_call (in_place_call i samples pick h) o older newer b = book_block i h older newer (steps_of o) b
 book_call (pluck_call g c w a) o older newer b = book_pluck (accepted (refusal_of o)) (pluck_level table g c w a) b
 book_call (pluck_with_call g c w a lent) o older newer b = book_pluck (accepted (refusal_of o)) (pluck_level lent g c w a) b
-book_call (held_call v work samples pick h) o older newer b = book_block v.instrument (acting h v.held) older newer (steps_of o) b
-book_call (held_in_place_call v samples pick h) o older newer b = book_block v.instrument (acting h v.held) older newer (steps_of o) b
-book_call (touch_call v c) o older newer b = b
 
 unfoldable pub sum_call : Call → Outcome → Book → ℕ → ℕ
 sum_call (block_call i work samples pick h) o b sum = sum_block i (steps_of o) (inexact_of o) b sum
 sum_call (in_place_call i samples pick h) o b sum = sum_block i (steps_of o) (inexact_of o) b sum
 sum_call (pluck_call g c w a) o b sum = sum_pluck (accepted (refusal_of o)) sum
 sum_call (pluck_with_call g c w a lent) o b sum = sum_pluck (accepted (refusal_of o)) sum
-sum_call (held_call v work samples pick h) o b sum = sum_block v.instrument (steps_of o) (inexact_of o) b sum
-sum_call (held_in_place_call v samples pick h) o b sum = sum_block v.instrument (steps_of o) (inexact_of o) b sum
-sum_call (touch_call v c) o b sum = sum
 
 -- ---- a list of calls
 

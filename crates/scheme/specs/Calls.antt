@@ -128,16 +128,12 @@ with_work_zero n p = block_left (reported p.answer) p.older p.newer (replicate n
 abbrev pub block_refused : Refusal → (older newer work samples : List ℤ) → AfterBlock
 block_refused r older newer work samples = block_left (record { steps = 0; inexact = 0; refusal = r }) older newer work samples
 
--- where r refuses it or nothing does, h the hit that acts: "a call for which none applies is carried out"
-unfoldable pub block_by : Refusal → Instrument → (older newer work samples : List ℤ) → ℕ → Hit → AfterBlock
-block_by r i older newer work samples pick h =
-    let done = with_work_zero (points i.grid) (play i pick h older newer samples) in
-    cond (accepted r) done (block_refused r older newer work samples)
-
--- "The lowest number that applies answers"
+-- "The lowest number that applies answers, and a call for which none applies is carried out"
 unfoldable pub block : Instrument → (older newer work samples : List ℤ) → ℕ → Hit → AfterBlock
 block i older newer work samples pick h =
-    block_by (block_refusal i older newer (wrong_length i.grid (length work)) pick h) i older newer work samples pick h
+    let r = block_refusal i older newer (wrong_length i.grid (length work)) pick h in
+    let done = with_work_zero (points i.grid) (play i pick h older newer samples) in
+    cond (accepted r) done (block_refused r older newer work samples)
 
 -- ---- a block on two levels
 

@@ -9,7 +9,7 @@ use Rattle.types.specs.declared.Hit.{Hit}
 use Rattle.types.specs.declared.Hit.TheVariants.{Absent, At}
 use Rattle.types.specs.declared.Refusal.TheVariants.{Nothing, UnknownKind, WrongSize, SheetNumber, Coefficient, Unstable}
 use Rattle.types.specs.declared.Refusal.TheVariants.{WrongLength, NotMoving, TooStrong, PickUp, HalfWidth, PointBeyond}
-use Rattle.types.specs.declared.Refusal.TheVariants.{FixedNotZero, NextBeyond, BrokenTable, HitHeld, NoHitHeld}
+use Rattle.types.specs.declared.Refusal.TheVariants.{FixedNotZero, NextBeyond, BrokenTable}
 use Rattle.types.specs.Numbers.{ceiling, number}
 use Rattle.pluck_table.specs.Table.{table}
 use Rattle.scheme.specs.Lists.{point}
@@ -19,7 +19,7 @@ use Rattle.scheme.specs.Refusals.{wrong_length, instrument_refusal, block_refusa
 use Rattle.scheme.specs.Calls.{AfterBlock, capped, reported, block, AfterInPlace, in_place_left, block_in_place, pluck, reading}
 use Rattle.scheme.specs.Energy.{energy}
 use Rattle.scheme.specs.Book.{step_of, Call, block_call, in_place_call, pluck_call, pluck_with_call, block_outcome, in_place_outcome}
-use Rattle.scheme.specs.Book.{held_call, held_in_place_call, touch_call, pluck_outcome, Outcome, Left, AfterCalls, State, start, calls}
+use Rattle.scheme.specs.Book.{pluck_outcome, Outcome, Left, AfterCalls, State, start, calls}
 use Rattle.scheme.specs.Claims.{distance, bound, Near}
 use Rattle.scheme.specs.Exact.{never_rounded}
 use Rattle.scheme.specs.Examples.{grid, instrument, level, minus, next, middle3, middle9}
@@ -80,18 +80,15 @@ no_steps = block_call (voice 6) nines [] 1 (At 2 (pos 5))
 abbrev plucks : Call
 plucks = pluck_call (grid 1 4 1) 2 2 (pos 9)
 
-abbrev pub pluck_turned_down : Call
+abbrev pluck_turned_down : Call
 pluck_turned_down = pluck_call (grid 1 4 1) 0 2 (pos 9)
 
 -- a block of the list on two levels instead
-abbrev pub on_two : Call → Call
+abbrev on_two : Call → Call
 on_two (block_call i work samples pick h) = in_place_call i samples pick h
 on_two (in_place_call i samples pick h) = in_place_call i samples pick h
 on_two (pluck_call g c w a) = pluck_call g c w a
 on_two (pluck_with_call g c w a lent) = pluck_with_call g c w a lent
-on_two (held_call v work samples pick h) = held_in_place_call v samples pick h
-on_two (held_in_place_call v samples pick h) = held_in_place_call v samples pick h
-on_two (touch_call v c) = touch_call v c
 
 abbrev pub from_here : List Call → AfterCalls
 from_here ks = calls ks (start (pos 0 ∷ pos 1 ∷ minus 2 ∷ pos 0 ∷ []) (level (0 ∷ 3 ∷ 4 ∷ 0 ∷ [])))
@@ -266,8 +263,8 @@ pub record FurtherHold : Type 0 where
   -- ---- 1, 2, 4 and 5
   pub numbers :
       map number (Nothing ∷ UnknownKind ∷ WrongSize ∷ SheetNumber ∷ Coefficient ∷ Unstable ∷ WrongLength ∷ NotMoving ∷ TooStrong ∷ PickUp
-      ∷ HalfWidth ∷ PointBeyond ∷ FixedNotZero ∷ NextBeyond ∷ BrokenTable ∷ HitHeld ∷ NoHitHeld ∷ [])
-      ≡ 0 ∷ 1 ∷ 2 ∷ 3 ∷ 4 ∷ 5 ∷ 6 ∷ 7 ∷ 8 ∷ 9 ∷ 10 ∷ 11 ∷ 12 ∷ 13 ∷ 14 ∷ 15 ∷ 16 ∷ []
+      ∷ HalfWidth ∷ PointBeyond ∷ FixedNotZero ∷ NextBeyond ∷ BrokenTable ∷ [])
+      ≡ 0 ∷ 1 ∷ 2 ∷ 3 ∷ 4 ∷ 5 ∷ 6 ∷ 7 ∷ 8 ∷ 9 ∷ 10 ∷ 11 ∷ 12 ∷ 13 ∷ 14 ∷ []
   pub kinds :
       instrument_numbers (instrument 0 3 1 0 0 0 ∷ instrument 1 3 1 0 0 0 ∷ instrument 2 3 1 0 0 0 ∷ instrument 3 3 1 0 0 0
       ∷ instrument 4 3 1 0 0 0 ∷ instrument 5 3 3 0 0 0 ∷ instrument 6 3 3 0 0 0 ∷ instrument 7 3 3 0 0 0

@@ -7,7 +7,6 @@ pub mod Step
 pub mod Pluck
 pub mod Refusals
 pub mod Calls
-pub mod Held
 pub mod Energy
 pub mod Book
 pub mod Claims
@@ -15,10 +14,8 @@ pub mod Passing
 pub mod Program
 pub mod Exact
 pub mod Mirror
-pub mod HeldClaims
 pub mod Examples
 pub mod FurtherExamples
 pub mod PlateExamples
 pub mod LentExamples
 pub mod MirrorExamples
-pub mod HeldExamples

@@ -4,12 +4,8 @@ use Rattle.std.specs.Prelude.{◌≡◌, List, [], ◌++◌, map, ℕ, ℤ, pos,
 use Rattle.types.specs.declared.Instrument.{Instrument}
 use Rattle.types.specs.declared.Hit.{Hit}
 use Rattle.types.specs.declared.Hit.TheVariants.{Absent, At}
-use Rattle.types.specs.declared.Held.{Held}
-use Rattle.types.specs.declared.Held.TheVariants.{Empty, Asked, Committed}
-use Rattle.types.specs.declared.Voice.{Voice}
-use Rattle.scheme.specs.Held.{holding, Touch, asks, commits, withdraws}
 use Rattle.scheme.specs.Book.{Book, Call, block_call, in_place_call, pluck_call, pluck_with_call, Outcome, block_outcome, in_place_outcome}
-use Rattle.scheme.specs.Book.{held_call, held_in_place_call, touch_call, pluck_outcome, with_voice, Left, State, start, AfterCalls, calls}
+use Rattle.scheme.specs.Book.{pluck_outcome, Left, State, start, AfterCalls, calls}
 use Rattle.scheme.specs.Claims.{book_energy, distance}
 use Rattle.scheme.specs.Program.{Made, AllKept, calls_of, after_made}
 
@@ -24,30 +20,12 @@ abbrev pub mirror_hit : Hit → Hit
 mirror_hit Absent = Absent
 mirror_hit (At p f) = At p (neg_ℤ f)
 
--- held ones too, in the record that a call is given
-abbrev pub mirror_held : Held → Held
-mirror_held Empty = Empty
-mirror_held (Asked p f) = Asked p (neg_ℤ f)
-mirror_held (Committed p f) = Committed p (neg_ℤ f)
-
-abbrev pub mirror_voice : Voice → Voice
-mirror_voice v = holding v.instrument (mirror_held v.held)
-
--- and asked ones
-abbrev pub mirror_touch : Touch → Touch
-mirror_touch (asks p f) = asks p (neg_ℤ f)
-mirror_touch commits = commits
-mirror_touch withdraws = withdraws
-
 -- "with calls otherwise the same"; "It covers plucks of negated height too."
 abbrev pub mirror_call : Call → Call
 mirror_call (block_call i work samples pick h) = block_call i work samples pick (mirror_hit h)
 mirror_call (in_place_call i samples pick h) = in_place_call i samples pick (mirror_hit h)
 mirror_call (pluck_call g c w a) = pluck_call g c w (neg_ℤ a)
 mirror_call (pluck_with_call g c w a lent) = pluck_with_call g c w (neg_ℤ a) lent
-mirror_call (held_call v work samples pick h) = held_call (mirror_voice v) work samples pick (mirror_hit h)
-mirror_call (held_in_place_call v samples pick h) = held_in_place_call (mirror_voice v) samples pick (mirror_hit h)
-mirror_call (touch_call v c) = touch_call (mirror_voice v) (mirror_touch c)
 
 -- ---- what they give
 
@@ -60,7 +38,6 @@ abbrev pub mirror_outcome : Outcome → Outcome
 mirror_outcome (block_outcome a work samples) = block_outcome a work (mirror_samples a.steps samples)
 mirror_outcome (in_place_outcome a samples) = in_place_outcome a (mirror_samples a.steps samples)
 mirror_outcome (pluck_outcome r) = pluck_outcome r
-mirror_outcome (with_voice v o) = with_voice (mirror_voice v) (mirror_outcome o)
 
 -- "negated levels"
 abbrev pub mirror_left : Left → Left
@@ -114,16 +91,12 @@ blank (block_call i work samples pick h) = block_call i (replicate (length work)
 blank (in_place_call i samples pick h) = in_place_call i (replicate (length samples) (pos 0)) pick h
 blank (pluck_call g c w a) = pluck_call g c w a
 blank (pluck_with_call g c w a lent) = pluck_with_call g c w a lent
-blank (held_call v work samples pick h) = held_call v (replicate (length work) (pos 0)) (replicate (length samples) (pos 0)) pick h
-blank (held_in_place_call v samples pick h) = held_in_place_call v (replicate (length samples) (pos 0)) pick h
-blank (touch_call v c) = touch_call v c
 
 -- what a call answered, and the samples of its steps done
 abbrev pub heard : Outcome → Outcome
 heard (block_outcome a work samples) = block_outcome a [] (take a.steps samples)
 heard (in_place_outcome a samples) = in_place_outcome a (take a.steps samples)
 heard (pluck_outcome r) = pluck_outcome r
-heard (with_voice v o) = with_voice v (heard o)
 
 -- with both levels
 abbrev pub heard_left : Left → Left

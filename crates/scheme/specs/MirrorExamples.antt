@@ -5,17 +5,12 @@ use Rattle.std.specs.Prelude.{◌≡◌, true, List, [], ◌∷◌, ℕ, ◌^◌
 use Rattle.types.specs.declared.Instrument.{Instrument}
 use Rattle.types.specs.declared.Hit.{Hit}
 use Rattle.types.specs.declared.Hit.TheVariants.{Absent, At}
-use Rattle.types.specs.declared.Held.{Held}
-use Rattle.types.specs.declared.Held.TheVariants.{Empty, Asked, Committed}
-use Rattle.types.specs.declared.Voice.{Voice}
 use Rattle.types.specs.declared.Refusal.{Refusal}
 use Rattle.types.specs.declared.Refusal.TheVariants.{Nothing, NotMoving, TooStrong, PointBeyond, FixedNotZero, NextBeyond, BrokenTable}
-use Rattle.types.specs.declared.Refusal.TheVariants.{HitHeld}
 use Rattle.pluck_table.specs.LoadingExamples.{straight}
 use Rattle.scheme.specs.Instruments.{beyond}
 use Rattle.scheme.specs.Book.{Call, block_call, in_place_call, pluck_call, pluck_with_call, block_outcome, in_place_outcome, pluck_outcome}
-use Rattle.scheme.specs.Held.{holding, asks, commits}
-use Rattle.scheme.specs.Book.{held_call, held_in_place_call, touch_call, Left, left_with, left_by_touch, start, calls}
+use Rattle.scheme.specs.Book.{Left, start, calls}
 use Rattle.scheme.specs.Mirror.{MirroredFrom}
 use Rattle.scheme.specs.Examples.{grid, instrument, level, minus, middle3}
 use Rattle.scheme.specs.FurtherExamples.{rest, nines, above}
@@ -38,13 +33,6 @@ in_place_leaves k c r samples older newer =
 
 abbrev pluck_leaves : Refusal → List ℤ → Left
 pluck_leaves r xs = record { outcome = pluck_outcome r; older = xs; newer = xs }
-
--- three points that go on as they went, and hold this; and what asking and committing leave of the levels of `touched`
-abbrev voiced : Held → Voice
-voiced e = holding (instrument 1 3 1 0 0 0) e
-
-abbrev touch_leaves : Held → Refusal → Left
-touch_leaves e r = left_by_touch (middle3 (pos 0)) (middle3 (pos 268435456)) (record { left = r; voice = voiced e })
 
 -- four points that go on as they went: q, m and s are 0
 abbrev onward : Instrument
@@ -112,21 +100,6 @@ struck = record {
       (level (0 ∷ 1809064100 ∷ 658493719 ∷ 0 ∷ [])) ∷ [];
 }
 
--- a hit that is held: asked, one asked too strong, committed, then a step; and one given directly while another is asked
-abbrev touched : Run
-touched = record {
-  older = middle3 (pos 0);
-  newer = middle3 (pos 268435456);
-  list = touch_call (voiced Empty) (asks 1 (pos 5)) ∷ touch_call (voiced Empty) (asks 1 (pos above)) ∷
-      touch_call (voiced (Asked 1 (pos 5))) commits ∷ held_call (voiced (Committed 1 (pos 5))) (middle3 (pos 9)) (level (7 ∷ [])) 1 Absent ∷
-      held_in_place_call (voiced (Asked 1 (pos 5))) (level (7 ∷ [])) 1 (At 1 (pos 6)) ∷ [];
-  left = touch_leaves (Asked 1 (pos 5)) Nothing ∷ touch_leaves Empty TooStrong ∷ touch_leaves (Committed 1 (pos 5)) Nothing ∷
-      left_with (voiced Empty) (block_leaves 1 0 Nothing (middle3 (pos 0)) (level (2 ∷ [])) (middle3 (pos 268435456))
-      (middle3 (pos 536870917))) ∷
-      left_with (voiced (Asked 1 (pos 5)))
-      (in_place_leaves 0 0 HitHeld (level (7 ∷ [])) (middle3 (pos 268435456)) (middle3 (pos 536870917))) ∷ [];
-}
-
 -- a stiff string
 abbrev bent : Run
 bent = record {
@@ -180,7 +153,6 @@ pub record EachRun (P : Run → Type 0) : Type 0 where
   pub halves : P halves
   pub read_out : P read_out
   pub struck : P struck
-  pub touched : P touched
   pub bent : P bent
   pub ended : P ended
   pub plucked : P plucked

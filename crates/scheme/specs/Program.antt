@@ -1,5 +1,5 @@
--- Demand 3 of a program, known by its calls of `block`, `block_in_place`, `pluck` and `pluck_with`, of a record's blocks and of asking,
--- committing and withdrawing: their arguments, their answers and what they left.
+-- Demand 3 of a program, known by its calls of `block`, `block_in_place`, `pluck` and `pluck_with`: their arguments, their answers and what
+-- they left.
 use Rattle.std.specs.Prelude.{◌≡◌, List, [], ◌∷◌, map, ℤ}
 use Rattle.scheme.specs.Book.{Call, Outcome, Left, leaves, State, start, state_after, AfterCalls}
 use Rattle.scheme.specs.Claims.{Near}
@@ -9,7 +9,7 @@ pub record Made : Type 0 where
   pub call : Call
   pub left : Left
 
--- its promise, with the two levels that were lent: the `ensures` of each of these functions
+-- its promise, with the two levels that were lent: the `ensures` of `block`, `block_in_place`, `pluck` and `pluck_with`
 abbrev pub Kept : (older newer : List ℤ) → Made → Type 0
 Kept older newer m = m.left ≡ leaves m.call older newer
 

@@ -5,13 +5,9 @@ use Rattle.types.specs.declared.Grid.{Grid}
 use Rattle.types.specs.declared.Instrument.{Instrument}
 use Rattle.types.specs.declared.Hit.{Hit}
 use Rattle.types.specs.declared.Hit.TheVariants.{Absent, At}
-use Rattle.types.specs.declared.Held.{Held}
-use Rattle.types.specs.declared.Held.TheVariants.{Empty, Asked, Committed}
-use Rattle.types.specs.declared.Voice.{Voice}
 use Rattle.types.specs.declared.Refusal.{Refusal}
 use Rattle.types.specs.declared.Refusal.TheVariants.{Nothing, UnknownKind, WrongSize, Coefficient, Unstable, WrongLength, NotMoving}
-use Rattle.types.specs.declared.Refusal.TheVariants.{TooStrong, PickUp, HalfWidth, PointBeyond, FixedNotZero, BrokenTable, HitHeld}
-use Rattle.types.specs.declared.Refusal.TheVariants.{NoHitHeld}
+use Rattle.types.specs.declared.Refusal.TheVariants.{TooStrong, PickUp, HalfWidth, PointBeyond, FixedNotZero, BrokenTable}
 use Rattle.types.specs.Numbers.{D, number}
 use Rattle.pluck_table.specs.Loading.{loaded_table, loaded_number}
 use Rattle.scheme.specs.Lists.{point, some_below}
@@ -75,23 +71,6 @@ fixed_not_zero g xs = some_below (length xs) (λ i. fixed g i && ltb 0 (nat_abs 
 abbrev pub broken_table : List ℕ → Bool
 broken_table t = ltb 0 (loaded_number (loaded_table t))
 
--- 15, 16 "a hit is held", asked or committed
-abbrev pub is_held : Held → Bool
-is_held Empty = false
-is_held (Asked p f) = true
-is_held (Committed p f) = true
-
--- 15 "giving directly, while a hit is held"
-abbrev pub given_while_held : (direct : Hit) → Held → Bool
-given_while_held Absent e = false
-given_while_held (At p f) e = is_held e
-
--- "A block checks a committed hit by 7 and 8": the hit that a block has of its record; an asked one it does not look at
-abbrev pub committed_hit : Held → Hit
-committed_hit Empty = Absent
-committed_hit (Asked p f) = Absent
-committed_hit (Committed p f) = At p f
-
 -- ---- the lowest that applies
 
 -- a test, and what it answers
@@ -105,9 +84,9 @@ lowest [] = Nothing
 lowest ((true ⇒ r) ∷ cs) = r
 lowest ((false ⇒ r) ∷ cs) = lowest cs
 
--- "The lowest number that applies answers": the order of all numbers; 14 is "checked after 10", 15 stands "after 10" and 16 "alone"
+-- "The lowest number that applies answers": the order of all numbers; 14 is "checked after 10"
 abbrev pub order : List ℕ
-order = 1 ∷ 2 ∷ 3 ∷ 4 ∷ 5 ∷ 6 ∷ 7 ∷ 8 ∷ 9 ∷ 10 ∷ 14 ∷ 15 ∷ 16 ∷ 11 ∷ 12 ∷ 13 ∷ []
+order = 1 ∷ 2 ∷ 3 ∷ 4 ∷ 5 ∷ 6 ∷ 7 ∷ 8 ∷ 9 ∷ 10 ∷ 14 ∷ 11 ∷ 12 ∷ 13 ∷ []
 
 -- the checks stand in this order, one after the other
 abbrev pub stands_in : List ℕ → List Check → Bool
@@ -148,19 +127,6 @@ width_checks g w = wrong_width g w ⇒ HalfWidth ∷ []
 -- 14
 abbrev pub table_checks : List ℕ → List Check
 table_checks lent = broken_table lent ⇒ BrokenTable ∷ []
-
--- 7 and 8, of a hit given directly and of a committed one: where both are there, either may be wrong
-abbrev pub hits_checks : Grid → (direct committed : Hit) → List Check
-hits_checks g direct committed =
-    (not_moving g direct || not_moving g committed) ⇒ NotMoving ∷ (too_strong direct || too_strong committed) ⇒ TooStrong ∷ []
-
--- 15
-abbrev pub held_checks : (held : Bool) → List Check
-held_checks held = held ⇒ HitHeld ∷ []
-
--- 16
-abbrev pub none_held_checks : Held → List Check
-none_held_checks e = not (is_held e) ⇒ NoHitHeld ∷ []
 
 -- 11 and 12, of tests of all levels that are lent
 abbrev pub state_checks : (high unfixed : Bool) → List Check
@@ -206,35 +172,6 @@ reading_checks g newer pick =
 unfoldable pub reading_refusal : Grid → List ℤ → ℕ → Refusal
 reading_refusal g newer pick = lowest (reading_checks g newer pick)
 
--- "asking checks kind, grid, point and force by 1, 2, 7 and 8"; "15, asking, .. while a hit is held, after 10": point p, force f
-abbrev pub ask_checks : Grid → ℕ → ℤ → Held → List Check
-ask_checks g p f e = grid_checks last_kind g ++ (hit_checks g (At p f) ++ held_checks (is_held e))
-
-unfoldable pub ask_refusal : Grid → ℕ → ℤ → Held → Refusal
-ask_refusal g p f e = lowest (ask_checks g p f e)
-
--- "16, committing or withdrawing with none held, alone"
-unfoldable pub none_held_refusal : Held → Refusal
-none_held_refusal e = lowest (none_held_checks e)
-
--- "Refusals from the input" of a block of a record: "A block checks a committed hit by 7 and 8"; "15, .. giving directly, while a hit is
--- held, after 10"
-abbrev pub held_input_checks : Voice → (wrong : Bool) → ℕ → (direct : Hit) → List Check
-held_input_checks v wrong pick direct =
-    let g = v.instrument.grid in
-    instrument_checks v.instrument ++ (length_checks wrong ++ (hits_checks g direct (committed_hit v.held) ++ (
-    pick_checks g pick ++ held_checks (given_while_held direct v.held))))
-
--- with those from the state, all but 13
-abbrev pub held_block_checks : Voice → (older newer : List ℤ) → (wrong : Bool) → ℕ → (direct : Hit) → List Check
-held_block_checks v older newer wrong pick direct =
-    let g = v.instrument.grid in
-    held_input_checks v (wrong_length g (length older) || wrong_length g (length newer) || wrong) pick direct ++
-    state_checks (some_beyond older || some_beyond newer) (fixed_not_zero g older || fixed_not_zero g newer)
-
-unfoldable pub held_block_refusal : Voice → (older newer : List ℤ) → (wrong : Bool) → ℕ → (direct : Hit) → Refusal
-held_block_refusal v older newer wrong pick direct = lowest (held_block_checks v older newer wrong pick direct)
-
 -- "any kind, grid and settings that 1, 2, 4 and 5 let pass"
 unfoldable pub instrument_refusal : Instrument → Refusal
 instrument_refusal i = lowest (instrument_checks i)
@@ -250,7 +187,3 @@ pub record ChecksInOrder : Type 0 where
   pub pluck : (g : Grid) (wrong : Bool) (c w : ℕ) (a : ℤ) → T (stands_in order (pluck_checks g wrong c w a))
   pub pluck_with : (g : Grid) (wrong : Bool) (c w : ℕ) (a : ℤ) (lent : List ℕ) → T (stands_in order (pluck_with_checks g wrong c w a lent))
   pub reading : (g : Grid) (newer : List ℤ) (pick : ℕ) → T (stands_in order (reading_checks g newer pick))
-  pub ask : (g : Grid) (p : ℕ) (f : ℤ) (e : Held) → T (stands_in order (ask_checks g p f e))
-  pub none_held : (e : Held) → T (stands_in order (none_held_checks e))
-  pub held_block : (v : Voice) (older newer : List ℤ) (wrong : Bool) (pick : ℕ) (direct : Hit)
-      → T (stands_in order (held_block_checks v older newer wrong pick direct))

@@ -152,7 +152,7 @@ module _ {p : Plan} {f : ℤ} {older newer : List ℤ} (r : Ready p f older newe
       high = t.high;
       here = record {
         room = simp length-set t.here.room;
-        each = λ x h. other_place (rows.here + x) (here-apart x h t.apart) ∙ t.here.each x h;
+        each = λ x h. other_place (rows.here + x) (here_apart x h t.apart) ∙ t.here.each x h;
       };
       room = simp length-set t.room;
       apart = t.apart;
@@ -167,10 +167,10 @@ module _ {p : Plan} {f : ℤ} {older newer : List ℤ} (r : Ready p f older newe
         this_place : point (set sums (rows.other + c) below) (rows.other + c) ≡ below
         this_place = get_or-set_same sums (rows.other + c) below (pos 0) readable.other
 
-        here-apart : (x : ℕ) → x < g.columns → (rows.here + g.columns ≤ rows.other) ⊎ (rows.other + g.columns ≤ rows.here)
+        here_apart : (x : ℕ) → x < g.columns → (rows.here + g.columns ≤ rows.other) ⊎ (rows.other + g.columns ≤ rows.here)
             → rows.here + x ≡ rows.other + c → ⊥
-        here-apart x h (inl o) e = omega arith
-        here-apart x h (inr o) e = omega (arith, w.first, w.last)
+        here_apart x h (inl o) e = omega arith
+        here_apart x h (inr o) e = omega (arith, w.first, w.last)
 
         by_column : (x : ℕ) → rows.start + x < at + 1 → Dec (x ≡ c)
             → point (set sums (rows.other + c) below) (rows.other + x) ≡ S (rows.start + g.columns + x)

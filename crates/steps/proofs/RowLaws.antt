@@ -152,8 +152,8 @@ module _ {p : Plan} {h : Hit} {inPlace : Bool} {older₀ newer out₀ : List ℤ
 
   module _ {write : Bool} {older out : List ℤ} {row start n : ℕ} (l : Rows i h write inPlace older₀ newer out₀ older out row start n)
       (m : row < g.rows) (r : Run) (e : r ≡ run_of g row) where
-    pub run-here : RowRun g start r
-    run-here =
+    pub run_here : RowRun g start r
+    run_here =
         subst (λ (n : ℕ). RowRun g n r) (sym l.start_is)
         (subst (RowRun g (row * g.columns)) (sym e) (row-run g row s.planned.passes.size m))
 
@@ -162,16 +162,16 @@ module _ {p : Plan} {h : Hit} {inPlace : Bool} {older₀ newer out₀ : List ℤ
     row_room = omega (arith, l.start_is, row_inside row g.rows g.columns m)
 
     pub run_moves : Moves g (start + r.from) (start + r.to)
-    run_moves = record { order = omega (arith, run-here.rising); each = run-here.moves }
+    run_moves = record { order = omega (arith, run_here.rising); each = run_here.moves }
 
     module _ {older' out' : List ℤ} {x : Progress}
         (q : Passing i h write inPlace older newer out older' out' (start + r.from) (start + r.to) x) where
       as_far : Passing i h write inPlace older₀ newer out₀ older out 0 (start + r.from) (passed n)
-      as_far = and_still l.done (omega arith) run-here.before
+      as_far = and_still l.done (omega arith) run_here.before
 
       -- a value of the row lies beyond the ceiling
       pub rows_stop : x.within ≡ false → Passing i h write inPlace older₀ newer out₀ older' out' 0 (points g) x
-      rows_stop y = passing_stops zero-le run_moves.order as_far q (omega (arith, run-here.inside, row_room)) y
+      rows_stop y = passing_stops zero-le run_moves.order as_far q (omega (arith, run_here.inside, row_room)) y
 
       -- one more row
       module _ (y : x.within ≡ true) where
@@ -182,12 +182,12 @@ module _ {p : Plan} {h : Hit} {inPlace : Bool} {older₀ newer out₀ : List ℤ
         rows_more = record {
           start_is = ap (λ (n : ℕ). n + g.columns) l.start_is ∙ next_row row g.columns;
           upto = omega arith;
-          done = and_still row_done (omega (arith, run-here.inside)) run-here.after;
+          done = and_still row_done (omega (arith, run_here.inside)) run_here.after;
         }
 
         -- no more points are inexact than there are
         pub rows_most : n + x.inexact ≤ points g
-        rows_most = omega (arith, passing_most row_done, run-here.inside, row_room)
+        rows_most = omega (arith, passing_most row_done, run_here.inside, row_room)
 
   -- after the last row
   pub rows_done : {write : Bool} {older out : List ℤ} {row start n : ℕ} → Rows i h write inPlace older₀ newer out₀ older out row start n

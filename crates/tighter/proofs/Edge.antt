@@ -359,14 +359,14 @@ module _ (g : Grid) (size : size_in (kind g) g.columns g.rows ≡ true) where
     held_in plate k e = weaker (omega arith) (omega arith)
         (grid-held plate k (outer_ringed plate g.columns g.rows (λ x y. refl) e))
 
-    held_by_lem : pos (grip (edge g)) *ℤ weighed g c c ⩽ pos (reach (edge g)) *ℤ P
-    held_by_lem = held_in (kind g) refl size
+    held_by : pos (grip (edge g)) *ℤ weighed g c c ⩽ pos (reach (edge g)) *ℤ P
+    held_by = held_in (kind g) refl size
 
   module _ (c : Level) (s : Still (moving g) c) where
     pub by_differences : pos (grip (edge g)) *ℤ weighed g c c ⩽ pos (reach (edge g)) *ℤ pair_sum g c c
     unfolding pair_sum
-    by_differences = held_by_lem c s (pos 1) refl (λ k j. c j -ℤ c k) (λ k j. ring 2 (λ x y. y ≈ # 1 ⊗ x ⊕ (y ⊖ x)) refl (c k) (c j))
+    by_differences = held_by c s (pos 1) refl (λ k j. c j -ℤ c k) (λ k j. ring 2 (λ x y. y ≈ # 1 ⊗ x ⊕ (y ⊖ x)) refl (c k) (c j))
 
     pub by_sums : pos (grip (edge g)) *ℤ weighed g c c ⩽ pos (reach (edge g)) *ℤ over_pairs g (λ k j. (c j +ℤ c k) *ℤ (c j +ℤ c k))
-    by_sums = held_by_lem c s (negsuc 0) refl (λ k j. c j +ℤ c k)
+    by_sums = held_by c s (negsuc 0) refl (λ k j. c j +ℤ c k)
         (λ k j. ring 2 (λ x y. y ≈ con (negsuc 0) ⊗ x ⊕ (y ⊕ x)) refl (c k) (c j))

@@ -67,11 +67,11 @@ levels_held H holds i older newer p =
     (holds.by_energy i (instrument_passes i p.instrument) (point newer) (point older)
     (passes_still i.grid newer p.newer_passes) (passes_still i.grid older p.older_passes))
 
-pub held_by-tension : HeldByTension
-held_by-tension = levels_held by_tension tension_holds
+pub held_by_tension : HeldByTension
+held_by_tension = levels_held by_tension tension_holds
 
-pub held_by-stiffness : HeldByStiffness
-held_by-stiffness = levels_held by_stiffness stiffness_holds
+pub held_by_stiffness : HeldByStiffness
+held_by_stiffness = levels_held by_stiffness stiffness_holds
 
 -- ---- an instrument that passes
 

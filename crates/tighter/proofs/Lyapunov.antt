@@ -96,8 +96,8 @@ module _ {moving : ℕ → Bool} {G : Level → Level → ℤ} {next : Level →
       (≡-≤ℤ (ap (λ (a : Level). c *ℤ U a a) (part_same moving sy)) hy))
 
   -- F of nothing is 0
-  at_rest_lem : F L zeros zeros ⩽ pos 0
-  at_rest_lem = lin 4 (λ w A B t. (⊝ w) *≈ A ≈ # 0 ⊗ A ⇒ (⊝ # 1) *≈ B ≈ # 0 ⊗ B ⇒ # 1 *≈ t ≈ # 0 ⊗ t ⇒ ⊩ w ⊗ A ⊕ B ⊖ t ⊴ # 0) refl
+  at_rest : F L zeros zeros ⩽ pos 0
+  at_rest = lin 4 (λ w A B t. (⊝ w) *≈ A ≈ # 0 ⊗ A ⇒ (⊝ # 1) *≈ B ≈ # 0 ⊗ B ⇒ # 1 *≈ t ≈ # 0 ⊗ t ⇒ ⊩ w ⊗ A ⊕ B ⊖ t ⊴ # 0) refl
       w (G zeros zeros) (L.W zeros zeros) (L.R zeros zeros)
       (G_form.scale (pos 0) zeros zeros) (L.W_form.scale (pos 0) zeros zeros) (L.R_form.scale (pos 0) zeros zeros)
 
@@ -117,7 +117,7 @@ module _ {moving : ℕ → Bool} {G : Level → Level → ℤ} {next : Level →
 
   pub grow_start : (p : ℤ) → Grown 0 p zeros zeros
   grow_start p =
-      record { by_growth = lin 2 (λ f k. 4 *≤ f ⊴ # 0 ⇒ ⊩ # 4 ⊗ f ⊴ k ⊗ (# 0) ²) refl (F L zeros zeros) (w *ℤ N *ℤ (p *ℤ p)) at_rest_lem }
+      record { by_growth = lin 2 (λ f k. 4 *≤ f ⊴ # 0 ⇒ ⊩ # 4 ⊗ f ⊴ k ⊗ (# 0) ²) refl (F L zeros zeros) (w *ℤ N *ℤ (p *ℤ p)) at_rest }
 
   pub grow_step : {n : ℕ} (p : ℤ) {X Y r : Level} → still X → still Y → still r → pos 4 *ℤ G r r ⩽ N *ℤ (d *ℤ d) → Grown n p X Y
       → Grown (suc n) (p *ℤ d) (next X Y ⊞ (p ⊡ r)) (d ⊡ X)
@@ -164,7 +164,7 @@ module _ {moving : ℕ → Bool} {G : Level → Level → ℤ} {next : Level →
     pub fade_start : (p : ℤ) → pos 0 ⩽ N → Faded p zeros zeros
     fade_start p hN = record {
       by_fading = lin 6 (λ b f w N p a. (# 4 ⊗ b ²) *⊴ f ⊴ # 0 ⇒ (w ⊗ p ² ⊗ a ²) *⊴ # 0 ⊴ N ⇒ ⊩ # 4 ⊗ b ² ⊗ f ⊴ w ⊗ N ⊗ p ² ⊗ a ²) refl
-          β (F L zeros zeros) w N p (α +ℤ β) (nonneg_mul (0≤pos 4) (square_nonneg β)) at_rest_lem
+          β (F L zeros zeros) w N p (α +ℤ β) (nonneg_mul (0≤pos 4) (square_nonneg β)) at_rest
           (nonneg_mul (nonneg_mul (<ℤ_weaken L.w_positive) (square_nonneg p)) (square_nonneg (α +ℤ β))) hN;
     }
 

@@ -12,22 +12,18 @@ use Rattle.integers.proofs.Order.{◌⩽◌, 0≤pos, pos≤, ≤pos, *ℤ_mono_
 use Rattle.integers.proofs.Size.{size-add, size-mul, square-size}
 use Rattle.types.specs.declared.Instrument.{Instrument}
 use Rattle.types.specs.declared.Hit.{Hit}
-use Rattle.types.specs.declared.Voice.{Voice}
 use Rattle.types.specs.declared.Refusal.{Refusal}
-use Rattle.types.specs.declared.Refusal.TheVariants.{Nothing}
 use Rattle.scheme.specs.Lists.{point, square}
 use Rattle.scheme.specs.Instruments.{points}
 use Rattle.scheme.specs.Step.{sample_of, divisor}
 use Rattle.scheme.specs.Refusals.{wrong_length, block_refusal}
-use Rattle.scheme.specs.Calls.{accepted, AfterBlock, play, block_by, block, block_in_place}
-use Rattle.scheme.specs.Held.{acting, held_block, held_block_in_place}
+use Rattle.scheme.specs.Calls.{accepted, AfterBlock, play, block, block_in_place}
 use Rattle.scheme.specs.Book.{LastStep, step_of, Book, fresh, scale, goes_on, book_block, Call, block_call, in_place_call, pluck_call}
-use Rattle.scheme.specs.Book.{pluck_with_call, held_call, held_in_place_call, touch_call, leaves, State, start, called, calls}
+use Rattle.scheme.specs.Book.{pluck_with_call, leaves, State, start, called, calls}
 use Rattle.scheme.specs.Program.{calls_of}
 use Rattle.scheme.proofs.Laws.Rounding.{sample_rule}
 use Rattle.scheme.proofs.Laws.Refusals.{accepted_is, block_passes}
-use Rattle.scheme.proofs.Laws.Calls.{stands_behind, block_by-done, block_by-refused}
-use Rattle.scheme.proofs.Laws.Held.{held_passes}
+use Rattle.scheme.proofs.Laws.Calls.{stands_behind, block-done, block_refused_lem}
 use Rattle.scheme.proofs.Theorems.Distance.{steps_last, steps-count}
 use Rattle.scheme.proofs.Theorems.Effects.{stepped, after_call, block_cut, each_call}
 use Rattle.scheme.proofs.Theorems.Program.{each_made}
@@ -88,29 +84,25 @@ module _ (C : OfSteps) (S : OfSamples)
   unfolding calls
   whatever_next k t w ks = w (k ∷ ks)
 
-  -- a block, whatever refuses it
-  by_samples : (r : Refusal) (i : Instrument) (work samples : List ℤ) (pick : ℕ) (h : Hit) (t : State)
-      → (r ≡ Nothing → block_refusal i t.older t.newer (wrong_length i.grid (length work)) pick h ≡ Nothing) → Whatever t
-      → (j : ℕ) → let done = block_by r i t.older t.newer work samples pick h in j < done.answer.steps
-      → let b = book_block i h t.older t.newer (suc j) t.book in
-      S i b.n pick (point done.samples j) (point b.newer pick)
-  unfolding calls book_block
-  by_samples r i work samples pick h t passes w = go (accepted r) refl
+  block_samples : (i : Instrument) (work samples : List ℤ) (pick : ℕ) (h : Hit) (t : State) → Whatever t
+      → EachSample S t (block_call i work samples pick h) (called (block_call i work samples pick h) t).outcome
+  unfolding calls leaves book_block
+  block_samples i work samples pick h t w = go (accepted refused) refl
     where
-      done : AfterBlock
-      done = block_by r i t.older t.newer work samples pick h
+      refused : Refusal
+      refused = block_refusal i t.older t.newer (wrong_length i.grid (length work)) pick h
 
-      go : (x : Bool) → accepted r ≡ x → (j : ℕ) → j < done.answer.steps
+      done : AfterBlock
+      done = block i t.older t.newer work samples pick h
+
+      go : (x : Bool) → accepted refused ≡ x → (j : ℕ) → j < done.answer.steps
           → let b : Book = book_block i h t.older t.newer (suc j) t.book in
           S i b.n pick (point done.samples j) (point b.newer pick)
-      go false e j l = absurd (omega (
-        arith,
-        l,
-        ap (λ (a : AfterBlock). a.answer.steps) (block_by-refused i t.older t.newer work samples pick h {r = r} e),
-      ))
+      go false e j l =
+          absurd (omega (arith, l, ap (λ (a : AfterBlock). a.answer.steps) (block_refused_lem i t.older t.newer work samples pick h e)))
       go true e j l =
-          let z = passes (accepted_is _ e) in
-          let d = block_by-done i t.older t.newer work samples pick h {r = r} (accepted_is _ e) in
+          let z = accepted_is _ e in
+          let d = block-done i t.older t.newer work samples pick h z in
           let l' : j < (play i pick h t.older t.newer samples).answer.steps =
           subst (λ (a : AfterBlock). j < a.answer.steps) d l in
           let now : State = stepped i h (suc j) t in
@@ -122,37 +114,17 @@ module _ (C : OfSteps) (S : OfSamples)
           (at-step C i now.newer now.book.newer now.book.n now.book.last (steps-count i h j from) (steps_last i h j from)
           (subst AfterHere (block_cut i work samples pick h t z j l') (w (block_call i work (replicate (suc j) (pos 0)) pick h ∷ [])))))
 
-  block_samples : (i : Instrument) (work samples : List ℤ) (pick : ℕ) (h : Hit) (t : State) → Whatever t
-      → EachSample S t (block_call i work samples pick h) (called (block_call i work samples pick h) t).outcome
-  unfolding leaves block
-  block_samples i work samples pick h t w = by_samples _ i work samples pick h t (λ e. e) w
-
-  -- a record's: those of a block with the hit that acts
-  held_samples : (v : Voice) (work samples : List ℤ) (pick : ℕ) (h : Hit) (t : State) → Whatever t
-      → EachSample S t (held_call v work samples pick h) (called (held_call v work samples pick h) t).outcome
-  unfolding leaves held_block
-  held_samples v work samples pick h t w = by_samples _ v.instrument work samples pick (acting h v.held) t
-      (held_passes v t.older t.newer (wrong_length v.instrument.grid (length work)) pick h) w
-
   -- on two levels: those of a block with a work level of zeros
   in_place_samples : (i : Instrument) (samples : List ℤ) (pick : ℕ) (h : Hit) (t : State) → Whatever t
       → EachSample S t (in_place_call i samples pick h) (called (in_place_call i samples pick h) t).outcome
   unfolding leaves block_in_place
   in_place_samples i samples pick h t w = block_samples i (replicate (points i.grid) (pos 0)) samples pick h t w
 
-  held_in_place_samples : (v : Voice) (samples : List ℤ) (pick : ℕ) (h : Hit) (t : State) → Whatever t
-      → EachSample S t (held_in_place_call v samples pick h) (called (held_in_place_call v samples pick h) t).outcome
-  unfolding leaves held_block_in_place
-  held_in_place_samples v samples pick h t w = held_samples v (replicate (points v.instrument.grid) (pos 0)) samples pick h t w
-
   call_samples : (k : Call) (t : State) → Whatever t → EachSample S t k (called k t).outcome
   call_samples (block_call i work samples pick h) t w = block_samples i work samples pick h t w
   call_samples (in_place_call i samples pick h) t w = in_place_samples i samples pick h t w
   call_samples (pluck_call g c a x) t w = tt
   call_samples (pluck_with_call g c a x lent) t w = tt
-  call_samples (held_call v work samples pick h) t w = held_samples v work samples pick h t w
-  call_samples (held_in_place_call v samples pick h) t w = held_in_place_samples v samples pick h t w
-  call_samples (touch_call v c) t w = tt
 
   every_sample : OfEveryList C → OfEverySample S
   every_sample all older newer ks = each_call Whatever (EachSample S) whatever_next call_samples ks (start older newer) (all older newer)

@@ -1,6 +1,6 @@
 -- What the bounds of specs/Bounds say of the run that `DistanceBound` speaks of: any list of calls with the book beside it.
 -- Proofs: `sum_bounds`, `one_point`, `point_bounds`, `at_one_point`, `voice_for_ever` in proofs/Points;
--- `held_by-tension`, `held_by-stiffness` in proofs/Holding; `program_bounds` in proofs/Programs.
+-- `held_by_tension`, `held_by_stiffness` in proofs/Holding; `program_bounds` in proofs/Programs.
 use Rattle.std.specs.Prelude.{◌≡◌, List, ℕ, zero, suc, ◌*◌, ◌^◌, ◌<◌, ℤ, pos, ◌+ℤ◌, ◌-ℤ◌, ◌*ℤ◌, length, ◌≤ℤ◌}
 use Rattle.types.specs.declared.Instrument.{Instrument}
 use Rattle.scheme.specs.Lists.{point, square}
@@ -38,7 +38,7 @@ After P newer zero unrounded last = newer ≡ unrounded
 After P newer (suc m) unrounded no_step = ⊥
 After P newer (suc m) unrounded (step_of i) = (length newer ≡ points i.grid) × P i (suc m) newer unrounded
 
--- any two starting levels, any list of calls, refused ones included
+-- any two starting levels, any list of blocks and plucks, refused ones included
 abbrev pub OfEveryList : OfSteps → Type 0
 OfEveryList P = (older newer : List ℤ) (ks : List Call) →
     let t = (calls ks (start older newer)).state in After P t.newer t.book.n t.book.newer t.book.last

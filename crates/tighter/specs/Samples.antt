@@ -6,9 +6,8 @@ use Rattle.types.specs.declared.Hit.{Hit}
 use Rattle.scheme.specs.Lists.{point, square}
 use Rattle.scheme.specs.Step.{divisor}
 use Rattle.scheme.specs.Energy.{weight}
-use Rattle.scheme.specs.Held.{acting}
 use Rattle.scheme.specs.Book.{scale, book_block, Call, block_call, in_place_call, pluck_call, pluck_with_call, Outcome, steps_of, samples_of, State}
-use Rattle.scheme.specs.Book.{held_call, held_in_place_call, touch_call, start, EachCall}
+use Rattle.scheme.specs.Book.{start, EachCall}
 use Rattle.scheme.specs.Program.{Made, AllKept, EachMade}
 use Rattle.tighter.specs.Bounds.{Bound, limit, Row, demanded, numbers}
 use Rattle.tighter.specs.Claims.{voice}
@@ -30,11 +29,8 @@ EachSample P t (block_call i work samples pick h) o = OfBlock P t i pick h o
 EachSample P t (in_place_call i samples pick h) o = OfBlock P t i pick h o
 EachSample P t (pluck_call g c w a) o = Unit {0}
 EachSample P t (pluck_with_call g c w a lent) o = Unit {0}
-EachSample P t (held_call v work samples pick h) o = OfBlock P t v.instrument pick (acting h v.held) o
-EachSample P t (held_in_place_call v samples pick h) o = OfBlock P t v.instrument pick (acting h v.held) o
-EachSample P t (touch_call v c) o = Unit {0}
 
--- any two starting levels, any list of calls, refused ones included
+-- any two starting levels, any list of blocks and plucks, refused ones included
 abbrev pub OfEverySample : OfSamples → Type 0
 OfEverySample P = (older newer : List ℤ) (ks : List Call) → EachCall (EachSample P) ks (start older newer)
 

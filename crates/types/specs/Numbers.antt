@@ -3,7 +3,7 @@ use Rattle.std.specs.Prelude.{List, [], ◌∷◌, ℕ, ◌*◌, ◌^◌}
 use Rattle.types.specs.declared.Refusal.{Refusal}
 use Rattle.types.specs.declared.Refusal.TheVariants.{Nothing, UnknownKind, WrongSize, SheetNumber, Coefficient, Unstable}
 use Rattle.types.specs.declared.Refusal.TheVariants.{WrongLength, NotMoving, TooStrong, PickUp, HalfWidth, PointBeyond, FixedNotZero}
-use Rattle.types.specs.declared.Refusal.TheVariants.{NextBeyond, BrokenTable, HitHeld, NoHitHeld}
+use Rattle.types.specs.declared.Refusal.TheVariants.{NextBeyond, BrokenTable}
 
 -- "Settings are whole numbers over D = 65536"
 abbrev pub D : ℕ
@@ -34,5 +34,3 @@ number PointBeyond = 11
 number FixedNotZero = 12
 number NextBeyond = 13
 number BrokenTable = 14
-number HitHeld = 15
-number NoHitHeld = 16

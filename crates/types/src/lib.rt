@@ -111,22 +111,6 @@ pub enum Hit {
     At { point: usize, force: i64 },
 }
 
-// The hit that an instrument's record holds: none, one asked, or one committed, which acts in the first step of the next block.
-// The definition `committed_hit` tells the hit that a block has of it.
-#[derive(Drop)]
-pub enum Held {
-    Empty,
-    Asked { point: usize, force: i64 },
-    Committed { point: usize, force: i64 },
-}
-
-// "the instrument's record": an instrument, and the hit that it holds.
-#[derive(Drop)]
-pub struct Voice {
-    pub instrument: Instrument,
-    pub held: Held,
-}
-
 // What refuses a call, if anything does. The definition `number` tells the paper's number of each.
 #[derive(Drop)]
 pub enum Refusal {
@@ -145,12 +129,10 @@ pub enum Refusal {
     FixedNotZero,
     NextBeyond,
     BrokenTable,
-    HitHeld,
-    NoHitHeld,
 }
 
 impl Refusal {
-    // The paper's number of each, 0 for none. Ruled out: 13 answered as 12; 3 answered as 0; 14 answered as 10; 16 as 15.
+    // The paper's number of each, 0 for none. Ruled out: 13 answered as 12; 3 answered as 0; 14 answered as 10.
     pub fn number(self) -> u64
         ensures { result ≡ number self }
     {
@@ -170,8 +152,6 @@ impl Refusal {
             Refusal::FixedNotZero => 12,
             Refusal::NextBeyond => 13,
             Refusal::BrokenTable => 14,
-            Refusal::HitHeld => 15,
-            Refusal::NoHitHeld => 16,
         }
     }
 }
@@ -189,18 +169,4 @@ pub struct BlockAnswer {
 pub struct ReadingAnswer {
     pub value: f64,
     pub refusal: Refusal,
-}
-
-// What asking, committing and withdrawing answer: what refused it, and the record.
-#[derive(Drop)]
-pub struct HeldAnswer {
-    pub refusal: Refusal,
-    pub voice: Voice,
-}
-
-// A block's answer with the record.
-#[derive(Drop)]
-pub struct VoiceAnswer {
-    pub answer: BlockAnswer,
-    pub voice: Voice,
 }

@@ -12,7 +12,7 @@ use Rattle.scheme.specs.Step.{some_beyond}
 use Rattle.scheme.specs.Refusals.{last_kind, wrong_length, fixed_not_zero, Check, lowest, grid_checks, length_checks, pick_checks, state_checks}
 use Rattle.scheme.specs.Refusals.{not_grid_point, reading_refusal}
 use Rattle.scheme.proofs.Laws.Refusals.{right-length}
-use Rattle.instruments.proofs.RefusalLaws.{refused-here, passed_here, passed, refused_by_lem, goes_on_lem, grid_in, long_is}
+use Rattle.instruments.proofs.RefusalLaws.{refused_here, passed_here, passed, refused_by_lem, goes_on_lem, grid_in, long_is}
 use Rattle.levels.proofs.LevelLaws.{unfixed_is}
 use Rattle.reading_checks.proofs.reading_refusal.Statement.{statement}
 use Rattle.reading_checks.proofs.reading_refusal.Tie as tie
@@ -71,7 +71,7 @@ returns-2 : tie.Need-returns-2
 returns-2 c =
     let l = c.before in
     let s = l.before.before.before.before in
-    further l.before (refused-here WrongLength (pick s ++ state s) (wrong s) (wrong-is l c.if2.true))
+    further l.before (refused_here WrongLength (pick s ++ state s) (wrong s) (wrong-is l c.if2.true))
 
 -- 6 has passed: the level is as long as the grid
 module _ (c : tie.Else2) where
@@ -93,7 +93,7 @@ module _ (c : tie.Else2) where
 returns-3 : tie.Need-returns-3
 returns-3 c =
     let a = (t c.before).args in
-    later c.before (refused-here PickUp (state (t c.before)) (not_grid_point a.g a.pick)
+    later c.before (refused_here PickUp (state (t c.before)) (not_grid_point a.g a.pick)
     (point-test c.before (le-ltb _ _ c.if3.true)))
 
 level-refusal-requires : tie.Need-level-refusal-requires

@@ -28,7 +28,7 @@ array-borrow-prefix-older : tie.Need-array-borrow-prefix-older
 array-borrow-prefix-older c = search rules
 
 slice-aggregate-block : tie.Need-slice-aggregate-block
-slice-aggregate-block c = let l = c.before.before.before in prefix-length _ _ l.at_rest_lem.ensures l.before.requires
+slice-aggregate-block c = let l = c.before.before.before in prefix-length _ _ l.at_rest.ensures l.before.requires
 
 array-borrow-prefix-newer : tie.Need-array-borrow-prefix-newer
 array-borrow-prefix-newer c = search rules
@@ -53,7 +53,7 @@ returns c =
     let called = c.before.before.before.before in
     let levels = called.before.before.before.before.before in
     ap heard_of (called.block.ensures ∙ over-rest _ _ _ _ _ _ _ _
-    levels.before.before.at_rest_lem.ensures
+    levels.before.before.at_rest.ensures
     levels.before.at-rest2.ensures
     levels.at-rest3.ensures
     levels.before.before.before.requires)

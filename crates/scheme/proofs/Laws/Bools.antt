@@ -16,11 +16,6 @@ pub or_neither : (a b : Bool) → (a || b) ≡ false → (a ≡ false) × (b ≡
 or_neither false b e = (refl, e)
 or_neither true b e = absurd (true≢false e)
 
--- one of one
-pub or_none : (a : Bool) → (a || false) ≡ a
-or_none true = refl
-or_none false = refl
-
 -- by what the first of two is
 pub and_yes : {a b : Bool} → a ≡ true → (a && b) ≡ b
 and_yes {b = b} e = ap (λ (x : Bool). x && b) e

@@ -29,14 +29,14 @@ use Rattle.scheme.specs.Pluck.{pluck_level}
 use Rattle.scheme.specs.Refusals.{wrong_length, fixed_not_zero, broken_table, pluck_checks, block_refusal, pluck_refusal, pluck_with_refusal}
 use Rattle.scheme.specs.Refusals.{reading_refusal}
 use Rattle.scheme.specs.Calls.{accepted, AfterSteps, ended, one_more, play, levels_after, inexact_after, hit_after, StandsBehind}
-use Rattle.scheme.specs.Calls.{StepsStandBehind, AfterBlock, capped, with_work_zero, block_refused, block_by, block, overwritten}
-use Rattle.scheme.specs.Calls.{pluck_refused, reported, in_place_left, without_work, block_in_place, BlocksAgree, pluck_by, pluck, pluck_with}
+use Rattle.scheme.specs.Calls.{StepsStandBehind, AfterBlock, capped, with_work_zero, block_refused, block, overwritten, pluck_refused}
+use Rattle.scheme.specs.Calls.{reported, in_place_left, without_work, block_in_place, BlocksAgree, pluck_by, pluck, pluck_with}
 use Rattle.scheme.specs.Calls.{CopyPlucksAlike, reading}
 use Rattle.scheme.specs.Claims.{LevelPasses}
 use Rattle.scheme.proofs.Laws.Bools.{cases}
 use Rattle.scheme.proofs.Laws.Lists.{none_below}
 use Rattle.scheme.proofs.Laws.Step.{fixed-still, length-next, next-fixed}
-use Rattle.scheme.proofs.Laws.Refusals.{last_passed, block_passes}
+use Rattle.scheme.proofs.Laws.Refusals.{last_passed, accepted_is, block_passes}
 
 -- a next level within the ceiling passes
 pub next_passes : (i : Instrument) (h : Hit) (older newer : List ℤ) → some_beyond (next_level i h older newer) ≡ false
@@ -200,27 +200,16 @@ capped-add a b = go (dec_lt a (2 ^ 64))
 -- ---- a block
 
 module _ (i : Instrument) (older newer work samples : List ℤ) (pick : ℕ) (h : Hit) where
-  -- whatever refuses it
-  pub block_by-done : {r : Refusal} → r ≡ Nothing
-      → block_by r i older newer work samples pick h ≡ with_work_zero (points i.grid) (play i pick h older newer samples)
-  unfolding block_by
-  block_by-done e = simp e
-
-  pub block_by-refused : {r : Refusal} → accepted r ≡ false
-      → block_by r i older newer work samples pick h ≡ block_refused r older newer work samples
-  unfolding block_by
-  block_by-refused e = simp e
-
   pub block-done : block_refusal i older newer (wrong_length i.grid (length work)) pick h ≡ Nothing
       → block i older newer work samples pick h ≡ with_work_zero (points i.grid) (play i pick h older newer samples)
   unfolding block
-  block-done e = block_by-done e
+  block-done e = simp e
 
   pub block_refused_lem : accepted (block_refusal i older newer (wrong_length i.grid (length work)) pick h) ≡ false
       → block i older newer work samples pick h ≡ block_refused (block_refusal i older newer (wrong_length i.grid (length work)) pick h)
       older newer work samples
   unfolding block
-  block_refused_lem e = block_by-refused e
+  block_refused_lem e = simp e
 
   -- what an accepted block leaves passes 11 and 12
   pub accepted-leaves : block_refusal i older newer (wrong_length i.grid (length work)) pick h ≡ Nothing
@@ -236,27 +225,22 @@ module _ (i : Instrument) (older newer work samples : List ℤ) (pick : ℕ) (h 
 
 -- ---- a block on two levels
 
--- what else is left does not depend on work's points
-pub work_apart : (i : Instrument) (older newer work work' samples : List ℤ) (pick : ℕ) (h : Hit) {r r' : Refusal} → r ≡ r'
-    → without_work (block_by r i older newer work samples pick h) ≡ without_work (block_by r' i older newer work' samples pick h)
-unfolding block_by
-work_apart i older newer work work' samples pick h {r} e =
-    go (accepted r) ∙ ap (λ (r : Refusal). without_work (block_by r i older newer work' samples pick h)) e
-  where
-    done : AfterBlock
-    done = with_work_zero (points i.grid) (play i pick h older newer samples)
+-- with a work level of the grid's length, 6 looks at older and newer alone, and what is answered and left does not depend on work's points
+module _ (i : Instrument) (older newer work samples : List ℤ) (pick : ℕ) (h : Hit) (long : length work ≡ points i.grid) where
+  long_passes : block_refusal i older newer (wrong_length i.grid (length work)) pick h ≡ block_refusal i older newer false pick h
+  long_passes = ap (λ (wrong : Bool). block_refusal i older newer wrong pick h)
+      (ap not (eq-eqb (length work) (points i.grid) long))
 
-    go : (t : Bool) → without_work (cond t done (block_refused r older newer work samples))
-        ≡ without_work (cond t done (block_refused r older newer work' samples))
-    go true = refl
-    go false = refl
+  long_done : block_refusal i older newer false pick h ≡ Nothing → without_work (block i older newer work samples pick h)
+      ≡ without_work (with_work_zero (points i.grid) (play i pick h older newer samples))
+  long_done e = ap (λ (a : AfterBlock). without_work a) (block-done i older newer work samples pick h (long_passes ∙ e))
 
--- with a work level of the grid's length, 6 looks at older and newer alone
-pub right_work : (g : Grid) (work : List ℤ) → length work ≡ points g → wrong_length g (length work) ≡ false
-right_work g work long = ap not (eq-eqb (length work) (points g) long)
-
-pub zeros-right : (g : Grid) → wrong_length g (length (replicate (points g) (pos 0))) ≡ false
-zeros-right g = right_work g (replicate (points g) (pos 0)) (length-replicate (points g) (pos 0))
+  long_refused : accepted (block_refusal i older newer false pick h) ≡ false → without_work (block i older newer work samples pick h)
+      ≡ without_work (block_refused (block_refusal i older newer false pick h) older newer work samples)
+  long_refused e =
+      ap (λ (a : AfterBlock). without_work a)
+      (block_refused_lem i older newer work samples pick h (ap (λ (r : Refusal). accepted r) long_passes ∙ e)) ∙
+      ap (λ (r : Refusal). without_work (block_refused r older newer work samples)) long_passes
 
 module _ (i : Instrument) (older newer samples : List ℤ) (pick : ℕ) (h : Hit) where
   abbrev after : AfterSteps
@@ -265,27 +249,23 @@ module _ (i : Instrument) (older newer samples : List ℤ) (pick : ℕ) (h : Hit
   abbrev zeros : List ℤ
   zeros = replicate (points i.grid) (pos 0)
 
-  two_lengths : block_refusal i older newer (wrong_length i.grid (length zeros)) pick h ≡ block_refusal i older newer false pick h
-  two_lengths = ap (λ (wrong : Bool). block_refusal i older newer wrong pick h) (zeros-right i.grid)
-
   pub in_place_done : block_refusal i older newer false pick h ≡ Nothing → block_in_place i older newer samples pick h
       ≡ in_place_left (reported after.answer) after.older after.newer after.samples
   unfolding block_in_place
-  in_place_done e = ap (λ (a : AfterBlock). without_work a) (block-done i older newer zeros samples pick h (two_lengths ∙ e))
+  in_place_done e = long_done i older newer zeros samples pick h (length-replicate (points i.grid) (pos 0)) e
 
   pub in_place_refused : accepted (block_refusal i older newer false pick h) ≡ false → block_in_place i older newer samples pick h
       ≡ in_place_left (record { steps = 0; inexact = 0; refusal = block_refusal i older newer false pick h }) older newer samples
   unfolding block_in_place
-  in_place_refused e =
-      ap (λ (a : AfterBlock). without_work a)
-      (block_refused_lem i older newer zeros samples pick h (ap (λ (r : Refusal). accepted r) two_lengths ∙ e)) ∙
-      ap (λ (r : Refusal). without_work (block_refused r older newer zeros samples)) two_lengths
+  in_place_refused e = long_refused i older newer zeros samples pick h (length-replicate (points i.grid) (pos 0)) e
 
 pub blocks_agree : BlocksAgree
-unfolding block_in_place block
 blocks_agree i older newer work samples pick h long =
-    work_apart i older newer (zeros i older newer samples pick h) work samples pick h
-    (ap (λ (wrong : Bool). block_refusal i older newer wrong pick h) (zeros-right i.grid ∙ sym (right_work i.grid work long)))
+    cases (λ (b : Bool). block_in_place i older newer samples pick h ≡ without_work (block i older newer work samples pick h))
+    (accepted (block_refusal i older newer false pick h))
+    (λ e. in_place_done i older newer samples pick h (accepted_is _ e) ∙
+    sym (long_done i older newer work samples pick h long (accepted_is _ e)))
+    (λ e. in_place_refused i older newer samples pick h e ∙ sym (long_refused i older newer work samples pick h long e))
 
 -- ---- a pluck
 

@@ -10,20 +10,18 @@ use lib.ListN.{length, take, replicate, length-replicate}
 use Rattle.types.specs.declared.Instrument.{Instrument}
 use Rattle.types.specs.declared.Hit.{Hit}
 use Rattle.types.specs.declared.Hit.TheVariants.{Absent}
-use Rattle.types.specs.declared.Voice.{Voice}
 use Rattle.types.specs.declared.Refusal.{Refusal}
 use Rattle.scheme.specs.Lists.{point}
 use Rattle.scheme.specs.Instruments.{points}
 use Rattle.scheme.specs.Step.{next_level, inexact_in, some_beyond, sample_of}
-use Rattle.scheme.specs.Refusals.{wrong_length, block_refusal, held_block_refusal}
-use Rattle.scheme.specs.Calls.{accepted, AfterSteps, one_more, play, AfterBlock, reported, block_refused, block_by, block}
-use Rattle.scheme.specs.Calls.{AfterInPlace, in_place_left, block_in_place}
-use Rattle.scheme.specs.Held.{holding, Voiced, acting, held_after, held_block, held_block_in_place}
+use Rattle.scheme.specs.Refusals.{wrong_length, block_refusal}
+use Rattle.scheme.specs.Calls.{accepted, AfterSteps, one_more, play, AfterBlock, reported, block_refused, block, AfterInPlace}
+use Rattle.scheme.specs.Calls.{in_place_left, block_in_place}
 use Rattle.scheme.specs.Book.{Call, block_call, in_place_call, pluck_call, pluck_with_call, Outcome, block_outcome, in_place_outcome, Left}
-use Rattle.scheme.specs.Book.{held_call, held_in_place_call, touch_call, left_with, leaves}
+use Rattle.scheme.specs.Book.{leaves}
 use Rattle.scheme.specs.Mirror.{blank, heard_left}
 use Rattle.scheme.proofs.Laws.Refusals.{accepted_is}
-use Rattle.scheme.proofs.Laws.Calls.{play-ends, play_goes, block_by-done, block_by-refused}
+use Rattle.scheme.proofs.Laws.Calls.{play-ends, play_goes, block-done, block_refused_lem}
 
 -- what the steps of a block leave, with the samples of the steps done alone
 abbrev done : AfterSteps → AfterSteps
@@ -59,49 +57,34 @@ left o older newer = record { outcome = o; older = older; newer = newer }
 abbrev done_block : AfterBlock → AfterInPlace
 done_block a = in_place_left a.answer a.older a.newer (take a.answer.steps a.samples)
 
-abbrev done_held : Voiced AfterBlock → Voiced AfterInPlace
-done_held a = record { left = done_block a.left; voice = a.voice }
-
--- with any work level and any sample buffer of the same length, where both are refused alike
-pub block_by_content : (r r' : Refusal) (i : Instrument) (older newer work samples : List ℤ) (pick : ℕ) (h : Hit) (work' samples' : List ℤ)
-    → r' ≡ r → length samples' ≡ length samples
-    → done_block (block_by r' i older newer work' samples' pick h) ≡ done_block (block_by r i older newer work samples pick h)
-block_by_content r r' i older newer work samples pick h work' samples' same s = go (accepted r) refl
-  where
-    go : (t : Bool) → accepted r ≡ t
-        → done_block (block_by r' i older newer work' samples' pick h) ≡ done_block (block_by r i older newer work samples pick h)
-    go true e =
-        let z = accepted_is r e in
-        ap (λ (a : AfterBlock). done_block a) (block_by-done i older newer work' samples' pick h (same ∙ z)) ∙
-        ap (λ (p : AfterSteps). in_place_left (reported p.answer) p.older p.newer p.samples)
-        (play_content i pick h older newer samples' samples s) ∙
-        sym (ap (λ (a : AfterBlock). done_block a) (block_by-done i older newer work samples pick h z))
-    go false e =
-        ap (λ (a : AfterBlock). done_block a)
-        (block_by-refused i older newer work' samples' pick h (ap (λ (r : Refusal). accepted r) same ∙ e)) ∙
-        ap (λ (r : Refusal). done_block (block_refused r older newer work samples)) same ∙
-        sym (ap (λ (a : AfterBlock). done_block a) (block_by-refused i older newer work samples pick h e))
-
--- and a work level of the same length
+-- with any work level and any sample buffer of the same lengths
 block_content : (i : Instrument) (older newer work samples : List ℤ) (pick : ℕ) (h : Hit) (work' samples' : List ℤ)
     → length work' ≡ length work → length samples' ≡ length samples
     → done_block (block i older newer work' samples' pick h) ≡ done_block (block i older newer work samples pick h)
-unfolding block
-block_content i older newer work samples pick h work' samples' w s = block_by_content _ _ i older newer work samples pick h work' samples'
-    (ap (λ (n : ℕ). block_refusal i older newer (wrong_length i.grid n) pick h) w) s
+block_content i older newer work samples pick h work' samples' w s = go (accepted refusal) refl
+  where
+    refusal : Refusal
+    refusal = block_refusal i older newer (wrong_length i.grid (length work)) pick h
 
--- the same of a record's block, which is cleared alike
-held_content : (v : Voice) (older newer work samples : List ℤ) (pick : ℕ) (h : Hit) (work' samples' : List ℤ)
-    → length work' ≡ length work → length samples' ≡ length samples
-    → done_held (held_block v older newer work' samples' pick h) ≡ done_held (held_block v older newer work samples pick h)
-unfolding held_block
-held_content v older newer work samples pick h work' samples' w s =
-    ap (λ (a : AfterInPlace). record { left = a; voice = holding v.instrument (held_after a.answer.steps v.held) })
-    (block_by_content _ _ v.instrument older newer work samples pick (acting h v.held) work' samples'
-    (ap (λ (n : ℕ). held_block_refusal v older newer (wrong_length v.instrument.grid n) pick h) w) s)
+    same : block_refusal i older newer (wrong_length i.grid (length work')) pick h ≡ refusal
+    same = ap (λ (n : ℕ). block_refusal i older newer (wrong_length i.grid n) pick h) w
+
+    go : (t : Bool) → accepted refusal ≡ t
+        → done_block (block i older newer work' samples' pick h) ≡ done_block (block i older newer work samples pick h)
+    go true e =
+        let z = accepted_is refusal e in
+        ap (λ (a : AfterBlock). done_block a) (block-done i older newer work' samples' pick h (same ∙ z)) ∙
+        ap (λ (p : AfterSteps). in_place_left (reported p.answer) p.older p.newer p.samples)
+        (play_content i pick h older newer samples' samples s) ∙
+        sym (ap (λ (a : AfterBlock). done_block a) (block-done i older newer work samples pick h z))
+    go false e =
+        ap (λ (a : AfterBlock). done_block a)
+        (block_refused_lem i older newer work' samples' pick h (ap (λ (r : Refusal). accepted r) same ∙ e)) ∙
+        ap (λ (r : Refusal). done_block (block_refused r older newer work samples)) same ∙
+        sym (ap (λ (a : AfterBlock). done_block a) (block_refused_lem i older newer work samples pick h e))
 
 pub content_left : (k : Call) (older newer : List ℤ) → heard_left (leaves (blank k) older newer) ≡ heard_left (leaves k older newer)
-unfolding leaves block_in_place held_block_in_place
+unfolding leaves block_in_place
 content_left (block_call i work samples pick h) older newer =
     ap (λ (a : AfterInPlace). left (block_outcome a.answer [] a.samples) a.older a.newer)
     (block_content i older newer work samples pick h _ _ (length-replicate (length work) _) (length-replicate (length samples) _))
@@ -111,13 +94,3 @@ content_left (in_place_call i samples pick h) older newer =
     (block_content i older newer work samples pick h work _ refl (length-replicate (length samples) _))
 content_left (pluck_call g c w a) older newer = refl
 content_left (pluck_with_call g c w a lent) older newer = refl
-content_left (held_call v work samples pick h) older newer =
-    ap (λ (a : Voiced AfterInPlace). left_with a.voice (left (block_outcome a.left.answer [] a.left.samples)
-    a.left.older a.left.newer))
-    (held_content v older newer work samples pick h _ _ (length-replicate (length work) _) (length-replicate (length samples) _))
-content_left (held_in_place_call v samples pick h) older newer =
-    let work = replicate (points v.instrument.grid) (pos 0) in
-    ap (λ (a : Voiced AfterInPlace). left_with a.voice (left (in_place_outcome a.left.answer a.left.samples)
-    a.left.older a.left.newer))
-    (held_content v older newer work samples pick h work _ refl (length-replicate (length samples) _))
-content_left (touch_call v c) older newer = refl

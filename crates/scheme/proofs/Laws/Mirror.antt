@@ -25,19 +25,17 @@ use Rattle.scheme.specs.Lists.{point, some_below, count_below}
 use Rattle.scheme.specs.Instruments.{points, fixed, moving}
 use Rattle.scheme.specs.Step.{numerator, round_away, force_of, divisor, next_at, next_level, inexact_at, inexact_in, some_beyond, sample_of}
 use Rattle.scheme.specs.Pluck.{distance_from, pluck_value, pluck_at, pluck_level}
-use Rattle.scheme.specs.Refusals.{last_plucked, wrong_length, not_moving, too_strong, fixed_not_zero, Check, ◌⇒◌, lowest, grid_checks}
-use Rattle.scheme.specs.Refusals.{instrument_checks, length_checks, hit_checks, pick_checks, width_checks, table_checks, state_checks}
-use Rattle.scheme.specs.Refusals.{pluck_checks}
+use Rattle.scheme.specs.Refusals.{last_plucked, wrong_length, fixed_not_zero, Check, ◌⇒◌, lowest, grid_checks, instrument_checks}
+use Rattle.scheme.specs.Refusals.{length_checks, hit_checks, pick_checks, width_checks, table_checks, state_checks, pluck_checks}
 use Rattle.scheme.specs.Refusals.{block_refusal, pluck_refusal, pluck_with_refusal}
-use Rattle.scheme.specs.Calls.{accepted, AfterSteps, one_more, play, AfterBlock, block_left, with_work_zero, block_refused, block_by}
-use Rattle.scheme.specs.Calls.{block}
+use Rattle.scheme.specs.Calls.{accepted, AfterSteps, one_more, play, AfterBlock, block_left, with_work_zero, block_refused, block}
 use Rattle.scheme.specs.Calls.{AfterPluck, pluck_left, overwritten, pluck_refused, pluck_by, pluck, pluck_with}
 use Rattle.scheme.specs.Mirror.{negated, mirror_hit, mirror_samples}
 use Rattle.scheme.proofs.Laws.Lists.{map-tabulate}
 use Rattle.scheme.proofs.Laws.Rounding.{round_odd, sample_rule}
 use Rattle.scheme.proofs.Laws.Step.{numerator-scale}
 use Rattle.scheme.proofs.Laws.Refusals.{accepted_is}
-use Rattle.scheme.proofs.Laws.Calls.{play-ends, play_goes, block_by-done, block_by-refused, by_done, by_refused}
+use Rattle.scheme.proofs.Laws.Calls.{play-ends, play_goes, block-done, block_refused_lem, by_done, by_refused}
 
 -- ---- negated levels and forces
 
@@ -98,20 +96,13 @@ pub beyond_even : (xs : List ℤ) → some_beyond (negated xs) ≡ some_beyond x
 unfolding some_beyond
 beyond_even xs = λ x. some_below (length-map xs neg_ℤ x) (λ k. ltb ceiling (size-negated xs k x))
 
-pub fixed_even : (g : Grid) (xs : List ℤ) → fixed_not_zero g (negated xs) ≡ fixed_not_zero g xs
+fixed_even : (g : Grid) (xs : List ℤ) → fixed_not_zero g (negated xs) ≡ fixed_not_zero g xs
 unfolding fixed_not_zero
 fixed_even g xs = λ x. some_below (length-map xs neg_ℤ x) (λ k. fixed g k && ltb 0 (size-negated xs k x))
 
-pub moving_even : (g : Grid) (h : Hit) → not_moving g (mirror_hit h) ≡ not_moving g h
-moving_even g Absent = refl
-moving_even g (At p f) = refl
-
-pub strong_even : (h : Hit) → too_strong (mirror_hit h) ≡ too_strong h
-strong_even Absent = refl
-strong_even (At p f) = ap (λ (n : ℕ). ltb ceiling n) (size-neg f)
-
-pub hit_even : (g : Grid) (h : Hit) → hit_checks g (mirror_hit h) ≡ hit_checks g h
-hit_even g h = λ x. moving_even g h x ⇒ NotMoving ∷ strong_even h x ⇒ TooStrong ∷ []
+hit_even : (g : Grid) (h : Hit) → hit_checks g (mirror_hit h) ≡ hit_checks g h
+hit_even g Absent = refl
+hit_even g (At p f) = ap (λ (n : ℕ). not (moving g p) ⇒ NotMoving ∷ ltb ceiling n ⇒ TooStrong ∷ []) (size-neg f)
 
 pub block-refusal_even : (i : Instrument) (older newer : List ℤ) (wrong : Bool) (pick : ℕ) (h : Hit)
     → block_refusal i (negated older) (negated newer) wrong pick (mirror_hit h) ≡ block_refusal i older newer wrong pick h
@@ -190,29 +181,27 @@ play_mirrored i pick h older newer (x ∷ xs) = go (some_beyond next) refl
 abbrev pub mirror_block : AfterBlock → AfterBlock
 mirror_block a = block_left a.answer (negated a.older) (negated a.newer) a.work (mirror_samples a.answer.steps a.samples)
 
--- whatever refuses it, where both are refused alike
-pub block_by_mirrored : (r r' : Refusal) (i : Instrument) (older newer work samples : List ℤ) (pick : ℕ) (h : Hit) → r' ≡ r
-    → block_by r' i (negated older) (negated newer) work samples pick (mirror_hit h)
-    ≡ mirror_block (block_by r i older newer work samples pick h)
-block_by_mirrored r r' i older newer work samples pick h even = go (accepted r) refl
-  where
-    go : (t : Bool) → accepted r ≡ t → block_by r' i (negated older) (negated newer) work samples pick (mirror_hit h)
-        ≡ mirror_block (block_by r i older newer work samples pick h)
-    go true e =
-        let z = accepted_is r e in
-        block_by-done i (negated older) (negated newer) work samples pick (mirror_hit h) (even ∙ z) ∙
-        ap (λ (p : AfterSteps). with_work_zero (points i.grid) p) (play_mirrored i pick h older newer samples) ∙
-        sym (ap (λ (a : AfterBlock). mirror_block a) (block_by-done i older newer work samples pick h z))
-    go false e =
-        block_by-refused i (negated older) (negated newer) work samples pick (mirror_hit h) (ap (λ (r : Refusal). accepted r) even ∙ e) ∙
-        ap (λ (r : Refusal). block_refused r (negated older) (negated newer) work samples) even ∙
-        sym (ap (λ (a : AfterBlock). mirror_block a) (block_by-refused i older newer work samples pick h e))
-
 pub block_mirrored : (i : Instrument) (older newer work samples : List ℤ) (pick : ℕ) (h : Hit)
     → block i (negated older) (negated newer) work samples pick (mirror_hit h) ≡ mirror_block (block i older newer work samples pick h)
-unfolding block
-block_mirrored i older newer work samples pick h = block_by_mirrored _ _ i older newer work samples pick h
-    (block-refusal_even i older newer (wrong_length i.grid (length work)) pick h)
+block_mirrored i older newer work samples pick h = go (accepted refusal) refl
+  where
+    refusal : Refusal
+    refusal = block_refusal i older newer (wrong_length i.grid (length work)) pick h
+
+    even : block_refusal i (negated older) (negated newer) (wrong_length i.grid (length work)) pick (mirror_hit h) ≡ refusal
+    even = block-refusal_even i older newer (wrong_length i.grid (length work)) pick h
+
+    go : (t : Bool) → accepted refusal ≡ t
+        → block i (negated older) (negated newer) work samples pick (mirror_hit h) ≡ mirror_block (block i older newer work samples pick h)
+    go true e =
+        let z = accepted_is refusal e in
+        block-done i (negated older) (negated newer) work samples pick (mirror_hit h) (even ∙ z) ∙
+        ap (λ (p : AfterSteps). with_work_zero (points i.grid) p) (play_mirrored i pick h older newer samples) ∙
+        sym (ap (λ (a : AfterBlock). mirror_block a) (block-done i older newer work samples pick h z))
+    go false e =
+        block_refused_lem i (negated older) (negated newer) work samples pick (mirror_hit h) (ap (λ (r : Refusal). accepted r) even ∙ e) ∙
+        ap (λ (r : Refusal). block_refused r (negated older) (negated newer) work samples) even ∙
+        sym (ap (λ (a : AfterBlock). mirror_block a) (block_refused_lem i older newer work samples pick h e))
 
 -- ---- a pluck: the cut toward zero is odd
 

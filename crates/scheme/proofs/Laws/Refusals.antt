@@ -17,7 +17,7 @@ use Rattle.types.specs.declared.Hit.{Hit}
 use Rattle.types.specs.declared.Refusal.{Refusal}
 use Rattle.types.specs.declared.Refusal.TheVariants.{Nothing, UnknownKind, WrongSize, SheetNumber, Coefficient, Unstable}
 use Rattle.types.specs.declared.Refusal.TheVariants.{WrongLength, NotMoving, TooStrong, PickUp, HalfWidth, PointBeyond}
-use Rattle.types.specs.declared.Refusal.TheVariants.{FixedNotZero, NextBeyond, BrokenTable, HitHeld, NoHitHeld}
+use Rattle.types.specs.declared.Refusal.TheVariants.{FixedNotZero, NextBeyond, BrokenTable}
 use Rattle.types.specs.Numbers.{D, ceiling, number}
 use Rattle.pluck_table.specs.declared.LoadedTable.{LoadedTable}
 use Rattle.pluck_table.specs.declared.LoadedTable.TheVariants.{Sound, Broken}
@@ -41,9 +41,6 @@ checks_in_order = record {
   pluck = λ g wrong c w a. tt;
   pluck_with = λ g wrong c w a lent. tt;
   reading = λ g newer pick. tt;
-  ask = λ g p f e. tt;
-  none_held = λ e. tt;
-  held_block = λ v older newer wrong pick direct. tt;
 }
 
 -- 14's check, by what loading answers
@@ -82,18 +79,6 @@ last_passed [] t r e = ap (λ (b : Bool). lowest (b ⇒ r ∷ [])) e
 last_passed ((true ⇒ x) ∷ cs) t r e = refl
 last_passed ((false ⇒ x) ∷ cs) t r e = last_passed cs t r e
 
--- one between others that does not apply
-pub check_passed : (cs ds : List Check) (t : Bool) (r : Refusal) → t ≡ false → lowest (cs ++ (t ⇒ r ∷ ds)) ≡ lowest (cs ++ ds)
-check_passed [] ds t r e = ap (λ (b : Bool). lowest (b ⇒ r ∷ ds)) e
-check_passed ((true ⇒ x) ∷ cs) ds t r e = refl
-check_passed ((false ⇒ x) ∷ cs) ds t r e = check_passed cs ds t r e
-
--- where one of the first applies, the others play no part
-pub first_applies : (cs ds : List Check) → accepted (lowest cs) ≡ false → lowest (cs ++ ds) ≡ lowest cs
-first_applies [] ds e = absurd (true≢false e)
-first_applies ((true ⇒ x) ∷ cs) ds e = refl
-first_applies ((false ⇒ x) ∷ cs) ds e = first_applies cs ds e
-
 -- nothing refuses it
 pub accepted_is : (r : Refusal) → accepted r ≡ true → r ≡ Nothing
 accepted_is Nothing e = refl
@@ -111,8 +96,6 @@ accepted_is PointBeyond e = absurd (true≢false (sym e))
 accepted_is FixedNotZero e = absurd (true≢false (sym e))
 accepted_is NextBeyond e = absurd (true≢false (sym e))
 accepted_is BrokenTable e = absurd (true≢false (sym e))
-accepted_is HitHeld e = absurd (true≢false (sym e))
-accepted_is NoHitHeld e = absurd (true≢false (sym e))
 
 -- ---- what has passed
 

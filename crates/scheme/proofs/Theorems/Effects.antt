@@ -10,23 +10,19 @@ use lib.ListN.{length, replicate, length-replicate}
 use Rattle.types.specs.declared.Grid.{Grid}
 use Rattle.types.specs.declared.Instrument.{Instrument}
 use Rattle.types.specs.declared.Hit.{Hit}
-use Rattle.types.specs.declared.Voice.{Voice}
 use Rattle.types.specs.declared.Refusal.{Refusal}
 use Rattle.types.specs.declared.Refusal.TheVariants.{Nothing}
 use Rattle.pluck_table.specs.Table.{table}
 use Rattle.scheme.specs.Instruments.{points}
 use Rattle.scheme.specs.Pluck.{pluck_level}
-use Rattle.scheme.specs.Refusals.{wrong_length, block_refusal, held_block_refusal, pluck_refusal, pluck_with_refusal}
-use Rattle.scheme.specs.Calls.{accepted, AfterSteps, play, levels_after, inexact_after, capped, AfterBlock, AfterPluck, block_by}
-use Rattle.scheme.specs.Calls.{block, block_in_place, pluck_by, pluck, pluck_with}
-use Rattle.scheme.specs.Held.{acting, held_block, held_block_in_place}
+use Rattle.scheme.specs.Refusals.{wrong_length, block_refusal, pluck_refusal, pluck_with_refusal}
+use Rattle.scheme.specs.Calls.{accepted, AfterSteps, play, levels_after, inexact_after, capped, AfterBlock, AfterPluck, block}
+use Rattle.scheme.specs.Calls.{block_in_place, pluck_by, pluck, pluck_with}
 use Rattle.scheme.specs.Book.{fresh, book_block, book_pluck, sum_block, sum_pluck, Call, block_call, in_place_call, pluck_call, pluck_with_call}
-use Rattle.scheme.specs.Book.{held_call, held_in_place_call, touch_call, leaves, book_call, sum_call, State, state_after, called, calls}
-use Rattle.scheme.specs.Book.{Outcome, EachCall}
+use Rattle.scheme.specs.Book.{leaves, book_call, sum_call, State, state_after, called, calls, Outcome, EachCall}
 use Rattle.scheme.specs.Passing.{InstrumentPasses}
 use Rattle.scheme.proofs.Laws.Refusals.{accepted_is, instrument_passes, block_passes}
-use Rattle.scheme.proofs.Laws.Calls.{stands_behind, all_done, block_by-done, block_by-refused, by_done, by_refused}
-use Rattle.scheme.proofs.Laws.Held.{held_passes}
+use Rattle.scheme.proofs.Laws.Calls.{stands_behind, all_done, block-done, block_refused_lem, by_done, by_refused}
 
 -- k steps of an instrument, the hit in the first, of the levels and in the book, and their inexact points
 abbrev pub stepped : Instrument → Hit → ℕ → State → State
@@ -51,7 +47,6 @@ pub data Effect (t t' : State) : Type 0 where
 abbrev pub after_call : Call → State → State
 after_call k t = state_after k (called k t) t
 
--- a block, whatever refuses it
 module _ (i : Instrument) (work samples : List ℤ) (pick : ℕ) (h : Hit) (t : State) where
   abbrev refused : Refusal
   refused = block_refusal i t.older t.newer (wrong_length i.grid (length work)) pick h
@@ -68,12 +63,11 @@ module _ (i : Instrument) (work samples : List ℤ) (pick : ℕ) (h : Hit) (t : 
   }
 
   -- an accepted block: the steps that it has done
-  by_stepped : {r : Refusal} → r ≡ Nothing
-      → left (block_by r i t.older t.newer work samples pick h) ≡ stepped i h after.answer.steps t
-  unfolding left
-  by_stepped e =
+  pub block-stepped : refused ≡ Nothing → after_call (block_call i work samples pick h) t ≡ stepped i h after.answer.steps t
+  unfolding leaves book_call sum_call left
+  block-stepped e =
       let s = stands_behind i pick h t.older t.newer samples in
-      ap left (block_by-done i t.older t.newer work samples pick h e) ∙
+      ap left (block-done i t.older t.newer work samples pick h e) ∙
       (λ x. record {
         older = s.older_is x;
         newer = s.newer_is x;
@@ -81,35 +75,17 @@ module _ (i : Instrument) (work samples : List ℤ) (pick : ℕ) (h : Hit) (t : 
         inexact = sum_block i after.answer.steps (capped (s.counted x)) t.book t.inexact;
       })
 
-  by_effect : (r : Refusal) → (r ≡ Nothing → refused ≡ Nothing)
-      → Effect t (left (block_by r i t.older t.newer work samples pick h))
-  unfolding book_block sum_block left
-  by_effect r passes = go (accepted r) refl
+  block_effect : Effect t (after_call (block_call i work samples pick h) t)
+  unfolding leaves book_call book_block sum_call sum_block left
+  block_effect = go (accepted refused) refl
     where
-      go : (x : Bool) → accepted r ≡ x → Effect t (left (block_by r i t.older t.newer work samples pick h))
+      go : (x : Bool) → accepted refused ≡ x → Effect t (left (block i t.older t.newer work samples pick h))
       go true e =
           let z = accepted_is _ e in
-          let wrong = wrong_length i.grid (length work) in
           steps i h after.answer.steps
-          (instrument_passes i (block_passes i t.older t.newer wrong pick h (passes z)).instrument)
-          (by_stepped z)
-      go false e = nothing (ap left (block_by-refused i t.older t.newer work samples pick h e))
-
-  pub block-stepped : refused ≡ Nothing → after_call (block_call i work samples pick h) t ≡ stepped i h after.answer.steps t
-  unfolding leaves book_call sum_call block left
-  block-stepped e = by_stepped e
-
-  block_effect : Effect t (after_call (block_call i work samples pick h) t)
-  unfolding leaves book_call sum_call block left
-  block_effect = by_effect refused (λ e. e)
-
--- a record's block: as one with the hit that acts
-held_effect : (v : Voice) (work samples : List ℤ) (pick : ℕ) (h : Hit) (t : State) → Effect t (after_call (held_call v work samples pick h) t)
-unfolding leaves book_call sum_call held_block left
-held_effect v work samples pick h t =
-    let wrong = wrong_length v.instrument.grid (length work) in
-    by_effect v.instrument work samples pick (acting h v.held) t (held_block_refusal v t.older t.newer wrong pick h)
-    (held_passes v t.older t.newer wrong pick h)
+          (instrument_passes i (block_passes i t.older t.newer (wrong_length i.grid (length work)) pick h z).instrument)
+          (block-stepped z)
+      go false e = nothing (ap left (block_refused_lem i t.older t.newer work samples pick h e))
 
 -- a block cut after j + 1 of its steps is a block
 pub block_cut : (i : Instrument) (work samples : List ℤ) (pick : ℕ) (h : Hit) (t : State) → refused i work samples pick h t ≡ Nothing
@@ -131,11 +107,6 @@ in_place_after : (i : Instrument) (samples : List ℤ) (pick : ℕ) (h : Hit) (t
     ≡ after_call (block_call i (replicate (points i.grid) (pos 0)) samples pick h) t
 unfolding block_in_place leaves book_call sum_call
 in_place_after i samples pick h t = refl
-
-held_in_place_after : (v : Voice) (samples : List ℤ) (pick : ℕ) (h : Hit) (t : State) → after_call (held_in_place_call v samples pick h) t
-    ≡ after_call (held_call v (replicate (points v.instrument.grid) (pos 0)) samples pick h) t
-unfolding held_block_in_place leaves book_call sum_call
-held_in_place_after v samples pick h t = refl
 
 -- a pluck by any table: both levels overwritten, or nothing
 module _ (ts : List ℕ) (r : Refusal) (g : Grid) (c w : ℕ) (a : ℤ) (t : State) where
@@ -171,11 +142,6 @@ effect_of (in_place_call i samples pick h) t =
 effect_of (pluck_call g c w a) t = pluck_effect table (pluck_refusal g (length t.older) (length t.newer) c w a) g c w a t
 effect_of (pluck_with_call g c w a lent) t =
     pluck_effect lent (pluck_with_refusal g (length t.older) (length t.newer) c w a lent) g c w a t
-effect_of (held_call v work samples pick h) t = held_effect v work samples pick h t
-effect_of (held_in_place_call v samples pick h) t =
-    subst (Effect t) (sym (held_in_place_after v samples pick h t))
-    (held_effect v (replicate (points v.instrument.grid) (pos 0)) samples pick h t)
-effect_of (touch_call v c) t = nothing refl
 
 -- what every effect keeps, a list of calls keeps
 pub list_keeps : (P : State → Type 0) → ((t t' : State) → Effect t t' → P t → P t') → (ks : List Call) (t : State) → P t

@@ -21,8 +21,7 @@ use Rattle.scheme.specs.Step.{is_multiple, inexact_at, inexact_in}
 use Rattle.scheme.specs.Calls.{accepted, Levels, levels_after, inexact_after, capped}
 use Rattle.scheme.specs.Book.{LastStep, no_step, step_of, Book, fresh, scale, unrounded_at, unrounded_step, unrounded_steps, goes_on}
 use Rattle.scheme.specs.Book.{book_block, sum_block, sum_pluck, sum_call, Call, block_call, in_place_call, pluck_call, pluck_with_call, Outcome}
-use Rattle.scheme.specs.Book.{held_call, held_in_place_call, touch_call, steps_of, inexact_of, refusal_of, State, start, state_after, called}
-use Rattle.scheme.specs.Book.{calls, EachCall}
+use Rattle.scheme.specs.Book.{steps_of, inexact_of, refusal_of, State, start, state_after, called, calls, EachCall}
 use Rattle.scheme.specs.Program.{Made, after_all, EachMade}
 use Rattle.scheme.specs.Exact.{book_scale, Unrounded, NoneInexact, ExactSince, ExactFromStart, ProgramExactSince}
 use Rattle.scheme.specs.Exact.{ProgramExactFromStart, NeverInexact}
@@ -198,9 +197,6 @@ sum_kept (block_call i work samples pick h) o b sum e z = block-sum-kept i (step
 sum_kept (in_place_call i samples pick h) o b sum e z = block-sum-kept i (steps_of o) (inexact_of o) b sum e z
 sum_kept (pluck_call g c w a) o b sum e z = pluck-sum-kept (accepted (refusal_of o)) sum z
 sum_kept (pluck_with_call g c w a lent) o b sum e z = pluck-sum-kept (accepted (refusal_of o)) sum z
-sum_kept (held_call v work samples pick h) o b sum e z = block-sum-kept v.instrument (steps_of o) (inexact_of o) b sum e z
-sum_kept (held_in_place_call v samples pick h) o b sum e z = block-sum-kept v.instrument (steps_of o) (inexact_of o) b sum e z
-sum_kept (touch_call v c) o b sum e z = z
 
 sums_stay : (ks : List Call) (t : State) → EachCall NoneInexact ks t → t.inexact ≡ 0 → (calls ks t).state.inexact ≡ 0
 unfolding calls EachCall

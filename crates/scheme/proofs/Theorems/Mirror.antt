@@ -14,9 +14,7 @@ use Rattle.types.specs.declared.Grid.{Grid}
 use Rattle.types.specs.declared.Instrument.{Instrument}
 use Rattle.types.specs.declared.Hit.{Hit}
 use Rattle.types.specs.declared.Hit.TheVariants.{Absent}
-use Rattle.types.specs.declared.Voice.{Voice}
 use Rattle.types.specs.declared.BlockAnswer.{BlockAnswer}
-use Rattle.types.specs.declared.Refusal.{Refusal}
 use Rattle.types.specs.Numbers.{D}
 use Rattle.pluck_table.specs.Table.{table}
 use Rattle.scheme.specs.Lists.{tabulate, point, times}
@@ -24,19 +22,16 @@ use Rattle.scheme.specs.Instruments.{points, moving}
 use Rattle.scheme.specs.Step.{numerator, force_of, divisor}
 use Rattle.scheme.specs.Pluck.{pluck_level}
 use Rattle.scheme.specs.Calls.{accepted, AfterBlock, without_work, block_in_place, AfterPluck}
-use Rattle.scheme.specs.Held.{Voiced, acting, held_block_in_place}
 use Rattle.scheme.specs.Energy.{weight, squares, energy}
 use Rattle.scheme.specs.Book.{Book, step_of, fresh, scale, unrounded_at, unrounded_step, unrounded_steps, goes_on, book_block, book_pluck}
 use Rattle.scheme.specs.Book.{sum_block, sum_pluck, Call, block_call, in_place_call, pluck_call, pluck_with_call, Outcome, block_outcome}
 use Rattle.scheme.specs.Book.{in_place_outcome, pluck_outcome, steps_of, inexact_of, refusal_of, Left, left_by_block, left_by_in_place}
-use Rattle.scheme.specs.Book.{held_call, held_in_place_call, touch_call, with_voice, left_by_held, left_by_held_in_place, left_by_touch}
 use Rattle.scheme.specs.Book.{left_by_pluck, leaves, book_call, sum_call, State, start, state_after, called, calls}
-use Rattle.scheme.specs.Mirror.{negated, mirror_hit, mirror_held, mirror_call, mirror_outcome, mirror_left, mirror_book, mirror_state}
-use Rattle.scheme.specs.Mirror.{mirror_after, MirrorImage, MirrorMeasures}
+use Rattle.scheme.specs.Mirror.{negated, mirror_hit, mirror_call, mirror_outcome, mirror_left, mirror_book, mirror_state, mirror_after}
+use Rattle.scheme.specs.Mirror.{MirrorImage, MirrorMeasures}
 use Rattle.scheme.proofs.Laws.Lists.{map-tabulate}
 use Rattle.scheme.proofs.Laws.Mirror.{points-negated, force_negated, cond_odd, numerator_odd, block_mirrored, shape_mirrored}
 use Rattle.scheme.proofs.Laws.Mirror.{pluck_mirrored, with_mirrored}
-use Rattle.scheme.proofs.Laws.Held.{acting_mirrored, held_mirrored, touch_mirrored}
 use Rattle.scheme.proofs.Theorems.Forms.{pair_form, laplacian_form}
 
 -- ---- steps in the book
@@ -128,11 +123,6 @@ fed_book (pluck_call g c w a) o o' older newer b e =
     ap (λ (r : BlockAnswer). book_pluck (accepted r.refusal) (pluck_level table g c w a) b) e
 fed_book (pluck_with_call g c w a lent) o o' older newer b e =
     ap (λ (r : BlockAnswer). book_pluck (accepted r.refusal) (pluck_level lent g c w a) b) e
-fed_book (held_call v work samples pick h) o o' older newer b e =
-    ap (λ (a : BlockAnswer). book_block v.instrument (acting h v.held) older newer a.steps b) e
-fed_book (held_in_place_call v samples pick h) o o' older newer b e =
-    ap (λ (a : BlockAnswer). book_block v.instrument (acting h v.held) older newer a.steps b) e
-fed_book (touch_call v c) o o' older newer b e = refl
 
 pub fed_sum : (k : Call) (o o' : Outcome) (b : Book) (sum : ℕ) → told o ≡ told o' → sum_call k o b sum ≡ sum_call k o' b sum
 unfolding sum_call
@@ -140,25 +130,11 @@ fed_sum (block_call i work samples pick h) o o' b sum e = ap (λ (a : BlockAnswe
 fed_sum (in_place_call i samples pick h) o o' b sum e = ap (λ (a : BlockAnswer). sum_block i a.steps a.inexact b sum) e
 fed_sum (pluck_call g c w a) o o' b sum e = ap (λ (r : BlockAnswer). sum_pluck (accepted r.refusal) sum) e
 fed_sum (pluck_with_call g c w a lent) o o' b sum e = ap (λ (r : BlockAnswer). sum_pluck (accepted r.refusal) sum) e
-fed_sum (held_call v work samples pick h) o o' b sum e =
-    ap (λ (a : BlockAnswer). sum_block v.instrument a.steps a.inexact b sum) e
-fed_sum (held_in_place_call v samples pick h) o o' b sum e =
-    ap (λ (a : BlockAnswer). sum_block v.instrument a.steps a.inexact b sum) e
-fed_sum (touch_call v c) o o' b sum e = refl
 
 told_mirrored : (o : Outcome) → told (mirror_outcome o) ≡ told o
 told_mirrored (block_outcome a work samples) = refl
 told_mirrored (in_place_outcome a samples) = refl
 told_mirrored (pluck_outcome r) = refl
-told_mirrored (with_voice v o) = told_mirrored o
-
--- the hit that acts in a record's block
-acted_mirrored : (v : Voice) (h : Hit) (older newer : List ℤ) (k : ℕ) (b : Book)
-    → book_block v.instrument (acting (mirror_hit h) (mirror_held v.held)) (negated older) (negated newer) k (mirror_book b)
-    ≡ mirror_book (book_block v.instrument (acting h v.held) older newer k b)
-acted_mirrored v h older newer k b =
-    ap (λ (a : Hit). book_block v.instrument a (negated older) (negated newer) k (mirror_book b)) (acting_mirrored h v.held) ∙
-    steps_mirrored v.instrument (acting h v.held) older newer k b
 
 book_mirrored : (k : Call) (o : Outcome) (older newer : List ℤ) (b : Book)
     → book_call (mirror_call k) o (negated older) (negated newer) (mirror_book b) ≡ mirror_book (book_call k o older newer b)
@@ -167,9 +143,6 @@ book_mirrored (block_call i work samples pick h) o older newer b = steps_mirrore
 book_mirrored (in_place_call i samples pick h) o older newer b = steps_mirrored i h older newer (steps_of o) b
 book_mirrored (pluck_call g c w a) o older newer b = plucked_mirrored table g c w a (accepted (refusal_of o)) b
 book_mirrored (pluck_with_call g c w a lent) o older newer b = plucked_mirrored lent g c w a (accepted (refusal_of o)) b
-book_mirrored (held_call v work samples pick h) o older newer b = acted_mirrored v h older newer (steps_of o) b
-book_mirrored (held_in_place_call v samples pick h) o older newer b = acted_mirrored v h older newer (steps_of o) b
-book_mirrored (touch_call v c) o older newer b = refl
 
 counts_mirrored : (k : Call) (o : Outcome) (b : Book) (sum : ℕ) → sum_call (mirror_call k) o (mirror_book b) sum ≡ sum_call k o b sum
 unfolding sum_call
@@ -177,11 +150,8 @@ counts_mirrored (block_call i work samples pick h) o b sum = sum_mirrored i (ste
 counts_mirrored (in_place_call i samples pick h) o b sum = sum_mirrored i (steps_of o) (inexact_of o) b sum
 counts_mirrored (pluck_call g c w a) o b sum = refl
 counts_mirrored (pluck_with_call g c w a lent) o b sum = refl
-counts_mirrored (held_call v work samples pick h) o b sum = sum_mirrored v.instrument (steps_of o) (inexact_of o) b sum
-counts_mirrored (held_in_place_call v samples pick h) o b sum = sum_mirrored v.instrument (steps_of o) (inexact_of o) b sum
-counts_mirrored (touch_call v c) o b sum = refl
 
-pub state_mirrored : (k : Call) (l : Left) (t : State)
+state_mirrored : (k : Call) (l : Left) (t : State)
     → state_after (mirror_call k) (mirror_left l) (mirror_state t) ≡ mirror_state (state_after k l t)
 state_mirrored k l t =
     let o = l.outcome in
@@ -196,9 +166,9 @@ state_mirrored k l t =
     }
 
 -- what it answers and leaves
-pub left_mirrored : (k : Call) (older newer : List ℤ)
+left_mirrored : (k : Call) (older newer : List ℤ)
     → leaves (mirror_call k) (negated older) (negated newer) ≡ mirror_left (leaves k older newer)
-unfolding leaves block_in_place held_block_in_place
+unfolding leaves block_in_place
 left_mirrored (block_call i work samples pick h) older newer =
     ap (λ (a : AfterBlock). left_by_block a) (block_mirrored i older newer work samples pick h)
 left_mirrored (in_place_call i samples pick h) older newer =
@@ -206,13 +176,6 @@ left_mirrored (in_place_call i samples pick h) older newer =
     (block_mirrored i older newer (replicate (points i.grid) (pos 0)) samples pick h)
 left_mirrored (pluck_call g c w a) older newer = ap (λ (p : AfterPluck). left_by_pluck p) (pluck_mirrored g older newer c w a)
 left_mirrored (pluck_with_call g c w a lent) older newer = ap (λ (p : AfterPluck). left_by_pluck p) (with_mirrored g older newer c w a lent)
-left_mirrored (held_call v work samples pick h) older newer =
-    ap (λ (a : Voiced AfterBlock). left_by_held a) (held_mirrored v older newer work samples pick h)
-left_mirrored (held_in_place_call v samples pick h) older newer =
-    ap (λ (a : Voiced AfterBlock). left_by_held_in_place (record { left = without_work a.left; voice = a.voice }))
-    (held_mirrored v older newer (replicate (points v.instrument.grid) (pos 0)) samples pick h)
-left_mirrored (touch_call v c) older newer =
-    ap (λ (a : Voiced Refusal). left_by_touch (negated older) (negated newer) a) (touch_mirrored c v)
 
 -- ---- every list
 

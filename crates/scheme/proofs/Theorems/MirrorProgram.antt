@@ -5,11 +5,9 @@ use Prim.Native.Nat.{ℕ, zero, suc}
 use lib.IntN.{ℤ, neg_ℤ}
 use lib.ListN.{take}
 use Rattle.scheme.specs.Book.{Book, Call, block_call, in_place_call, pluck_call, pluck_with_call, Outcome, block_outcome, in_place_outcome}
-use Rattle.scheme.specs.Book.{held_call, held_in_place_call, touch_call, pluck_outcome, with_voice, Left, book_call, sum_call, State, start}
-use Rattle.scheme.specs.Book.{state_after, called, AfterCalls, calls}
+use Rattle.scheme.specs.Book.{pluck_outcome, Left, book_call, sum_call, State, start, state_after, called, AfterCalls, calls}
 use Rattle.scheme.specs.Program.{calls_of}
-use Rattle.scheme.specs.Mirror.{mirror_voice, negated, mirror_samples, mirror_outcome, mirror_left, mirror_state, mirror_after, blank}
-use Rattle.scheme.specs.Mirror.{heard}
+use Rattle.scheme.specs.Mirror.{negated, mirror_samples, mirror_outcome, mirror_left, mirror_state, mirror_after, blank, heard}
 use Rattle.scheme.specs.Mirror.{heard_left, heard_after, ProgramMirrorImage}
 use Rattle.scheme.proofs.Laws.Content.{content_left}
 use Rattle.scheme.proofs.Theorems.Program.{program_run}
@@ -21,7 +19,6 @@ told-heard : (o : Outcome) → told (heard o) ≡ told o
 told-heard (block_outcome a work samples) = refl
 told-heard (in_place_outcome a samples) = refl
 told-heard (pluck_outcome r) = refl
-told-heard (with_voice v o) = told-heard o
 
 blank_book : (k : Call) (o : Outcome) (older newer : List ℤ) (b : Book) → book_call (blank k) o older newer b ≡ book_call k o older newer b
 unfolding book_call
@@ -29,9 +26,6 @@ blank_book (block_call i work samples pick h) o older newer b = refl
 blank_book (in_place_call i samples pick h) o older newer b = refl
 blank_book (pluck_call g c w a) o older newer b = refl
 blank_book (pluck_with_call g c w a lent) o older newer b = refl
-blank_book (held_call v work samples pick h) o older newer b = refl
-blank_book (held_in_place_call v samples pick h) o older newer b = refl
-blank_book (touch_call v c) o older newer b = refl
 
 blank-sum : (k : Call) (o : Outcome) (b : Book) (sum : ℕ) → sum_call (blank k) o b sum ≡ sum_call k o b sum
 unfolding sum_call
@@ -39,9 +33,6 @@ blank-sum (block_call i work samples pick h) o b sum = refl
 blank-sum (in_place_call i samples pick h) o b sum = refl
 blank-sum (pluck_call g c w a) o b sum = refl
 blank-sum (pluck_with_call g c w a lent) o b sum = refl
-blank-sum (held_call v work samples pick h) o b sum = refl
-blank-sum (held_in_place_call v samples pick h) o b sum = refl
-blank-sum (touch_call v c) o b sum = refl
 
 -- the state after a call
 content_state : (k : Call) (t : State) → state_after (blank k) (called (blank k) t) t ≡ state_after k (called k t) t
@@ -80,7 +71,6 @@ heard_mirrored l = ap (λ (o : Outcome). record { outcome = o; older = negated l
     go (block_outcome a work samples) = ap (block_outcome a []) (take_mirrored a.steps samples)
     go (in_place_outcome a samples) = ap (in_place_outcome a) (take_mirrored a.steps samples)
     go (pluck_outcome r) = refl
-    go (with_voice v o) = ap (with_voice (mirror_voice v)) (go o)
 
 lefts_mirrored : (ls : List Left) → map heard_left (map mirror_left ls) ≡ map mirror_left (map heard_left ls)
 lefts_mirrored [] = refl

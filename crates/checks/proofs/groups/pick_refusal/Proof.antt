@@ -7,7 +7,7 @@ use lib.Dec.{ltb}
 use Rattle.types.specs.declared.Refusal.TheVariants.{PickUp}
 use Rattle.scheme.specs.Instruments.{points}
 use Rattle.scheme.specs.Refusals.{not_grid_point}
-use Rattle.instruments.proofs.RefusalLaws.{refused-here, passed_here}
+use Rattle.instruments.proofs.RefusalLaws.{refused_here, passed_here}
 use Rattle.checks.proofs.groups.pick_refusal.Statement.{statement}
 use Rattle.checks.proofs.groups.pick_refusal.Tie as tie
 
@@ -29,7 +29,7 @@ returns c =
 returns-2 : tie.Need-returns-2
 returns-2 c =
     let a = c.before.before.args in
-    refused-here PickUp [] (not_grid_point a.g a.pick) (test-is c.before (le-ltb _ _ c.if1.false))
+    refused_here PickUp [] (not_grid_point a.g a.pick) (test-is c.before (le-ltb _ _ c.if1.false))
 
 pub pick-refusal-spec : {M : Type 1} → statement M
 pick-refusal-spec = tie.close (tie.spec points-of-requires returns returns-2)

@@ -6,7 +6,7 @@ use native.Mathlib.Omega.{arith}
 use Rattle.types.specs.declared.Refusal.TheVariants.{HalfWidth}
 use Rattle.scheme.specs.Refusals.{wrong_width}
 use Rattle.scheme.proofs.Laws.Kinds.{sized}
-use Rattle.instruments.proofs.RefusalLaws.{refused-here, passed_here}
+use Rattle.instruments.proofs.RefusalLaws.{refused_here, passed_here}
 use Rattle.checks.proofs.groups.width_refusal.Statement.{statement}
 use Rattle.checks.proofs.groups.width_refusal.Tie as tie
 
@@ -24,7 +24,7 @@ returns c =
 returns-2 : tie.Need-returns-2
 returns-2 c =
     let a = c.before.before.before.args in
-    refused-here HalfWidth [] (wrong_width a.g a.half-width) (ap not (sym c.before.is_within.ensures ∙ c.if1.false))
+    refused_here HalfWidth [] (wrong_width a.g a.half-width) (ap not (sym c.before.is_within.ensures ∙ c.if1.false))
 
 pub width-refusal-spec : {M : Type 1} → statement M
 width-refusal-spec = tie.close (tie.spec sub-is-within is-within-requires returns returns-2)

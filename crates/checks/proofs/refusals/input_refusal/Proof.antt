@@ -6,7 +6,7 @@ use Rattle.types.specs.declared.Refusal.{Refusal}
 use Rattle.types.specs.declared.Refusal.TheVariants.{WrongLength}
 use Rattle.scheme.specs.Instruments.{in_table}
 use Rattle.scheme.specs.Refusals.{Check, lowest, length_checks, hit_checks, pick_checks, instrument_checks, instrument_refusal}
-use Rattle.instruments.proofs.RefusalLaws.{refused-here, passed_here, passed, refused_by_lem, goes_on_lem, instrument_in}
+use Rattle.instruments.proofs.RefusalLaws.{refused_here, passed_here, passed, refused_by_lem, goes_on_lem, instrument_in}
 use Rattle.checks.proofs.refusals.input_refusal.Statement.{statement}
 use Rattle.checks.proofs.refusals.input_refusal.Tie as tie
 
@@ -51,7 +51,7 @@ returns c =
 returns-2 : tie.Need-returns-2
 returns-2 c =
     let s = c.before.before.before.before in
-    further c.before (refused-here WrongLength (hit s ++ pick s) s.args.wrong c.if2.true)
+    further c.before (refused_here WrongLength (hit s ++ pick s) s.args.wrong c.if2.true)
 
 hit-refusal-requires : tie.Need-hit-refusal-requires
 hit-refusal-requires c κs = size c.before

@@ -15,7 +15,7 @@ use Rattle.steps.specs.Run.{Moves}
 use Rattle.steps.specs.Pass.{Passable, Passing}
 use Rattle.steps.proofs.PlanLaws.{few_rows, few_points}
 use Rattle.steps.proofs.PassLaws.{room_within, passing_ready}
-use Rattle.steps.proofs.RowLaws.{Rows, rows_start, rows_at, rows_done, steppable_ready, run-here, row_room, run_moves, rows_stop}
+use Rattle.steps.proofs.RowLaws.{Rows, rows_start, rows_at, rows_done, steppable_ready, run_here, row_room, run_moves, rows_stop}
 use Rattle.steps.proofs.RowLaws.{rows_more, rows_most, stepped-all, stepped-not}
 use Rattle.steps.proofs.level.level_run.Statement.{statement}
 use Rattle.steps.proofs.level.level_run.Tie as tie
@@ -70,7 +70,7 @@ module _ (c : tie.In-loop invariant-loop decreases-loop) where
 
   -- the row lies in the level
   inside : to ≤ points (g start)
-  inside = omega (arith, to_is, (run-here (given start) inv below here refl).inside, row_room (given start) inv below here refl)
+  inside = omega (arith, to_is, (run_here (given start) inv below here refl).inside, row_room (given start) inv below here refl)
 
   moves : Moves (g start) from to
   moves = subst₂ (Moves (g start)) (sym from_is) (sym to_is) (run_moves (given start) inv below here refl)

@@ -1,2 +1,0 @@
-pub mod TouchLaws
-pub mod Contracts
