@@ -1,4 +1,6 @@
 // A block: as many steps of an instrument as the lent sample buffer has places, on three lent levels or on two.
+#![tactic(auto)]
+
 mod levels;
 
 ghost use Rattle.std.specs.Prelude.{◌≡◌};

@@ -1,4 +1,6 @@
 // What refuses a block: its input first, then the state of its levels.
+#![tactic(auto)]
+
 ghost use Rattle.std.specs.Prelude.{◌≡◌, ◌||◌};
 ghost use Rattle.scheme.specs.Refusals.{block_refusal};
 ghost use Rattle.instruments.specs.Refused.{not_long};

@@ -1,5 +1,7 @@
 // The engine for C: numbers and lent slices in, the refusal's number out. host/include/buvcsolta.h declares these functions.
 // A slice arrives as a pointer and a length.
+#![tactic(auto)]
+
 ghost use Rattle.std.specs.Prelude.{◌≡◌};
 ghost use Rattle.c_api.specs.Exports as Exports;
 

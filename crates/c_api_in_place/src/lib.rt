@@ -1,5 +1,7 @@
 // The block on two levels for C. It is a library of its own: compiled alone, its steps have no code of the block on three levels.
 // host/include/buvcsolta.h declares the function.
+#![tactic(auto)]
+
 ghost use Rattle.std.specs.Prelude.{◌≡◌};
 ghost use Rattle.c_api_in_place.specs.Exports as Exports;
 

@@ -1,4 +1,6 @@
 // Counts that are summed up and held at the largest number.
+#![tactic(auto)]
+
 ghost use Rattle.std.specs.Prelude.{◌≡◌, ◌+◌};
 ghost use Rattle.scheme.specs.Calls.{capped};
 

@@ -1,4 +1,6 @@
 // The moving points of every row: worked out once, for all the steps of a block.
+#![tactic(auto)]
+
 ghost use Rattle.std.specs.Prelude.{◌≡◌, ◌<◌};
 ghost use Rattle.edges.specs.Edges.{kept_rows, point_at, edges_of};
 

@@ -1,4 +1,6 @@
 // The engine: every call that a maker embeds, and the types that they take and answer.
+#![tactic(auto)]
+
 pub use block::{block, block_in_place};
 pub use pluck::{pluck, pluck_with};
 pub use reading::reading;

@@ -1,4 +1,6 @@
 // What refuses an instrument, 1, 2, 4 and 5; the length of a lent level, 6; and whether a call is carried out.
+#![tactic(auto)]
+
 ghost use Rattle.std.specs.Prelude.{◌≡◌};
 ghost use Rattle.scheme.specs.Refusals.{wrong_coefficient, lowest, grid_checks, settings_checks, instrument_refusal};
 ghost use Rattle.scheme.specs.Calls.{accepted};

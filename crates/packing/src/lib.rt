@@ -1,4 +1,6 @@
 // What C's numbers and flags stand for: an instrument, a hit, a sheet.
+#![tactic(auto)]
+
 ghost use Rattle.std.specs.Prelude.{◌≡◌};
 ghost use Rattle.packing.specs.Packing.{instrument_of, hit_of, speed_of, loss_of, sheet_of};
 

@@ -1,4 +1,6 @@
 // An instrument as the steps of a block need it.
+#![tactic(auto)]
+
 ghost use Rattle.std.specs.Prelude.{◌≡◌, pos};
 ghost use Rattle.plans.specs.Plans.{count_of, plan_of};
 

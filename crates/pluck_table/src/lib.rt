@@ -1,4 +1,6 @@
 // Tables of a pluck: T and the rule that it keeps (specs/, proofs/), and the loading of a lent one.
+#![tactic(auto)]
+
 ghost use Rattle.std.specs.Prelude.{◌≡◌};
 ghost use Rattle.pluck_table.specs.Loading.{never_falls, loaded_table};
 

@@ -1,4 +1,6 @@
 // The float reading: the point of a level that a pick-up reads, as an f64.
+#![tactic(auto)]
+
 ghost use Rattle.std.specs.Prelude.{◌≡◌, ◌≤◌, nat_abs};
 ghost use Rattle.types.specs.Numbers.{ceiling};
 ghost use Rattle.scheme.specs.Step.{float_of};

@@ -1,4 +1,6 @@
 // What refuses a reading: its grid, what is lent, then the state of its level.
+#![tactic(auto)]
+
 ghost use Rattle.std.specs.Prelude.{◌≡◌};
 ghost use Rattle.scheme.specs.Step.{some_beyond};
 ghost use Rattle.scheme.specs.Refusals.{lowest, state_checks, reading_refusal};

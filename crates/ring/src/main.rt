@@ -1,4 +1,6 @@
 // The program `ring`: the first line of standard input, and its answer.
+#![tactic(auto)]
+
 mod read;
 
 ghost use Rattle.std.specs.Prelude.{◌≡◌, length};

@@ -1,4 +1,6 @@
 // Numbers of signed 64 bits, read from decimal digits.
+#![tactic(auto)]
+
 ghost use Rattle.std.specs.Prelude.{◌≡◌, ◌-◌, ◌^◌, ◌≤◌, ◌<◌, pos, neg_ℤ};
 ghost use Rattle.ring_decimals.specs.Decimals.{is_digit, unsigned_read, signed_read};
 

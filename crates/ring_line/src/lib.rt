@@ -1,4 +1,6 @@
 // The line of the program `ring`: ten numbers, or `input`.
+#![tactic(auto)]
+
 mod fields;
 mod types;
 

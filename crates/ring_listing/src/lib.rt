@@ -1,4 +1,6 @@
 // The listing that `ring` prints of a run: a line for each step done, and a last line.
+#![tactic(auto)]
+
 mod numbers;
 
 ghost use Rattle.std.specs.Prelude.{◌≡◌, true, ◌+◌, ◌≤◌, ◌<◌, length};

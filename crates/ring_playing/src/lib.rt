@@ -1,4 +1,6 @@
 // What `ring` plays: a block at rest, of a grid of at most 1024 points.
+#![tactic(auto)]
+
 ghost use Rattle.std.specs.Prelude.{◌≡◌, ◌≤◌, pos, replicate};
 ghost use Rattle.ring_playing.specs.Play.{heard, heard_of, block_at_rest, played};
 

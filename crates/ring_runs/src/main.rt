@@ -1,4 +1,6 @@
 // Stored runs of `ring`: for each file that an argument names, its name, and what `ring` prints for it.
+#![tactic(auto)]
+
 ghost use Rattle.std.specs.Prelude.{◌≡◌, length};
 
 use libc::STDOUT_FILENO;

@@ -1,4 +1,6 @@
 // What the ten numbers of a line stand for: what the block of `ring` is called with, and whether its grid is too large.
+#![tactic(auto)]
+
 ghost use Rattle.std.specs.Prelude.{◌≡◌, ◌*◌, ltb};
 ghost use Rattle.ring_setup.specs.Numbers.{asked_instrument, asked_hit, is_too_large, level_length, setup_of};
 

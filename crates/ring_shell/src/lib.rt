@@ -1,4 +1,6 @@
 // What the program `ring` answers to the bytes of its standard input: the whole of what is printed, in a lent buffer.
+#![tactic(auto)]
+
 ghost use Rattle.std.specs.Prelude.{◌≡◌, ◌≤◌, pos, length, replicate};
 ghost use Rattle.io.specs.Counts.{IsPrefixLen};
 ghost use Rattle.ring_playing.specs.Play.{played};

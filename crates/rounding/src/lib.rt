@@ -1,4 +1,6 @@
 // Rounding to the nearest whole number by sizes: no branch depends on a sign, and no sum wraps for any number.
+#![tactic(auto)]
+
 ghost use Rattle.std.specs.Prelude.{◌≡◌, ◌+◌, ◌^◌, ◌≤◌, unsigned_abs};
 ghost use Rattle.scheme.specs.Step.{sample_of};
 ghost use Rattle.rounding.specs.Rounding.{sign_of, mirror_of, turned_of, with_sign, divisor_of, rounded_by};

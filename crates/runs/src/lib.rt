@@ -1,4 +1,6 @@
 // The moving columns of a row of any kind, and whether a point moves.
+#![tactic(auto)]
+
 ghost use Rattle.std.specs.Prelude.{◌≡◌, ◌&&◌, ◌≤◌, ◌<◌};
 ghost use Rattle.scheme.specs.Instruments.{in_table, moving};
 ghost use Rattle.kinds.specs.Runs.{in_run, round_run, row_run};

@@ -1,4 +1,6 @@
 // The player's sheet: from f64 numbers to an instrument's settings.
+#![tactic(auto)]
+
 mod coefficients;
 mod numbers;
 

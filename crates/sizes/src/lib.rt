@@ -1,4 +1,6 @@
 // What goes by the kind number: sizes, and limits of stability.
+#![tactic(auto)]
+
 ghost use Rattle.std.specs.Prelude.{◌≡◌, ◌&&◌, ◌≤◌};
 ghost use Rattle.scheme.specs.Instruments.{kind_of, within, size_in, in_table, stable_in};
 ghost use Rattle.sizes.specs.Sizes.{points_of};

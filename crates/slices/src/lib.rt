@@ -1,4 +1,6 @@
 // Whole slices of levels.
+#![tactic(auto)]
+
 ghost use Rattle.std.specs.Prelude.{◌≡◌, pos, length, replicate};
 ghost use Rattle.slices.specs.Slices.{Common, copied};
 

@@ -1,4 +1,6 @@
 // The steps of a block, on three levels or on two, in slices that take turns.
+#![tactic(auto)]
+
 mod arithmetic;
 mod call;
 mod level;

@@ -1,4 +1,6 @@
 // A stretch of moving points, one after the other: one force on each of them. A piece of a row, for a pass that writes older itself.
+#![tactic(auto)]
+
 ghost use Rattle.std.specs.Prelude.{◌≡◌};
 ghost use Rattle.scheme.specs.Step.{force_of};
 ghost use Rattle.stretches.specs.Pieces.{piece_end, piece_at};

@@ -1,5 +1,7 @@
 // The turns that the slices of a block take: which holds the older level, which the newer one, and which the next level is put into. The
 // turn is a number: 0, 1 or 2 of three levels; 3 or 4 of two, where the next level is put into older itself.
+#![tactic(auto)]
+
 ghost use Rattle.std.specs.Prelude.{◌≡◌, cond, ltb};
 ghost use Rattle.types.specs.declared.Refusal.TheVariants.{Nothing, NextBeyond};
 ghost use Rattle.scheme.specs.Calls.{hit_after};

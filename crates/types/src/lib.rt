@@ -1,9 +1,11 @@
 // The types that the promises name. What is promised of them is defined in specs/.
+#![tactic(auto)]
+
 ghost use Rattle.std.specs.Prelude.{◌≡◌, pos};
 ghost use Rattle.types.specs.Numbers.{D, ceiling, kind_numbers, number};
 
 // q for the squared Courant number, m for the stiffness, s for the loss: whole numbers over D.
-#[derive(Drop)]
+#[derive(Clone, Copy)]
 pub struct Settings {
     pub q: u64,
     pub m: u64,
@@ -40,7 +42,7 @@ impl Settings {
 }
 
 // A kind, and the size of its grid.
-#[derive(Drop)]
+#[derive(Clone, Copy)]
 pub struct Grid {
     pub kind: u64,
     pub columns: usize,
@@ -98,21 +100,21 @@ impl Grid {
 }
 
 // A grid with its settings: what the steps of a block go by.
-#[derive(Drop)]
+#[derive(Clone, Copy)]
 pub struct Instrument {
     pub grid: Grid,
     pub settings: Settings,
 }
 
 // A block's hit, if any, acts in its first step. The definition `force_of` tells the force on each point.
-#[derive(Drop)]
+#[derive(Clone, Copy)]
 pub enum Hit {
     Absent,
     At { point: usize, force: i64 },
 }
 
 // What refuses a call, if anything does. The definition `number` tells the paper's number of each.
-#[derive(Drop)]
+#[derive(Clone, Copy)]
 pub enum Refusal {
     Nothing,
     UnknownKind,
@@ -157,7 +159,7 @@ impl Refusal {
 }
 
 // A block's answer: the steps done, how many points were inexact in them, and what refused or ended it.
-#[derive(Drop)]
+#[derive(Clone, Copy)]
 pub struct BlockAnswer {
     pub steps: usize,
     pub inexact: u64,
@@ -165,7 +167,7 @@ pub struct BlockAnswer {
 }
 
 // The float reading's answer: 0 where it is refused.
-#[derive(Drop)]
+#[derive(Clone, Copy)]
 pub struct ReadingAnswer {
     pub value: f64,
     pub refusal: Refusal,

@@ -1,4 +1,6 @@
 // Runs the records of the files that its arguments name against the engine, and prints what differs.
+#![tactic(auto)]
+
 mod calls;
 mod floats;
 mod levels;
