@@ -15,60 +15,60 @@ use Rattle.pluck_table.proofs.load_table.Statement.{statement}
 use Rattle.pluck_table.proofs.load_table.Tie as tie
 
 -- the length and both ends are right
-module _ (c : tie.Else3) where
+module _ (c : tie.Else-table-ne65536) where
   abbrev lent : List ℕ
   lent = c.before.before.before.before.before.before.args.table.now
 
   long : length lent ≡ 1025
-  long = c.before.before.before.before.if1.false
+  long = c.before.before.before.before.if-table-ne1025.false
 
   rule : T (never_falls lent) → ShapeRule lent
   rule t = record {
     long = long;
-    begins = omega (arith, c.before.before.if2.false, c.if3.false);
-    ends = omega (arith, c.before.before.if2.false, c.if3.false);
+    begins = omega (arith, c.before.before.if-table-ne0.false, c.if-table-ne65536.false);
+    ends = omega (arith, c.before.before.if-table-ne0.false, c.if-table-ne65536.false);
     rises = λ j h. rises lent t j (omega (arith, h, long));
   }
 
-returns : tie.Need-returns
-returns c = sym (unkept _ (λ r. omega (arith, r.long, c.if1.true)))
+returns-then-table-ne1025 : tie.Need-returns-then-table-ne1025
+returns-then-table-ne1025 c = sym (unkept _ (λ r. omega (arith, r.long, c.if-table-ne1025.true)))
 
-shared-slice-read-if2 : tie.Need-shared-slice-read-if2
-shared-slice-read-if2 c = search rules
+bounds-table-0 : tie.Need-bounds-table-0
+bounds-table-0 c = search rules
 
-returns-2 : tie.Need-returns-2
-returns-2 c = sym (unkept _ (λ r. omega (arith, r.begins, r.ends, c.if2.true)))
+returns-then-table-ne0 : tie.Need-returns-then-table-ne0
+returns-then-table-ne0 c = sym (unkept _ (λ r. omega (arith, r.begins, r.ends, c.if-table-ne0.true)))
 
-shared-slice-read-if3 : tie.Need-shared-slice-read-if3
-shared-slice-read-if3 c = search rules
+bounds-table-1024 : tie.Need-bounds-table-1024
+bounds-table-1024 c = search rules
 
-returns-3 : tie.Need-returns-3
-returns-3 c = sym (unkept _ (λ r. omega (arith, r.begins, r.ends, c.if3.true)))
+returns-then-table-ne65536 : tie.Need-returns-then-table-ne65536
+returns-then-table-ne65536 c = sym (unkept _ (λ r. omega (arith, r.begins, r.ends, c.if-table-ne65536.true)))
 
-never-falls-requires : tie.Need-never-falls-requires
-never-falls-requires c κs = search rules
+never_falls-requires : tie.Need-never_falls-requires
+never_falls-requires c κs = search rules
 
-returns-4 : tie.Need-returns-4
-returns-4 c =
+returns-then-never_falls : tie.Need-returns-then-never_falls
+returns-then-never_falls c =
     let n = c.before in
-    sym (loads _ (rule n.before (subst T (sym c.if4.true ∙ n.never-falls.ensures) tt)))
+    sym (loads _ (rule n.before (subst T (sym c.if-never_falls.true ∙ n.never_falls.ensures) tt)))
 
-returns-5 : tie.Need-returns-5
-returns-5 c =
+returns-else-never_falls : tie.Need-returns-else-never_falls
+returns-else-never_falls c =
     let n = c.before in
     let t = lent n.before in
     sym (unkept t (λ r. true≢false (sym (not_falling t (λ k h. r.rises k (omega (arith, h, long n.before)))) ∙
-    sym n.never-falls.ensures ∙ c.if4.false)))
+    sym n.never_falls.ensures ∙ c.if-never_falls.false)))
 
-pub load-table-spec : {M : Type 1} → statement M
-load-table-spec =
+pub load_table_spec : {M : Type 1} → statement M
+load_table_spec =
     tie.close
     (tie.spec
-    returns
-    shared-slice-read-if2
-    returns-2
-    shared-slice-read-if3
-    returns-3
-    never-falls-requires
-    returns-4
-    returns-5)
+    returns-then-table-ne1025
+    bounds-table-0
+    returns-then-table-ne0
+    bounds-table-1024
+    returns-then-table-ne65536
+    never_falls-requires
+    returns-then-never_falls
+    returns-else-never_falls)
