@@ -6,17 +6,17 @@ use Rattle.scheme.proofs.Laws.Calls.{capped-low, capped_full}
 use Rattle.counts.proofs.capped_sum.Statement.{statement}
 use Rattle.counts.proofs.capped_sum.Tie as tie
 
-sub-if1 : tie.Need-overflow-sub-if1
-sub-if1 c = omega (arith, c.ranges.a.fits)
+overflow_sub-a : tie.Need-overflow_sub-a
+overflow_sub-a c = omega (arith, c.ranges.a.fits)
 
-add-result : tie.Need-overflow-add-result
-add-result c = record { fits = omega (arith, c.if1.true, c.before.ranges.a.fits) }
+overflow_add-result : tie.Need-overflow_add-result
+overflow_add-result c = record { fits = omega (arith, c.if-b-a.true, c.before.ranges.a.fits) }
 
-returns : tie.Need-returns
-returns c = let s = c.before in sym (capped-low (s.args.a + s.args.b) (omega (arith, c.if1.true, s.ranges.a.fits)))
+returns-then-b-a : tie.Need-returns-then-b-a
+returns-then-b-a c = let s = c.before in sym (capped-low (s.args.a + s.args.b) (omega (arith, c.if-b-a.true, s.ranges.a.fits)))
 
-returns-2 : tie.Need-returns-2
-returns-2 c = let s = c.before in sym (capped_full (s.args.a + s.args.b) (omega (arith, c.if1.false, s.ranges.a.fits)))
+returns-else-b-a : tie.Need-returns-else-b-a
+returns-else-b-a c = let s = c.before in sym (capped_full (s.args.a + s.args.b) (omega (arith, c.if-b-a.false, s.ranges.a.fits)))
 
-pub capped-sum-spec : {M : Type 1} → statement M
-capped-sum-spec = tie.close (tie.spec sub-if1 add-result returns returns-2)
+pub capped_sum_spec : {M : Type 1} → statement M
+capped_sum_spec = tie.close (tie.spec overflow_sub-a overflow_add-result returns-then-b-a returns-else-b-a)

@@ -14,33 +14,33 @@ abbrev size-test : tie.Start → Bool
 size-test s = wrong_size s.args.g
 
 -- the kind has passed
-passed : (c : tie.Else1) → kind-test c.before.before ≡ false
-passed c = ap not (sym c.before.is_within.ensures) ∙ c.if1.false
+passed : (c : tie.Else-not-is_within) → kind-test c.before.before ≡ false
+passed c = ap not (sym c.before.is_within.ensures) ∙ (ap not c.if-not-is_within.false)
 
-is-within-requires : tie.Need-is-within-requires
-is-within-requires c κs = tt
+is_within-requires : tie.Need-is_within-requires
+is_within-requires c κs = tt
 
-returns : tie.Need-returns
-returns c =
+returns-then-not-is_within : tie.Need-returns-then-not-is_within
+returns-then-not-is_within c =
     let s = c.before.before in
-    refused-first UnknownKind WrongSize (kind-test s) (size-test s) (ap not (sym c.before.is_within.ensures) ∙ c.if1.true)
+    refused-first UnknownKind WrongSize (kind-test s) (size-test s) (ap not (sym c.before.is_within.ensures) ∙ (ap not c.if-not-is_within.true))
 
-has-size-requires : tie.Need-has-size-requires
-has-size-requires c κs = tt
+has_size-requires : tie.Need-has_size-requires
+has_size-requires c κs = tt
 
-returns-2 : tie.Need-returns-2
-returns-2 c =
+returns-then-has_size : tie.Need-returns-then-has_size
+returns-then-has_size c =
     let e = c.before.before in
     let s = e.before.before in
     refused_neither UnknownKind WrongSize (kind-test s) (size-test s) (passed e)
-    (ap not (sym c.before.has-size.ensures ∙ c.if2.true))
+    (ap not (sym c.before.has_size.ensures ∙ c.if-has_size.true))
 
-returns-3 : tie.Need-returns-3
-returns-3 c =
+returns-else-has_size : tie.Need-returns-else-has_size
+returns-else-has_size c =
     let e = c.before.before in
     let s = e.before.before in
     refused_second UnknownKind WrongSize (kind-test s) (size-test s) (passed e)
-    (ap not (sym c.before.has-size.ensures ∙ c.if2.false))
+    (ap not (sym c.before.has_size.ensures ∙ c.if-has_size.false))
 
-pub grid-refusal-spec : {M : Type 1} → statement M
-grid-refusal-spec = tie.close (tie.spec is-within-requires returns has-size-requires returns-2 returns-3)
+pub grid_refusal_spec : {M : Type 1} → statement M
+grid_refusal_spec = tie.close (tie.spec is_within-requires returns-then-not-is_within has_size-requires returns-then-has_size returns-else-has_size)

@@ -6,30 +6,30 @@ use Rattle.instruments.proofs.RefusalLaws.{refused_by_lem, goes_on_lem}
 use Rattle.instruments.proofs.instrument_refusal.Statement.{statement}
 use Rattle.instruments.proofs.instrument_refusal.Tie as tie
 
-grid-refusal-requires : tie.Need-grid-refusal-requires
-grid-refusal-requires c κs = tt
+grid_refusal-r-requires : tie.Need-grid_refusal-r-requires
+grid_refusal-r-requires c κs = tt
 
-is-nothing-requires : tie.Need-is-nothing-requires
-is-nothing-requires c κs = tt
+is_nothing-requires : tie.Need-is_nothing-requires
+is_nothing-requires c κs = tt
 
-settings-refusal-requires : tie.Need-settings-refusal-requires
-settings-refusal-requires c κs = tt
+settings_refusal-requires : tie.Need-settings_refusal-requires
+settings_refusal-requires c κs = tt
 
-returns : tie.Need-returns
+returns-then-is_nothing : tie.Need-returns-then-is_nothing
 unfolding instrument_refusal
-returns c =
+returns-then-is_nothing c =
     let n = c.before.before in
     let i = n.before.before.args.i in
-    goes_on_lem (grid_checks last_kind i.grid) (settings_checks i) tt n.before.grid-refusal.ensures n.is-nothing.ensures
-    (ap not c.before.if1.true) c.settings-refusal.ensures
+    goes_on_lem (grid_checks last_kind i.grid) (settings_checks i) tt n.before.grid_refusal-r.ensures n.is_nothing.ensures
+    (ap not c.before.if-is_nothing.true) c.settings_refusal.ensures
 
-returns-2 : tie.Need-returns-2
+returns-else-is_nothing : tie.Need-returns-else-is_nothing
 unfolding instrument_refusal
-returns-2 c =
+returns-else-is_nothing c =
     let i = c.before.before.before.args.i in
-    refused_by_lem (grid_checks last_kind i.grid) (settings_checks i) tt c.before.before.grid-refusal.ensures
-    c.before.is-nothing.ensures (ap not c.if1.false)
+    refused_by_lem (grid_checks last_kind i.grid) (settings_checks i) tt c.before.before.grid_refusal-r.ensures
+    c.before.is_nothing.ensures (ap not c.if-is_nothing.false)
 
-pub instrument-refusal-spec : {M : Type 1} → statement M
-instrument-refusal-spec =
-    tie.close (tie.spec grid-refusal-requires is-nothing-requires settings-refusal-requires returns returns-2)
+pub instrument_refusal_spec : {M : Type 1} → statement M
+instrument_refusal_spec =
+    tie.close (tie.spec grid_refusal-r-requires is_nothing-requires settings_refusal-requires returns-then-is_nothing returns-else-is_nothing)

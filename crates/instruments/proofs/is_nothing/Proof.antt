@@ -17,16 +17,16 @@ use Rattle.instruments.proofs.is_nothing.Tie as tie
 others : List ℕ
 others = 1 ∷ 2 ∷ 3 ∷ 4 ∷ 5 ∷ 6 ∷ 7 ∷ 8 ∷ 9 ∷ 10 ∷ 11 ∷ 12 ∷ 13 ∷ 14 ∷ []
 
-enum_told : tie.Need-enum-told
-enum_told c = search rules
+enum_told-1 : tie.Need-enum_told-1
+enum_told-1 c = search rules
+
+returns-in-Nothing : tie.Need-returns-in-Nothing
+returns-in-Nothing c = sym (ap accepted c.in-Nothing.is)
 
 returns : tie.Need-returns
-returns c = sym (ap accepted c.enum_told.given.1)
-
-returns-2 : tie.Need-returns-2
 unfolding others
-returns-2 c = sym (not_so (λ e. miss others 0 tt
-    (subst (λ (r : Refusal). OneOf others (tag_of the_type r)) (accepted_is c.before.args.r e) c.match.keys2)))
+returns c = sym (not_so (λ e. miss others 0 tt
+    (subst (λ (r : Refusal). OneOf others (tag_of the_type r)) (accepted_is c.before.args.r e) c.in_default.in_default-own.keys2)))
 
-pub is-nothing-spec : {M : Type 1} → statement M
-is-nothing-spec = tie.close (tie.spec enum_told returns returns-2)
+pub is_nothing_spec : {M : Type 1} → statement M
+is_nothing_spec = tie.close (tie.spec enum_told-1 returns-in-Nothing returns)

@@ -7,31 +7,31 @@ use Rattle.instruments.proofs.RefusalLaws.{refused-first, refused_second, refuse
 use Rattle.instruments.proofs.settings_refusal.Statement.{statement}
 use Rattle.instruments.proofs.settings_refusal.Tie as tie
 
-wrong-coefficient-requires : tie.Need-wrong-coefficient-requires
-wrong-coefficient-requires c κs = tt
+wrong_coefficient-requires : tie.Need-wrong_coefficient-requires
+wrong_coefficient-requires c κs = tt
 
-returns : tie.Need-returns
-returns c =
+returns-then-wrong_coefficient : tie.Need-returns-then-wrong_coefficient
+returns-then-wrong_coefficient c =
     let i = c.before.before.args.i in
     refused-first Coefficient Unstable (wrong_coefficient i.settings) (unstable i)
-    (sym c.before.wrong-coefficient.ensures ∙ c.if1.true)
+    (sym c.before.wrong_coefficient.ensures ∙ c.if-wrong_coefficient.true)
 
-is-stable-requires : tie.Need-is-stable-requires
-is-stable-requires c κs = tt
+is_stable-requires : tie.Need-is_stable-requires
+is_stable-requires c κs = tt
 
-returns-2 : tie.Need-returns-2
-returns-2 c =
+returns-then-is_stable : tie.Need-returns-then-is_stable
+returns-then-is_stable c =
     let e = c.before.before in
     let i = e.before.before.args.i in
     refused_neither Coefficient Unstable (wrong_coefficient i.settings) (unstable i)
-    (sym e.before.wrong-coefficient.ensures ∙ e.if1.false) (ap not (sym c.before.is-stable.ensures ∙ c.if2.true))
+    (sym e.before.wrong_coefficient.ensures ∙ e.if-wrong_coefficient.false) (ap not (sym c.before.is_stable.ensures ∙ c.if-is_stable.true))
 
-returns-3 : tie.Need-returns-3
-returns-3 c =
+returns-else-is_stable : tie.Need-returns-else-is_stable
+returns-else-is_stable c =
     let e = c.before.before in
     let i = e.before.before.args.i in
     refused_second Coefficient Unstable (wrong_coefficient i.settings) (unstable i)
-    (sym e.before.wrong-coefficient.ensures ∙ e.if1.false) (ap not (sym c.before.is-stable.ensures ∙ c.if2.false))
+    (sym e.before.wrong_coefficient.ensures ∙ e.if-wrong_coefficient.false) (ap not (sym c.before.is_stable.ensures ∙ c.if-is_stable.false))
 
-pub settings-refusal-spec : {M : Type 1} → statement M
-settings-refusal-spec = tie.close (tie.spec wrong-coefficient-requires returns is-stable-requires returns-2 returns-3)
+pub settings_refusal_spec : {M : Type 1} → statement M
+settings_refusal_spec = tie.close (tie.spec wrong_coefficient-requires returns-then-wrong_coefficient is_stable-requires returns-then-is_stable returns-else-is_stable)

@@ -3,11 +3,11 @@ use borrow.Author.Rules.{rules}
 use Rattle.instruments.proofs.wrong_length.Statement.{statement}
 use Rattle.instruments.proofs.wrong_length.Tie as tie
 
-points-of-requires : tie.Need-points-of-requires
-points-of-requires c κs = search rules
+points_of-requires : tie.Need-points_of-requires
+points_of-requires c κs = search rules
 
 returns : tie.Need-returns
-returns c = simp c.points-of.ensures
+returns c = simp c.points_of.ensures
 
-pub wrong-length-spec : {M : Type 1} → statement M
-wrong-length-spec = tie.close (tie.spec points-of-requires returns)
+pub wrong_length_spec : {M : Type 1} → statement M
+wrong_length_spec = tie.close (tie.spec points_of-requires returns)

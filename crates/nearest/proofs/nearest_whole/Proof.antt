@@ -9,19 +9,19 @@ use Rattle.nearest.proofs.Fields.{nan_outside, no_nan}
 use Rattle.nearest.proofs.nearest_whole.Statement.{statement}
 use Rattle.nearest.proofs.nearest_whole.Tie as tie
 
+returns-then-x : tie.Need-returns-then-x
+returns-then-x c = sym (nan_outside c.before.args.x c.if-x.true)
+
+float_to_bits-x : tie.Need-float_to_bits-x
+float_to_bits-x c = no_nan c.before.args.x c.if-x.false
+
+whole_of_bits-requires : tie.Need-whole_of_bits-requires
+whole_of_bits-requires c κs = search rules
+
 returns : tie.Need-returns
-returns c = sym (nan_outside c.before.args.x c.if1.true)
-
-float-to-bits-whole-of-bits : tie.Need-float-to-bits-whole-of-bits
-float-to-bits-whole-of-bits c = no_nan c.before.args.x c.if1.false
-
-whole-of-bits-requires : tie.Need-whole-of-bits-requires
-whole-of-bits-requires c κs = search rules
-
-returns-2 : tie.Need-returns-2
-returns-2 c =
+returns c =
     let start = c.before.before in
-    c.whole-of-bits.ensures ∙ ap nearest_whole (of_bits-to_bits binary64 start.args.x (subst T (sym start.well-formed.0.1) tt))
+    c.whole_of_bits.ensures ∙ ap nearest_whole (of_bits-to_bits binary64 start.args.x (subst T (sym start.well_formed.0.1) tt))
 
-pub nearest-whole-spec : {M : Type 1} → statement M
-nearest-whole-spec = tie.close (tie.spec returns float-to-bits-whole-of-bits whole-of-bits-requires returns-2)
+pub nearest_whole_spec : {M : Type 1} → statement M
+nearest_whole_spec = tie.close (tie.spec returns-then-x float_to_bits-x whole_of_bits-requires returns)

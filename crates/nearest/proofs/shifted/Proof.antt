@@ -7,17 +7,17 @@ use Rattle.nearest.proofs.HalvesUp.{by_shift}
 use Rattle.nearest.proofs.shifted.Statement.{statement}
 use Rattle.nearest.proofs.shifted.Tie as tie
 
-sub-result : tie.Need-overflow-sub-result
-sub-result c = search rules
+overflow_sub-result : tie.Need-overflow_sub-result
+overflow_sub-result c = search rules
 
-shr-result : tie.Need-overflow-shr-result
-shr-result c = search rules
+overflow_shr-result : tie.Need-overflow_shr-result
+overflow_shr-result c = search rules
 
-add-result : tie.Need-overflow-add-result
-add-result c = omega (arith, div-le_self c.args.n (2 ^ (c.args.k - 1)))
+overflow_add-result : tie.Need-overflow_add-result
+overflow_add-result c = omega (arith, div-le_self c.args.n (2 ^ (c.args.k - 1)))
 
 returns : tie.Need-returns
 returns c = by_shift c.args.n c.args.k (search rules)
 
-pub shifted-spec : {M : Type 1} → statement M
-shifted-spec = tie.close (tie.spec sub-result shr-result add-result returns)
+pub shifted_spec : {M : Type 1} → statement M
+shifted_spec = tie.close (tie.spec overflow_sub-result overflow_shr-result overflow_add-result returns)

@@ -6,49 +6,49 @@ use Rattle.nearest.proofs.Fields.{field_small, field_middle}
 use Rattle.nearest.proofs.whole_of_bits.Statement.{statement}
 use Rattle.nearest.proofs.whole_of_bits.Tie as tie
 
-returns : tie.Need-returns
-returns c = sym (field_small _ (search rules))
+returns-then-exponent-lt1006 : tie.Need-returns-then-exponent-lt1006
+returns-then-exponent-lt1006 c = sym (field_small _ (search rules))
 
-whole-beyond-requires : tie.Need-whole-beyond-requires
-whole-beyond-requires c κs = search rules
+whole_beyond-requires : tie.Need-whole_beyond-requires
+whole_beyond-requires c κs = search rules
 
-returns-2 : tie.Need-returns-2
-returns-2 c = search rules
+returns-then-exponent-gt1023 : tie.Need-returns-then-exponent-gt1023
+returns-then-exponent-gt1023 c = search rules
 
-digits-of-requires : tie.Need-digits-of-requires
-digits-of-requires c κs = search rules
+digits_of-requires : tie.Need-digits_of-requires
+digits_of-requires c κs = search rules
 
-add-shifted : tie.Need-overflow-add-shifted
-add-shifted c = search rules
+overflow_add-digits_of : tie.Need-overflow_add-digits_of
+overflow_add-digits_of c = search rules
 
-sub-shifted : tie.Need-overflow-sub-shifted
-sub-shifted c = search rules
+overflow_sub-exponent : tie.Need-overflow_sub-exponent
+overflow_sub-exponent c = search rules
 
-shifted-requires : tie.Need-shifted-requires
-shifted-requires c κs = search rules
+shifted-n-requires : tie.Need-shifted-n-requires
+shifted-n-requires c κs = search rules
 
-returns-3 : tie.Need-returns-3
-returns-3 c =
+returns-then-n-le-D : tie.Need-returns-then-n-le-D
+returns-then-n-le-D c =
     let read = c.before in
-    sym (field_middle _ (search rules) (search rules) read.before.digits_of.ensures read.shifted.ensures
-    ∙ is_whole read.shifted.result (search rules))
+    sym (field_middle _ (search rules) (search rules) read.before.digits_of.ensures read.shifted-n.ensures
+    ∙ is_whole read.shifted-n.result (search rules))
 
-returns-4 : tie.Need-returns-4
-returns-4 c =
+returns-else-n-le-D : tie.Need-returns-else-n-le-D
+returns-else-n-le-D c =
     let read = c.before in
-    sym (field_middle _ (search rules) (search rules) read.before.digits_of.ensures read.shifted.ensures
-    ∙ above-whole read.shifted.result (search rules))
+    sym (field_middle _ (search rules) (search rules) read.before.digits_of.ensures read.shifted-n.ensures
+    ∙ above-whole read.shifted-n.result (search rules))
 
-pub whole-of-bits-spec : {M : Type 1} → statement M
-whole-of-bits-spec =
+pub whole_of_bits_spec : {M : Type 1} → statement M
+whole_of_bits_spec =
     tie.close
     (tie.spec
-    returns
-    whole-beyond-requires
-    returns-2
-    digits-of-requires
-    add-shifted
-    sub-shifted
-    shifted-requires
-    returns-3
-    returns-4)
+    returns-then-exponent-lt1006
+    whole_beyond-requires
+    returns-then-exponent-gt1023
+    digits_of-requires
+    overflow_add-digits_of
+    overflow_sub-exponent
+    shifted-n-requires
+    returns-then-n-le-D
+    returns-else-n-le-D)

@@ -24,22 +24,22 @@ inside : (n : ℕ) → n ≤ 2 ^ 63 → SFits w64 (neg_ℤ (pos n))
 inside zero h = record { sfits = omega arith }
 inside (suc k) h = record { sfits = omega arith }
 
+returns-then-n-eq0 : tie.Need-returns-then-n-eq0
+returns-then-n-eq0 c = ap (λ (n : ℕ). neg_ℤ (pos n)) (sym c.if-n-eq0.true)
+
+overflow_sub-result : tie.Need-overflow_sub-result
+overflow_sub-result c = search rules
+
+overflow_cast-result : tie.Need-overflow_cast-result
+overflow_cast-result c = search rules
+
+overflow_sub-result-2 : tie.Need-overflow_sub-result-2
+overflow_sub-result-2 c = let s = c.before in subst (SFits w64) (sym (computed s.args.n c.if-n-eq0.false s.requires)) (inside s.args.n s.requires)
+
 returns : tie.Need-returns
-returns c = ap (λ (n : ℕ). neg_ℤ (pos n)) (sym c.if1.true)
-
-sub-result : tie.Need-overflow-sub-result
-sub-result c = search rules
-
-cast-result : tie.Need-overflow-cast-result
-cast-result c = search rules
-
-sub-result-2 : tie.Need-overflow-sub-result-2
-sub-result-2 c = let s = c.before in subst (SFits w64) (sym (computed s.args.n c.if1.false s.requires)) (inside s.args.n s.requires)
-
-returns-2 : tie.Need-returns-2
-returns-2 c =
+returns c =
     let s = c.before in
-    ap (λ (z : ℤ). to_z w64 (of_z w64 z)) (computed s.args.n c.if1.false s.requires) ∙ to_z-of_z w64 _ (inside s.args.n s.requires)
+    ap (λ (z : ℤ). to_z w64 (of_z w64 z)) (computed s.args.n c.if-n-eq0.false s.requires) ∙ to_z-of_z w64 _ (inside s.args.n s.requires)
 
-pub minus-spec : {M : Type 1} → statement M
-minus-spec = tie.close (tie.spec returns sub-result cast-result sub-result-2 returns-2)
+pub minus_spec : {M : Type 1} → statement M
+minus_spec = tie.close (tie.spec returns-then-n-eq0 overflow_sub-result overflow_cast-result overflow_sub-result-2 returns)

@@ -5,11 +5,11 @@ use mir.ValLaws.{to_z_pos}
 use Rattle.ring_decimals.proofs.plus.Statement.{statement}
 use Rattle.ring_decimals.proofs.plus.Tie as tie
 
-cast-result : tie.Need-overflow-cast-result
-cast-result c = search rules
+overflow_cast-result : tie.Need-overflow_cast-result
+overflow_cast-result c = search rules
 
 returns : tie.Need-returns
 returns c = to_z_pos w64 c.args.n c.requires
 
-pub plus-spec : {M : Type 1} → statement M
-plus-spec = tie.close (tie.spec cast-result returns)
+pub plus_spec : {M : Type 1} → statement M
+plus_spec = tie.close (tie.spec overflow_cast-result returns)

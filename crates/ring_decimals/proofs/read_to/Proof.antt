@@ -1,6 +1,6 @@
 -- `read_to` meets its contract: digit by digit, and the first byte that is none, or leads past the most, decides.
 use mathlib.Core.Path.{◌≡◌, sym, ap, ◌∙◌, subst}
-use mathlib.Core.Bool.{true}
+use mathlib.Core.Bool.{not, true}
 use Prim.Native.Nat.{ℕ, ◌+◌, ◌-◌, ◌*◌, ◌^◌, ◌≤◌, ◌<◌}
 use native.Mathlib.Omega.{arith}
 use borrow.Author.Rules.{rules}
@@ -12,119 +12,119 @@ use Rattle.ring_decimals.proofs.DecimalLaws.{no_digit, too_large, empty_wrong}
 use Rattle.ring_decimals.proofs.read_to.Statement.{statement}
 use Rattle.ring_decimals.proofs.read_to.Tie as tie
 
-abbrev invariant-loop : tie.invariant-loop
-invariant-loop digits most n₀ i₀ n i = Summed most digits n i
+abbrev invariant-loop-i : tie.invariant-loop-i
+invariant-loop-i digits most n₀ i₀ n i = Summed most digits n i
 
-abbrev decreases-loop : tie.decreases-loop
-decreases-loop digits most n₀ i₀ n i = length digits - i
+abbrev decreases-loop-i : tie.decreases-loop-i
+decreases-loop-i digits most n₀ i₀ n i = length digits - i
 
 -- the turn of the loop, and where the function starts
-abbrev turn : tie.After-is-digit invariant-loop decreases-loop → tie.In-loop invariant-loop decreases-loop
+abbrev turn : tie.After-is_digit invariant-loop-i decreases-loop-i → tie.In-loop-i invariant-loop-i decreases-loop-i
 turn c = c.before.before
 
-abbrev start : tie.In-loop invariant-loop decreases-loop → tie.Start invariant-loop decreases-loop
+abbrev start : tie.In-loop-i invariant-loop-i decreases-loop-i → tie.Start invariant-loop-i decreases-loop-i
 start t = t.before.before.before.before
 
 -- the byte that was read
-abbrev byte : tie.After-is-digit invariant-loop decreases-loop → ℕ
-byte c = let t = turn c in get_or (start t).args.digits.now t.before.loop.i 0
+abbrev byte : tie.After-is_digit invariant-loop-i decreases-loop-i → ℕ
+byte c = let t = turn c in get_or (start t).args.digits.now t.before.loop-i.i 0
 
-digit : (c : tie.Else2 invariant-loop decreases-loop) → is_digit (byte c.before) ≡ true
-digit c = sym c.before.is_digit.ensures ∙ not-false _ c.if2.false
+digit : (c : tie.Else-not-is_digit invariant-loop-i decreases-loop-i) → is_digit (byte c.before) ≡ true
+digit c = sym c.before.is_digit.ensures ∙ not-false _ (ap not c.if-not-is_digit.false)
 
 -- a digit was read
-module _ (c : tie.After-digit-of invariant-loop decreases-loop) where
-  abbrev here : tie.After-is-digit invariant-loop decreases-loop
+module _ (c : tie.After-digit_of-digit invariant-loop-i decreases-loop-i) where
+  abbrev here : tie.After-is_digit invariant-loop-i decreases-loop-i
   here = c.before.before
 
   -- n before it, and after it
   abbrev so_far : ℕ
-  so_far = (turn here).before.loop.n
+  so_far = (turn here).before.loop-i.n
 
   abbrev most : ℕ
   most = (start (turn here)).args.most
 
   in-range : (9 ≤ most) × (most ≤ 2 ^ 63)
-  in-range = (start (turn here)).pre
+  in-range = (start (turn here)).requires
 
-  next_is : next so_far (byte here) ≡ 10 * so_far + c.digit-of.result
-  next_is = ap (λ (d : ℕ). 10 * so_far + d) (sym c.digit-of.ensures)
+  next_is : next so_far (byte here) ≡ 10 * so_far + c.digit_of-digit.result
+  next_is = ap (λ (d : ℕ). 10 * so_far + d) (sym c.digit_of-digit.ensures)
 
-  small : c.digit-of.result ≤ 9
-  small = omega (arith, (digit_range (byte here) (digit c.before)).1, c.digit-of.ensures)
+  small : c.digit_of-digit.result ≤ 9
+  small = omega (arith, (digit_range (byte here) (digit c.before)).1, c.digit_of-digit.ensures)
 
-within : (c : tie.Else3 invariant-loop decreases-loop) → 10 * so_far c.before + c.before.digit-of.result ≤ most c.before
-within c = omega (arith, small c.before, c.if3.false, in-range c.before)
+within : (c : tie.Else-most-digit invariant-loop-i decreases-loop-i) → 10 * so_far c.before + c.before.digit_of-digit.result ≤ most c.before
+within c = omega (arith, small c.before, c.if-most-digit.false, in-range c.before)
 
-returns : tie.Need-returns invariant-loop decreases-loop
-returns c = sym (empty_wrong _ _ (omega (arith, c.if1.true)))
+returns-then-digits-eq0 : tie.Need-returns-then-digits-eq0 invariant-loop-i decreases-loop-i
+returns-then-digits-eq0 c = sym (empty_wrong _ _ (omega (arith, c.if-digits-eq0.true)))
 
-loop-holds : tie.Need-loop-init invariant-loop decreases-loop
-loop-holds c = summed_none _ _
+loop-i-init : tie.Need-loop-i-init invariant-loop-i decreases-loop-i
+loop-i-init c = summed_none _ _
 
-shared-slice-read-byte : tie.Need-shared-slice-read-byte invariant-loop decreases-loop
-shared-slice-read-byte c = search rules
+bounds-digits-i : tie.Need-bounds-digits-i invariant-loop-i decreases-loop-i
+bounds-digits-i c = search rules
 
-is-digit-requires : tie.Need-is-digit-requires invariant-loop decreases-loop
-is-digit-requires c κs = tt
+is_digit-requires : tie.Need-is_digit-requires invariant-loop-i decreases-loop-i
+is_digit-requires c κs = tt
 
-returns-2 : tie.Need-returns-2 invariant-loop decreases-loop
-returns-2 c =
-    let none = sym c.before.is_digit.ensures ∙ not-true _ c.if2.true in
-    sym (no_digit _ _ (omega arith) (turn c.before).before.loop.inv none)
+returns-then-not-is_digit : tie.Need-returns-then-not-is_digit invariant-loop-i decreases-loop-i
+returns-then-not-is_digit c =
+    let none = sym c.before.is_digit.ensures ∙ not-true _ (ap not c.if-not-is_digit.true) in
+    sym (no_digit _ _ (omega arith) (turn c.before).before.loop-i.invariant none)
 
-digit-of-requires : tie.Need-digit-of-requires invariant-loop decreases-loop
-digit-of-requires c κs = (digit_range (byte c.before) (digit c)).0
+digit_of-digit-requires : tie.Need-digit_of-digit-requires invariant-loop-i decreases-loop-i
+digit_of-digit-requires c κs = (digit_range (byte c.before) (digit c)).0
 
-sub-if3 : tie.Need-overflow-sub-if3 invariant-loop decreases-loop
-sub-if3 c = omega (arith, small c, in-range c)
+overflow_sub-most : tie.Need-overflow_sub-most invariant-loop-i decreases-loop-i
+overflow_sub-most c = omega (arith, small c, in-range c)
 
-returns-3 : tie.Need-returns-3 invariant-loop decreases-loop
-returns-3 c =
+returns-then-most-digit : tie.Need-returns-then-most-digit invariant-loop-i decreases-loop-i
+returns-then-most-digit c =
     let d = c.before in
-    let above : most d < next (so_far d) (byte (here d)) = omega (arith, next_is d, small d, c.if3.true, in-range d) in
-    sym (too_large _ _ (omega arith) (turn (here d)).before.loop.inv above)
+    let above : most d < next (so_far d) (byte (here d)) = omega (arith, next_is d, small d, c.if-most-digit.true, in-range d) in
+    sym (too_large _ _ (omega arith) (turn (here d)).before.loop-i.invariant above)
 
-mul-n : tie.Need-overflow-mul-n invariant-loop decreases-loop
-mul-n c = omega (arith, within c, in-range c.before)
+overflow_mul-n : tie.Need-overflow_mul-n invariant-loop-i decreases-loop-i
+overflow_mul-n c = omega (arith, within c, in-range c.before)
 
-add-n : tie.Need-overflow-add-n invariant-loop decreases-loop
-add-n c = omega (arith, within c, in-range c.before)
+overflow_add-n : tie.Need-overflow_add-n invariant-loop-i decreases-loop-i
+overflow_add-n c = omega (arith, within c, in-range c.before)
 
-add-i : tie.Need-overflow-add-i invariant-loop decreases-loop
-add-i c = search rules
+overflow_add-i : tie.Need-overflow_add-i invariant-loop-i decreases-loop-i
+overflow_add-i c = search rules
 
-loop-less : tie.Need-loop-smaller invariant-loop decreases-loop
-loop-less c = search rules
+loop-i-smaller : tie.Need-loop-i-smaller invariant-loop-i decreases-loop-i
+loop-i-smaller c = search rules
 
-loop-again : tie.Need-loop-preserved invariant-loop decreases-loop
-loop-again c =
+loop-i-preserved : tie.Need-loop-i-preserved invariant-loop-i decreases-loop-i
+loop-i-preserved c =
     let d = c.before in
     let t = turn (here d) in
-    let l = t.before.loop in
+    let l = t.before.loop-i in
     subst (λ (n : ℕ). Summed (most d) (start t).args.digits.now n (l.i + 1)) (next_is d)
-    (summed-more _ _ (omega arith) l.inv (digit d.before) (omega (arith, next_is d, within c)))
+    (summed-more _ _ (omega arith) l.invariant (digit d.before) (omega (arith, next_is d, within c)))
 
-returns-4 : tie.Need-returns-4 invariant-loop decreases-loop
-returns-4 c = sym (summed-all _ _ (omega (arith, c.before.before.if1.false)) (omega arith) c.before.loop.invariant)
+returns : tie.Need-returns invariant-loop-i decreases-loop-i
+returns c = sym (summed-all _ _ (omega (arith, c.before.before.if-digits-eq0.false)) (omega arith) c.before.loop-i.invariant)
 
-pub read-to-spec : {M : Type 1} → statement M
-read-to-spec =
+pub read_to_spec : {M : Type 1} → statement M
+read_to_spec =
     tie.close
     (tie.spec
-    invariant-loop
-    decreases-loop
-    returns
-    loop-holds
-    shared-slice-read-byte
-    is-digit-requires
-    returns-2
-    digit-of-requires
-    sub-if3
-    returns-3
-    mul-n
-    add-n
-    add-i
-    loop-less
-    loop-again
-    returns-4)
+    invariant-loop-i
+    decreases-loop-i
+    returns-then-digits-eq0
+    loop-i-init
+    bounds-digits-i
+    is_digit-requires
+    returns-then-not-is_digit
+    digit_of-digit-requires
+    overflow_sub-most
+    returns-then-most-digit
+    overflow_mul-n
+    overflow_add-n
+    overflow_add-i
+    loop-i-smaller
+    loop-i-preserved
+    returns)

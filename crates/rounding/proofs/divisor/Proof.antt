@@ -3,11 +3,11 @@ use Rattle.std.proofs.Common.{le-ltb, lt-ltb}
 use Rattle.rounding.proofs.divisor.Statement.{statement}
 use Rattle.rounding.proofs.divisor.Tie as tie
 
-returns : tie.Need-returns
-returns c = rw (lt-ltb c.before.args.d _ c.if1.true)
+returns-then-d-lt2 : tie.Need-returns-then-d-lt2
+returns-then-d-lt2 c = rw (lt-ltb c.before.args.d _ c.if-d-lt2.true)
 
-returns-2 : tie.Need-returns-2
-returns-2 c = rw (le-ltb c.before.args.d _ c.if1.false)
+returns-else-d-lt2 : tie.Need-returns-else-d-lt2
+returns-else-d-lt2 c = rw (le-ltb c.before.args.d _ c.if-d-lt2.false)
 
-pub divisor-spec : {M : Type 1} → statement M
-divisor-spec = tie.close (tie.spec returns returns-2)
+pub divisor_spec : {M : Type 1} → statement M
+divisor_spec = tie.close (tie.spec returns-then-d-lt2 returns-else-d-lt2)

@@ -20,5 +20,5 @@ returns c =
     ap (λ (z : ℤ). to_z w64 (bit_xor (of_z w64 s.args.x) (of_z w64 z))) (sign-is c) ∙
     mirror_bits s.args.n s.args.x s.ranges.x.sfits
 
-pub mirrored-spec : {M : Type 1} → statement M
-mirrored-spec = tie.close (tie.spec sign-requires returns)
+pub mirrored_spec : {M : Type 1} → statement M
+mirrored_spec = tie.close (tie.spec sign-requires returns)

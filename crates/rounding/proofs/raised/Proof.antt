@@ -14,27 +14,27 @@ n_is s = back s.args.n s.ranges.n.sfits
 -- its size, less 1 where it is below 0
 own_is : (c : tie.After-mirrored) → to_z w64 (of_z w64 c.mirrored.result) ≡ pos (mag c.before.args.n)
 own_is c =
-    back c.mirrored.result c.mirrored.type-inv ∙ c.mirrored.ensures ∙ ap (λ (z : ℤ). mirror_of z z) (n_is c.before) ∙
+    back c.mirrored.result c.mirrored.type_inv ∙ c.mirrored.ensures ∙ ap (λ (z : ℤ). mirror_of z z) (n_is c.before) ∙
     mirror_own c.before.args.n
 
 mirrored-requires : tie.Need-mirrored-requires
 mirrored-requires c κs = search rules
 
-cast-turned : tie.Need-overflow-cast-turned
-cast-turned c =
+overflow_cast-mirrored : tie.Need-overflow_cast-mirrored
+overflow_cast-mirrored c =
     subst (λ (z : ℤ). T (non_neg z) × Fits w64 (nat_abs z)) (sym (own_is c)) (tt, record { fits = omega (arith, c.before.ranges.n.sfits) })
+
+turned-bits-requires : tie.Need-turned-bits-requires
+turned-bits-requires c κs = search rules
 
 turned-requires : tie.Need-turned-requires
 turned-requires c κs = search rules
 
+wrapping_add_u64-requires : tie.Need-wrapping_add_u64-requires
+wrapping_add_u64-requires c κs = search rules
+
 turned-requires-2 : tie.Need-turned-requires-2
 turned-requires-2 c κs = search rules
-
-wrapping-add-u64-requires : tie.Need-wrapping-add-u64-requires
-wrapping-add-u64-requires c κs = search rules
-
-turned-requires-3 : tie.Need-turned-requires-3
-turned-requires-3 c κs = search rules
 
 returns : tie.Need-returns
 returns c =
@@ -42,20 +42,20 @@ returns c =
     let h = w.before in
     let b = h.before in
     let s = b.before.before in
-    let bits_are = b.turned.ensures ∙ (λ j. turned_of (n_is s j) (nat_abs (own_is b.before j))) in
-    let half_is = h.turned2.ensures ∙ ap (λ (z : ℤ). turned_of z s.args.half) (n_is s) in
-    c.turned3.ensures ∙ ap (λ (z : ℤ). turned_of z w.wrapping-add-u64.result) (n_is s) ∙
-    turned_raised s.args.n s.args.half w.wrapping-add-u64.result s.ranges.n.sfits s.ranges.half.fits
-    (w.wrapping-add-u64.ensures ∙ (λ j. (bits_are j + half_is j) % 2 ^ 64))
+    let bits_are = b.turned-bits.ensures ∙ (λ j. turned_of (n_is s j) (nat_abs (own_is b.before j))) in
+    let half_is = h.turned.ensures ∙ ap (λ (z : ℤ). turned_of z s.args.half) (n_is s) in
+    c.turned-2.ensures ∙ ap (λ (z : ℤ). turned_of z w.wrapping_add_u64.result) (n_is s) ∙
+    turned_raised s.args.n s.args.half w.wrapping_add_u64.result s.ranges.n.sfits s.ranges.half.fits
+    (w.wrapping_add_u64.ensures ∙ (λ j. (bits_are j + half_is j) % 2 ^ 64))
 
-pub raised-spec : {M : Type 1} → statement M
-raised-spec =
+pub raised_spec : {M : Type 1} → statement M
+raised_spec =
     tie.close
     (tie.spec
     mirrored-requires
-    cast-turned
+    overflow_cast-mirrored
+    turned-bits-requires
     turned-requires
+    wrapping_add_u64-requires
     turned-requires-2
-    wrapping-add-u64-requires
-    turned-requires-3
     returns)

@@ -7,16 +7,16 @@ use Rattle.rounding.proofs.RoundLaws.{rounded_is}
 use Rattle.rounding.proofs.read_out.Statement.{statement}
 use Rattle.rounding.proofs.read_out.Tie as tie
 
-round-by-requires : tie.Need-round-by-requires
-round-by-requires c κs = search rules
+round_by-rounded-requires : tie.Need-round_by-rounded-requires
+round_by-rounded-requires c κs = search rules
 
 returns : tie.Need-returns
 unfolding sample_of
 returns c =
     let s = c.before.before in
-    back c.before.round_by.result.whole c.struct_told.given.0.1 ∙
-    ap (λ (r : Rounded). r.whole) (c.before.round_by.ensures ∙ rounded_is _ _ _ (omega arith) refl) ∙
+    back c.before.round_by-rounded.result.whole c.struct_told-1.given.0.1 ∙
+    ap (λ (r : Rounded). r.whole) (c.before.round_by-rounded.ensures ∙ rounded_is _ _ _ (omega arith) refl) ∙
     ap sample_of (back s.args.v s.ranges.v.sfits)
 
-pub read-out-spec : {M : Type 1} → statement M
-read-out-spec = tie.close (tie.spec round-by-requires returns)
+pub read_out_spec : {M : Type 1} → statement M
+read_out_spec = tie.close (tie.spec round_by-rounded-requires returns)

@@ -7,7 +7,7 @@ use Rattle.rounding.proofs.RoundLaws.{size_mag, divisor_some, divisor-low, quoti
 use Rattle.rounding.proofs.round_by.Statement.{statement}
 use Rattle.rounding.proofs.round_by.Tie as tie
 
-module _ (c : tie.After-divisor) where
+module _ (c : tie.After-divisor-by) where
   abbrev start : tie.Start
   start = c.before.before
 
@@ -15,72 +15,72 @@ module _ (c : tie.After-divisor) where
   n = start.args.n
 
   n_is : to_z w64 (of_z w64 n) ≡ n
-  n_is = back n start.fits.n.sfits
+  n_is = back n start.ranges.n.sfits
 
-  raised_is : c.before.raised.result ≡ nat_abs n + start.args.half
-  raised_is = c.before.raised.ensures ∙ ap (λ (z : ℤ). nat_abs z + start.args.half) n_is
+  raised_is : c.before.raised-size.result ≡ nat_abs n + start.args.half
+  raised_is = c.before.raised-size.ensures ∙ ap (λ (z : ℤ). nat_abs z + start.args.half) n_is
 
-  some : 2 ≤ c.divisor.result
-  some = omega (arith, c.divisor.ensures, divisor_some start.args.d)
+  some : 2 ≤ c.divisor-by.result
+  some = omega (arith, c.divisor-by.ensures, divisor_some start.args.d)
 
   -- the quotient
   abbrev quotient : ℕ
-  quotient = c.before.raised.result / c.divisor.result
+  quotient = c.before.raised-size.result / c.divisor-by.result
 
   quotient-low : quotient ≤ 2 ^ 62 + 2 ^ 31
   quotient-low =
-      let low = quotient-size c.before.raised.result start.args.d in
-      let e = ap (λ (k : ℕ). c.before.raised.result / k) c.divisor.ensures in
-      omega (arith, low, e, raised_is, size_mag n, start.fits.n.sfits, start.fits.half.fits)
+      let low = quotient-size c.before.raised-size.result start.args.d in
+      let e = ap (λ (k : ℕ). c.before.raised-size.result / k) c.divisor-by.ensures in
+      omega (arith, low, e, raised_is, size_mag n, start.ranges.n.sfits, start.ranges.half.fits)
 
   abbrev quotient# : E
   quotient# = at (pos quotient) (2 ^ 62 + 2 ^ 31) quotient-low
 
   -- what is left, less half
   abbrev left : ℕ
-  left = c.before.raised.result % c.divisor.result
+  left = c.before.raised-size.result % c.divisor-by.result
 
   left-low : left ≤ 2 ^ 32
   left-low =
       omega (
         arith,
-        mod-lt c.before.raised.result {m = c.divisor.result} (omega (arith, some)),
-        c.divisor.ensures,
-        divisor-low start.args.d start.fits.d.fits,
+        mod-lt c.before.raised-size.result {m = c.divisor-by.result} (omega (arith, some)),
+        c.divisor-by.ensures,
+        divisor-low start.args.d start.ranges.d.fits,
       )
 
   abbrev left# : E
   left# = at (pos left) (2 ^ 32) left-low
 
   abbrev half# : E
-  half# = at (pos start.args.half) (2 ^ 32) (omega (arith, start.fits.half.fits))
+  half# = at (pos start.args.half) (2 ^ 32) (omega (arith, start.ranges.half.fits))
 
   abbrev remainder# : E
   remainder# = left# ⊟ half#
 
-raised-requires : tie.Need-raised-requires
-raised-requires c κs = search rules
+raised-size-requires : tie.Need-raised-size-requires
+raised-size-requires c κs = search rules
 
-divisor-requires : tie.Need-divisor-requires
-divisor-requires c κs = search rules
+divisor-by-requires : tie.Need-divisor-by-requires
+divisor-by-requires c κs = search rules
 
-div-quotient : tie.Need-nonzero-div-quotient
-div-quotient c = omega (arith, some c)
+nonzero_div-quotient : tie.Need-nonzero_div-quotient
+nonzero_div-quotient c = omega (arith, some c)
 
-cast-quotient : tie.Need-overflow-cast-quotient
-cast-quotient c = fits (quotient# c) tt
+overflow_cast-quotient : tie.Need-overflow_cast-quotient
+overflow_cast-quotient c = fits (quotient# c) tt
 
-rem-left : tie.Need-nonzero-rem-left
-rem-left c = omega (arith, some c)
+nonzero_rem-left : tie.Need-nonzero_rem-left
+nonzero_rem-left c = omega (arith, some c)
 
-cast-left : tie.Need-overflow-cast-left
-cast-left c = fits (left# c) tt
+overflow_cast-left : tie.Need-overflow_cast-left
+overflow_cast-left c = fits (left# c) tt
 
-cast-left-2 : tie.Need-overflow-cast-left-2
-cast-left-2 c = search rules
+overflow_cast-left-2 : tie.Need-overflow_cast-left-2
+overflow_cast-left-2 c = search rules
 
-sub-left : tie.Need-overflow-sub-left
-sub-left c = fits (remainder# c) tt
+overflow_sub-left : tie.Need-overflow_sub-left
+overflow_sub-left c = fits (remainder# c) tt
 
 signed-requires : tie.Need-signed-requires
 signed-requires c κs = said (λ (z : ℤ). nat_abs z ≤ 2 ^ 62 + 2 ^ 31) (quotient# c) tt (quotient-low c)
@@ -98,25 +98,25 @@ returns c =
     let half = (start a).args.half in
     (λ j. record {
       whole =
-          (back b.signed.result b.signed.type-inv ∙ b.signed.ensures ∙ (λ i. with_sign (n_is a i) (is (quotient# a) tt i)) ∙
-          (λ i. with_sign (n a) (pos (raised_is a i / a.divisor.ensures i)))) j;
+          (back b.signed.result b.signed.type_inv ∙ b.signed.ensures ∙ (λ i. with_sign (n_is a i) (is (quotient# a) tt i)) ∙
+          (λ i. with_sign (n a) (pos (raised_is a i / a.divisor-by.ensures i)))) j;
       remainder =
-          (back c.signed2.result c.signed2.type-inv ∙ c.signed2.ensures ∙ (λ i. with_sign (n_is a i) (is (remainder# a) tt i)) ∙
-          (λ i. with_sign (n a) (pos (raised_is a i % a.divisor.ensures i) -ℤ pos half))) j;
+          (back c.signed-2.result c.signed-2.type_inv ∙ c.signed-2.ensures ∙ (λ i. with_sign (n_is a i) (is (remainder# a) tt i)) ∙
+          (λ i. with_sign (n a) (pos (raised_is a i % a.divisor-by.ensures i) -ℤ pos half))) j;
     })
 
-pub round-by-spec : {M : Type 1} → statement M
-round-by-spec =
+pub round_by_spec : {M : Type 1} → statement M
+round_by_spec =
     tie.close
     (tie.spec
-    raised-requires
-    divisor-requires
-    div-quotient
-    cast-quotient
-    rem-left
-    cast-left
-    cast-left-2
-    sub-left
+    raised-size-requires
+    divisor-by-requires
+    nonzero_div-quotient
+    overflow_cast-quotient
+    nonzero_rem-left
+    overflow_cast-left
+    overflow_cast-left-2
+    overflow_sub-left
     signed-requires
     signed-requires-2
     returns)

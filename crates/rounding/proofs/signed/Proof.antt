@@ -13,7 +13,7 @@ module _ (s : tie.Start) where
   x# = at s.args.x (2 ^ 62 + 2 ^ 31) s.requires
 
   n_is : to_z w64 (of_z w64 s.args.n) ≡ s.args.n
-  n_is = back s.args.n s.fits.n.sfits
+  n_is = back s.args.n s.ranges.n.sfits
 
 module _ (c : tie.After-sign) where
   abbrev start : tie.Start
@@ -21,16 +21,16 @@ module _ (c : tie.After-sign) where
 
   mirrored-is : to_z w64 (of_z w64 c.before.mirrored.result) ≡ mirror_of start.args.n start.args.x
   mirrored-is =
-      back c.before.mirrored.result c.before.mirrored.type-inv ∙ c.before.mirrored.ensures ∙
+      back c.before.mirrored.result c.before.mirrored.type_inv ∙ c.before.mirrored.ensures ∙
       (λ j. mirror_of (n_is start j) (is (x# start) tt j))
 
   sign-is : to_z w64 (of_z w64 c.sign.result) ≡ sign_of start.args.n
-  sign-is = back c.sign.result c.sign.type-inv ∙ c.sign.ensures ∙ ap sign_of (n_is start)
+  sign-is = back c.sign.result c.sign.type_inv ∙ c.sign.ensures ∙ ap sign_of (n_is start)
 
   abbrev signed# : E
   signed# =
       via {B = 2 ^ 62 + 2 ^ 32}
-      (record { is = mirrored-is; size = le_trans (mirror_size start.args.n start.args.x) (omega (arith, start.pre)) })
+      (record { is = mirrored-is; size = le_trans (mirror_size start.args.n start.args.x) (omega (arith, start.requires)) })
       ⊟ via {B = 1} (record { is = sign-is; size = sign-size start.args.n })
 
 mirrored-requires : tie.Need-mirrored-requires
@@ -39,11 +39,11 @@ mirrored-requires c κs = search rules
 sign-requires : tie.Need-sign-requires
 sign-requires c κs = search rules
 
-sub-result : tie.Need-overflow-sub-result
-sub-result c = fits (signed# c) tt
+overflow_sub-result : tie.Need-overflow_sub-result
+overflow_sub-result c = fits (signed# c) tt
 
 returns : tie.Need-returns
 returns c = is (signed# c) tt ∙ mirror_signed (start c).args.n (start c).args.x
 
-pub signed-spec : {M : Type 1} → statement M
-signed-spec = tie.close (tie.spec mirrored-requires sign-requires sub-result returns)
+pub signed_spec : {M : Type 1} → statement M
+signed_spec = tie.close (tie.spec mirrored-requires sign-requires overflow_sub-result returns)

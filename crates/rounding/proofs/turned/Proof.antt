@@ -16,5 +16,5 @@ returns c =
     ap (bit_xor s.args.x) (c.mask.ensures ∙ ap (λ (z : ℤ). turned_of z 0) (back s.args.n s.ranges.n.sfits)) ∙
     turned_bits s.args.n s.args.x s.ranges.x.fits
 
-pub turned-spec : {M : Type 1} → statement M
-turned-spec = tie.close (tie.spec mask-requires returns)
+pub turned_spec : {M : Type 1} → statement M
+turned_spec = tie.close (tie.spec mask-requires returns)

@@ -7,25 +7,25 @@ use Rattle.sizes.proofs.KindLaws.{kind_none, line-size}
 use Rattle.sizes.proofs.has_size.Statement.{statement}
 use Rattle.sizes.proofs.has_size.Tie as tie
 
-is-sized-requires : tie.Need-is-sized-requires
-is-sized-requires c κs = tt
+is_sized-requires : tie.Need-is_sized-requires
+is_sized-requires c κs = tt
 
-is-grid-sized-requires : tie.Need-is-grid-sized-requires
-is-grid-sized-requires c κs = search rules
+is_grid_sized-requires : tie.Need-is_grid_sized-requires
+is_grid_sized-requires c κs = search rules
 
-returns : tie.Need-returns
-returns c = c.is-sized.ensures ∙ sym (line-size _ _ _ (omega arith) (omega arith))
+returns-in-1-to-4 : tie.Need-returns-in-1-to-4
+returns-in-1-to-4 c = c.is_sized.ensures ∙ sym (line-size _ _ _ (omega arith) (omega arith))
 
-returns-2 : tie.Need-returns-2
-returns-2 c = c.is-grid-sized.ensures
+returns-in-5-to-7 : tie.Need-returns-in-5-to-7
+returns-in-5-to-7 c = c.is_grid_sized.ensures
 
-returns-3 : tie.Need-returns-3
+returns-in_default : tie.Need-returns-in_default
 unfolding size_in
-returns-3 c = simp (kind_none c.before.args.g.kind (λ l. omega arith))
+returns-in_default c = simp (kind_none c.before.args.g.kind (λ l. omega arith))
 
-returns-4 : tie.Need-returns-4
+returns-in_default-2 : tie.Need-returns-in_default-2
 unfolding size_in
-returns-4 c = simp (kind_none c.before.before.before.args.g.kind (λ l. omega arith))
+returns-in_default-2 c = simp (kind_none c.before.args.g.kind (λ l. omega arith))
 
-pub has-size-spec : {M : Type 1} → statement M
-has-size-spec = tie.close (tie.spec is-sized-requires is-grid-sized-requires returns returns-2 returns-3 returns-4)
+pub has_size_spec : {M : Type 1} → statement M
+has_size_spec = tie.close (tie.spec is_sized-requires is_grid_sized-requires returns-in-1-to-4 returns-in-5-to-7 returns-in_default returns-in_default-2)

@@ -4,17 +4,17 @@ use Rattle.scheme.proofs.Laws.Bools.{and_yes, and_no}
 use Rattle.sizes.proofs.is_sized.Statement.{statement}
 use Rattle.sizes.proofs.is_sized.Tie as tie
 
-is-within-requires : tie.Need-is-within-requires
-is-within-requires c κs = tt
+is_within-requires : tie.Need-is_within-requires
+is_within-requires c κs = tt
 
-is-within-requires-2 : tie.Need-is-within-requires-2
-is-within-requires-2 c κs = tt
+is_within-requires-then-is_within : tie.Need-is_within-requires-then-is_within
+is_within-requires-then-is_within c κs = tt
 
-returns : tie.Need-returns
-returns c = c.is-within2.ensures ∙ sym (and_yes (sym c.before.before.is_within.ensures ∙ c.before.if1.true))
+returns-then-is_within : tie.Need-returns-then-is_within
+returns-then-is_within c = c.is_within-then-is_within.ensures ∙ sym (and_yes (sym c.before.before.is_within.ensures ∙ c.before.if-is_within.true))
 
-returns-2 : tie.Need-returns-2
-returns-2 c = sym (and_no _ (sym c.before.is_within.ensures ∙ c.if1.false))
+returns-else-is_within : tie.Need-returns-else-is_within
+returns-else-is_within c = sym (and_no _ (sym c.before.is_within.ensures ∙ c.if-is_within.false))
 
-pub is-sized-spec : {M : Type 1} → statement M
-is-sized-spec = tie.close (tie.spec is-within-requires is-within-requires-2 returns returns-2)
+pub is_sized_spec : {M : Type 1} → statement M
+is_sized_spec = tie.close (tie.spec is_within-requires is_within-requires-then-is_within returns-then-is_within returns-else-is_within)

@@ -9,71 +9,71 @@ use Rattle.sizes.proofs.KindLaws.{kind_is, kind_none, string_stable, membrane_st
 use Rattle.sizes.proofs.is_stable.Statement.{statement}
 use Rattle.sizes.proofs.is_stable.Tie as tie
 
-returns : tie.Need-returns
-returns c = sym (q_past _ _ _ c.if1.true)
+returns-then-q-gt-D : tie.Need-returns-then-q-gt-D
+returns-then-q-gt-D c = sym (q_past _ _ _ c.if-q-gt-D.true)
 
-returns-2 : tie.Need-returns-2
-returns-2 c = sym (m_past _ _ _ c.if2.true)
+returns-then-m-gt-D : tie.Need-returns-then-m-gt-D
+returns-then-m-gt-D c = sym (m_past _ _ _ c.if-m-gt-D.true)
 
-mul-result : tie.Need-overflow-mul-result
-mul-result c = search rules
+overflow_mul-result : tie.Need-overflow_mul-result
+overflow_mul-result c = search rules
 
-add-result : tie.Need-overflow-add-result
-add-result c = search rules
+overflow_add-result : tie.Need-overflow_add-result
+overflow_add-result c = search rules
 
-mul-result-2 : tie.Need-overflow-mul-result-2
-mul-result-2 c = search rules
+overflow_mul-result-in-7 : tie.Need-overflow_mul-result-in-7
+overflow_mul-result-in-7 c = search rules
 
-mul-result-3 : tie.Need-overflow-mul-result-3
-mul-result-3 c = search rules
+overflow_mul-result-in-7-2 : tie.Need-overflow_mul-result-in-7-2
+overflow_mul-result-in-7-2 c = search rules
 
-add-result-2 : tie.Need-overflow-add-result-2
-add-result-2 c = search rules
+overflow_add-result-in-7 : tie.Need-overflow_add-result-in-7
+overflow_add-result-in-7 c = search rules
 
-mul-if6 : tie.Need-overflow-mul-if6
-mul-if6 c = search rules
+overflow_mul-q : tie.Need-overflow_mul-q
+overflow_mul-q c = search rules
 
-returns-3 : tie.Need-returns-3
+returns-in-4 : tie.Need-returns-in-4
 unfolding stable_in
-returns-3 c = simp (kind_is bar c.match.keys1)
+returns-in-4 c = simp (kind_is bar c.in-4.is)
 
-returns-4 : tie.Need-returns-4
+returns-in-7 : tie.Need-returns-in-7
 unfolding stable_in
-returns-4 c = simp (kind_is plate c.match.keys2)
+returns-in-7 c = simp (kind_is plate c.in-7.is)
 
-returns-5 : tie.Need-returns-5
-returns-5 c = sym (string_stable _ _ _ (omega arith) (omega arith) ∙ and_yes (le-leb _ _ c.before.before.before.before.if1.false))
+returns-in-1-to-3 : tie.Need-returns-in-1-to-3
+returns-in-1-to-3 c = sym (string_stable _ _ _ (omega arith) (omega arith) ∙ and_yes (le-leb _ _ c.before.before.if-q-gt-D.false))
 
-returns-6 : tie.Need-returns-6
-returns-6 c = sym (membrane_stable _ _ _ (omega arith) (omega arith) ∙ and_yes (le-leb _ _ c.if6.true))
+returns-then-q-le-D : tie.Need-returns-then-q-le-D
+returns-then-q-le-D c = sym (membrane_stable _ _ _ (omega arith) (omega arith) ∙ and_yes (le-leb _ _ c.if-q-le-D.true))
 
-returns-7 : tie.Need-returns-7
-returns-7 c = sym (membrane_stable _ _ _ (omega arith) (omega arith) ∙ and_no _ (lt-leb _ _ c.if6.false))
+returns-else-q-le-D : tie.Need-returns-else-q-le-D
+returns-else-q-le-D c = sym (membrane_stable _ _ _ (omega arith) (omega arith) ∙ and_no _ (lt-leb _ _ c.if-q-le-D.false))
 
-returns-8 : tie.Need-returns-8
+returns-in_default : tie.Need-returns-in_default
 unfolding stable_in
-returns-8 c = simp (kind_none c.before.before.before.before.args.kind (λ l. omega arith))
+returns-in_default c = simp (kind_none c.before.before.before.args.kind (λ l. omega arith))
 
-returns-9 : tie.Need-returns-9
+returns-in_default-2 : tie.Need-returns-in_default-2
 unfolding stable_in
-returns-9 c = simp (kind_none c.before.before.before.before.before.before.args.kind (λ l. omega arith))
+returns-in_default-2 c = simp (kind_none c.before.before.before.args.kind (λ l. omega arith))
 
-pub is-stable-spec : {M : Type 1} → statement M
-is-stable-spec =
+pub is_stable_spec : {M : Type 1} → statement M
+is_stable_spec =
     tie.close
     (tie.spec
-    returns
-    returns-2
-    mul-result
-    add-result
-    mul-result-2
-    mul-result-3
-    add-result-2
-    mul-if6
-    returns-3
-    returns-4
-    returns-5
-    returns-6
-    returns-7
-    returns-8
-    returns-9)
+    returns-then-q-gt-D
+    returns-then-m-gt-D
+    overflow_mul-result
+    overflow_add-result
+    overflow_mul-result-in-7
+    overflow_mul-result-in-7-2
+    overflow_add-result-in-7
+    overflow_mul-q
+    returns-in-4
+    returns-in-7
+    returns-in-1-to-3
+    returns-then-q-le-D
+    returns-else-q-le-D
+    returns-in_default
+    returns-in_default-2)

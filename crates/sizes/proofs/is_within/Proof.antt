@@ -5,11 +5,11 @@ use Rattle.scheme.proofs.Laws.Bools.{and_yes, and_no}
 use Rattle.sizes.proofs.is_within.Statement.{statement}
 use Rattle.sizes.proofs.is_within.Tie as tie
 
-returns : tie.Need-returns
-returns c = sym (and_yes (le-leb _ _ c.if1.true))
+returns-then-a-n : tie.Need-returns-then-a-n
+returns-then-a-n c = sym (and_yes (le-leb _ _ c.if-a-n.true))
 
-returns-2 : tie.Need-returns-2
-returns-2 c = sym (and_no _ (lt-leb _ _ c.if1.false))
+returns-else-a-n : tie.Need-returns-else-a-n
+returns-else-a-n c = sym (and_no _ (lt-leb _ _ c.if-a-n.false))
 
-pub is-within-spec : {M : Type 1} → statement M
-is-within-spec = tie.close (tie.spec returns returns-2)
+pub is_within_spec : {M : Type 1} → statement M
+is_within_spec = tie.close (tie.spec returns-then-a-n returns-else-a-n)

@@ -14,9 +14,9 @@ use Rattle.sizes.proofs.points_of.Tie as tie
 within_word : {a b : ℕ} → a ≤ 1024 → b ≤ 1024 → a * b < 2 ^ 64
 within_word {a} {b} x y = omega (arith, mul-le-mul x y)
 
-module _ (c : tie.Then1) where
+module _ (c : tie.Then-has_size) where
   size : in_table c.before.before.args.g ≡ true
-  size = sym c.before.has-size.ensures ∙ c.if1.true
+  size = sym c.before.has_size.ensures ∙ c.if-has_size.true
 
   few_columns : c.before.before.args.g.columns ≤ 1024
   few_columns = (sized _ _ _ size).columns_high
@@ -28,17 +28,17 @@ module _ (c : tie.Then1) where
   in_table_lem : {n : ℕ} → n ≡ points c.before.before.args.g → n ≡ points_of c.before.before.args.g
   in_table_lem e = e ∙ sym (ap (λ (t : Bool). cond t (points c.before.before.args.g) 0) size)
 
-has-size-requires : tie.Need-has-size-requires
-has-size-requires c κs = tt
+has_size-requires : tie.Need-has_size-requires
+has_size-requires c κs = tt
 
-mul-result : tie.Need-overflow-mul-result
-mul-result c = search (within_word, few_columns c.before, few_rows c.before)
+overflow_mul-result : tie.Need-overflow_mul-result
+overflow_mul-result c = search (within_word, few_columns c.before, few_rows c.before)
 
-returns : tie.Need-returns
-returns c = in_table_lem c.before (search mul_comm)
+returns-then-has_size : tie.Need-returns-then-has_size
+returns-then-has_size c = in_table_lem c.before (search mul_comm)
 
-returns-2 : tie.Need-returns-2
-returns-2 c = sym (ap (λ (t : Bool). cond t (points c.before.before.args.g) 0) (sym c.before.has-size.ensures ∙ c.if1.false))
+returns-else-has_size : tie.Need-returns-else-has_size
+returns-else-has_size c = sym (ap (λ (t : Bool). cond t (points c.before.before.args.g) 0) (sym c.before.has_size.ensures ∙ c.if-has_size.false))
 
-pub points-of-spec : {M : Type 1} → statement M
-points-of-spec = tie.close (tie.spec has-size-requires mul-result returns returns-2)
+pub points_of_spec : {M : Type 1} → statement M
+points_of_spec = tie.close (tie.spec has_size-requires overflow_mul-result returns-then-has_size returns-else-has_size)

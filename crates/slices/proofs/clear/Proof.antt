@@ -9,47 +9,47 @@ use Rattle.slices.proofs.SliceLaws.{Passed, passed_none, passed-more, cleared}
 use Rattle.slices.proofs.clear.Statement.{statement}
 use Rattle.slices.proofs.clear.Tie as tie
 
-abbrev invariant-loop : tie.invariant-loop
-invariant-loop xs₀ k₀ xs k = Passed (λ j. pos 0) xs₀ xs k
+abbrev invariant-loop-k : tie.invariant-loop-k
+invariant-loop-k xs₀ k₀ xs k = Passed (λ j. pos 0) xs₀ xs k
 
-abbrev decreases-loop : tie.decreases-loop
-decreases-loop xs₀ k₀ xs k = length xs₀ - k
+abbrev decreases-loop-k : tie.decreases-loop-k
+decreases-loop-k xs₀ k₀ xs k = length xs₀ - k
 
-loop-holds : tie.Need-loop-init invariant-loop decreases-loop
-loop-holds c = passed_none _ _
+loop-k-init : tie.Need-loop-k-init invariant-loop-k decreases-loop-k
+loop-k-init c = passed_none _ _
 
-mul-xs : tie.Need-overflow-mul-xs invariant-loop decreases-loop
-mul-xs c = search rules
+offset_bounds-xs-k : tie.Need-offset_bounds-xs-k invariant-loop-k decreases-loop-k
+offset_bounds-xs-k c = search rules
 
-slice-set-of-xs : tie.Need-slice-set-of-xs invariant-loop decreases-loop
-slice-set-of-xs c = search rules
+slice_set_of-xs : tie.Need-slice_set_of-xs invariant-loop-k decreases-loop-k
+slice_set_of-xs c = search rules
 
-add-k : tie.Need-overflow-add-k invariant-loop decreases-loop
-add-k c = search rules
+overflow_add-k : tie.Need-overflow_add-k invariant-loop-k decreases-loop-k
+overflow_add-k c = search rules
 
-loop-less : tie.Need-loop-smaller invariant-loop decreases-loop
-loop-less c = search rules
+loop-k-smaller : tie.Need-loop-k-smaller invariant-loop-k decreases-loop-k
+loop-k-smaller c = search rules
 
-loop-again : tie.Need-loop-preserved invariant-loop decreases-loop
-loop-again c = let p = c.before.loop.invariant in passed-more p (omega (arith, p.long)) _ refl
+loop-k-preserved : tie.Need-loop-k-preserved invariant-loop-k decreases-loop-k
+loop-k-preserved c = let p = c.before.loop-k.invariant in passed-more p (omega (arith, p.long)) _ refl
 
-same_length : tie.Need-same-length invariant-loop decreases-loop
-same_length c = search rules
+shape_of-xs : tie.Need-shape_of-xs invariant-loop-k decreases-loop-k
+shape_of-xs c = search rules
 
-returns : tie.Need-returns invariant-loop decreases-loop
-returns c = let p = c.before.loop.invariant in cleared (omega (arith, p.long)) p
+returns : tie.Need-returns invariant-loop-k decreases-loop-k
+returns c = let p = c.before.loop-k.invariant in cleared (omega (arith, p.long)) p
 
 pub clear_spec : {M : Type 1} → statement M
 clear_spec =
     tie.close
     (tie.spec
-    invariant-loop
-    decreases-loop
-    loop-holds
-    mul-xs
-    slice-set-of-xs
-    add-k
-    loop-less
-    loop-again
-    same_length
+    invariant-loop-k
+    decreases-loop-k
+    loop-k-init
+    offset_bounds-xs-k
+    slice_set_of-xs
+    overflow_add-k
+    loop-k-smaller
+    loop-k-preserved
+    shape_of-xs
     returns)

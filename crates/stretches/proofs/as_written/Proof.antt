@@ -16,5 +16,5 @@ returns c =
       write = c.before.args.wanted;
     }
 
-pub as-written-spec : {M : Type 1} → statement M
-as-written-spec = tie.close (tie.spec returns)
+pub as_written_spec : {M : Type 1} → statement M
+as_written_spec = tie.close (tie.spec returns)

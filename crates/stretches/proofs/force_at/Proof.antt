@@ -11,31 +11,31 @@ use Rattle.stretches.proofs.force_at.Statement.{statement}
 use Rattle.stretches.proofs.force_at.Tie as tie
 
 -- the hit is at a point
-module _ (c : tie.After-known-told) where
+module _ (c : tie.In-At) where
   abbrev start : tie.Start
-  start = c.before.before.before
+  start = c.before
 
   abbrev struck : Hit
-  struck = At c.before.hit.given.0.0 c.before.hit.given.0.1.0
+  struck = At c.in-At.point c.in-At.force
 
   hit-is : force_of start.args.hit start.args.at ≡ force_of struck start.args.at
-  hit-is = ap (λ (h : Hit). force_of h start.args.at) c.before.hit.given.1
+  hit-is = ap (λ (h : Hit). force_of h start.args.at) c.in-At.is
 
-enum-known-hit : tie.Need-enum-known-hit
-enum-known-hit c = search rules
+enum_known-hit : tie.Need-enum_known-hit
+enum_known-hit c = search rules
 
-enum_told : tie.Need-enum-told
-enum_told c = search rules
+enum_told-1 : tie.Need-enum_told-1
+enum_told-1 c = search rules
 
-returns : tie.Need-returns
-returns c = ap (λ (h : Hit). force_of h c.before.before.args.at) (sym c.enum_told.given.1)
+returns-in_default : tie.Need-returns-in_default
+returns-in_default c = ap (λ (h : Hit). force_of h c.before.args.at) (sym c.in_default.is)
 
-returns-2 : tie.Need-returns-2
-returns-2 c =
-    to_z-of_z w64 _ (search rules) ∙ sym (force_there _ _ _ c.if1.true) ∙ sym (hit-is c.before)
+returns-then-at-point : tie.Need-returns-then-at-point
+returns-then-at-point c =
+    to_z-of_z w64 _ (search rules) ∙ sym (force_there _ _ _ c.if-at-point.true) ∙ sym (hit-is c.before)
 
-returns-3 : tie.Need-returns-3
-returns-3 c = sym (force_away _ _ _ c.if1.false) ∙ sym (hit-is c.before)
+returns-else-at-point : tie.Need-returns-else-at-point
+returns-else-at-point c = sym (force_away _ _ _ c.if-at-point.false) ∙ sym (hit-is c.before)
 
-pub force-at-spec : {M : Type 1} → statement M
-force-at-spec = tie.close (tie.spec enum-known-hit enum_told returns returns-2 returns-3)
+pub force_at_spec : {M : Type 1} → statement M
+force_at_spec = tie.close (tie.spec enum_known-hit enum_told-1 returns-in_default returns-then-at-point returns-else-at-point)

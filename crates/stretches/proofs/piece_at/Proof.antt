@@ -5,32 +5,32 @@ use lib.IntN.{pos}
 use Rattle.stretches.proofs.piece_at.Statement.{statement}
 use Rattle.stretches.proofs.piece_at.Tie as tie
 
-piece-end-requires : tie.Need-piece-end-requires
-piece-end-requires c κs = tt
+piece_end-end-requires : tie.Need-piece_end-end-requires
+piece_end-end-requires c κs = tt
 
-returns : tie.Need-returns
-returns c =
+returns-then-in_place : tie.Need-returns-then-in_place
+returns-then-in_place c =
     let e = c.before in
     let a = e.before.args in
     λ j. record {
       from = a.at;
-      to = e.piece-end.ensures j;
+      to = e.piece_end-end.ensures j;
       force = pos 0;
-      base = cond (sym c.if1.true j) a.at 0;
+      base = cond (sym c.if-in_place.true j) a.at 0;
       write = a.write;
     }
 
-returns-2 : tie.Need-returns-2
-returns-2 c =
+returns-else-in_place : tie.Need-returns-else-in_place
+returns-else-in_place c =
     let e = c.before in
     let a = e.before.args in
     λ j. record {
       from = a.at;
-      to = e.piece-end.ensures j;
+      to = e.piece_end-end.ensures j;
       force = pos 0;
-      base = cond (sym c.if1.false j) a.at 0;
+      base = cond (sym c.if-in_place.false j) a.at 0;
       write = a.write;
     }
 
-pub piece-at-spec : {M : Type 1} → statement M
-piece-at-spec = tie.close (tie.spec piece-end-requires returns returns-2)
+pub piece_at_spec : {M : Type 1} → statement M
+piece_at_spec = tie.close (tie.spec piece_end-end-requires returns-then-in_place returns-else-in_place)

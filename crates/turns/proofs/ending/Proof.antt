@@ -6,11 +6,11 @@ use Rattle.types.specs.declared.Refusal.TheVariants.{Nothing, NextBeyond}
 use Rattle.turns.proofs.ending.Statement.{statement}
 use Rattle.turns.proofs.ending.Tie as tie
 
-returns : tie.Need-returns
-returns c = sym (ap (λ (t : Bool). cond t NextBeyond Nothing) (lt-ltb c.before.args.done c.before.args.places c.if1.true))
+returns-then-done-places : tie.Need-returns-then-done-places
+returns-then-done-places c = sym (ap (λ (t : Bool). cond t NextBeyond Nothing) (lt-ltb c.before.args.done c.before.args.places c.if-done-places.true))
 
-returns-2 : tie.Need-returns-2
-returns-2 c = sym (ap (λ (t : Bool). cond t NextBeyond Nothing) (le-ltb c.before.args.done c.before.args.places c.if1.false))
+returns-else-done-places : tie.Need-returns-else-done-places
+returns-else-done-places c = sym (ap (λ (t : Bool). cond t NextBeyond Nothing) (le-ltb c.before.args.done c.before.args.places c.if-done-places.false))
 
-pub ending-spec : {M : Type 1} → statement M
-ending-spec = tie.close (tie.spec returns returns-2)
+pub ending_spec : {M : Type 1} → statement M
+ending_spec = tie.close (tie.spec returns-then-done-places returns-else-done-places)

@@ -13,11 +13,11 @@ later : (h : Hit) (j : ℕ) → (j ≡ 0 → ⊥) → Absent ≡ hit_after h j
 later h zero n = absurd (n refl)
 later h (suc j) n = refl
 
-returns : tie.Need-returns
-returns c = search rules
+returns-then-j-eq0 : tie.Need-returns-then-j-eq0
+returns-then-j-eq0 c = search rules
 
-returns-2 : tie.Need-returns-2
-returns-2 c = later c.before.args.hit c.before.args.j c.if1.false
+returns-else-j-eq0 : tie.Need-returns-else-j-eq0
+returns-else-j-eq0 c = later c.before.args.hit c.before.args.j c.if-j-eq0.false
 
-pub hit-after-spec : {M : Type 1} → statement M
-hit-after-spec = tie.close (tie.spec returns returns-2)
+pub hit_after_spec : {M : Type 1} → statement M
+hit_after_spec = tie.close (tie.spec returns-then-j-eq0 returns-else-j-eq0)

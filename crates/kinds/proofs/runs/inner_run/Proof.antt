@@ -5,23 +5,23 @@ use Rattle.kinds.specs.Runs.{inner_run}
 use Rattle.kinds.proofs.runs.inner_run.Statement.{statement}
 use Rattle.kinds.proofs.runs.inner_run.Tie as tie
 
+returns-then-b-eq0 : tie.Need-returns-then-b-eq0
+unfolding inner_run
+returns-then-b-eq0 c = simp (eq-eqb _ _ c.if-b-eq0.true)
+
+overflow_add-b : tie.Need-overflow_add-b
+overflow_add-b c = search rules
+
+returns-then-b-r : tie.Need-returns-then-b-r
+unfolding inner_run
+returns-then-b-r c = simp (ne_eqb _ _ c.before.if-b-eq0.false, eq-eqb _ _ c.if-b-r.true)
+
+overflow_sub-result : tie.Need-overflow_sub-result
+overflow_sub-result c = search rules
+
 returns : tie.Need-returns
 unfolding inner_run
-returns c = simp (eq-eqb _ _ c.if1.true)
+returns c = simp (ne_eqb _ _ c.before.if-b-eq0.false, ne_eqb _ _ c.if-b-r.false)
 
-add-if2 : tie.Need-overflow-add-if2
-add-if2 c = search rules
-
-returns-2 : tie.Need-returns-2
-unfolding inner_run
-returns-2 c = simp (ne_eqb _ _ c.before.if1.false, eq-eqb _ _ c.if2.true)
-
-sub-t5 : tie.Need-overflow-sub-t5
-sub-t5 c = search rules
-
-returns-3 : tie.Need-returns-3
-unfolding inner_run
-returns-3 c = simp (ne_eqb _ _ c.before.if1.false, ne_eqb _ _ c.if2.false)
-
-pub inner-run-spec : {M : Type 1} → statement M
-inner-run-spec = tie.close (tie.spec returns add-if2 returns-2 sub-t5 returns-3)
+pub inner_run_spec : {M : Type 1} → statement M
+inner_run_spec = tie.close (tie.spec returns-then-b-eq0 overflow_add-b returns-then-b-r overflow_sub-result returns)

@@ -12,47 +12,47 @@ use Rattle.kinds.proofs.runs.is_round_edge.Tie as tie
 small : (n : ℕ) → n ≤ 63 → n * n < 3970
 small n h = lt_of_le_of_lt (mul-le-mul h h) (lit< tt)
 
-sub-last : tie.Need-overflow-sub-last
-sub-last c = search rules
+overflow_sub-last : tie.Need-overflow_sub-last
+overflow_sub-last c = search rules
 
-mul-result : tie.Need-overflow-mul-result
-mul-result c = search rules
+overflow_mul-result : tie.Need-overflow_mul-result
+overflow_mul-result c = search rules
 
-sub-result : tie.Need-overflow-sub-result
-sub-result c = search rules
+overflow_sub-result : tie.Need-overflow_sub-result
+overflow_sub-result c = search rules
 
-mul-result-2 : tie.Need-overflow-mul-result-2
-mul-result-2 c = omega (arith, small (c.args.c - 1) (omega arith), offset-ends c.args.c c.args.a (search rules))
+overflow_mul-result-2 : tie.Need-overflow_mul-result-2
+overflow_mul-result-2 c = omega (arith, small (c.args.c - 1) (omega arith), offset-ends c.args.c c.args.a (search rules))
 
-mul-result-3 : tie.Need-overflow-mul-result-3
-mul-result-3 c = omega (arith, small (c.args.c - 1) (omega arith))
+overflow_mul-result-3 : tie.Need-overflow_mul-result-3
+overflow_mul-result-3 c = omega (arith, small (c.args.c - 1) (omega arith))
 
-mul-result-4 : tie.Need-overflow-mul-result-4
-mul-result-4 c = search rules
+overflow_mul-result-4 : tie.Need-overflow_mul-result-4
+overflow_mul-result-4 c = search rules
 
-sub-result-2 : tie.Need-overflow-sub-result-2
-sub-result-2 c = search rules
+overflow_sub-result-2 : tie.Need-overflow_sub-result-2
+overflow_sub-result-2 c = search rules
 
-mul-result-5 : tie.Need-overflow-mul-result-5
-mul-result-5 c = omega (arith, small (c.args.c - 1) (omega arith), offset-ends c.args.c c.args.b (search rules))
+overflow_mul-result-5 : tie.Need-overflow_mul-result-5
+overflow_mul-result-5 c = omega (arith, small (c.args.c - 1) (omega arith), offset-ends c.args.c c.args.b (search rules))
 
-sub-result-3 : tie.Need-overflow-sub-result-3
-sub-result-3 c = omega (arith, offset-ends c.args.c c.args.b (search rules))
+overflow_sub-result-3 : tie.Need-overflow_sub-result-3
+overflow_sub-result-3 c = omega (arith, offset-ends c.args.c c.args.b (search rules))
 
 returns : tie.Need-returns
 returns c = round_edge-ends _ _ _ (search rules) (search rules)
 
-pub is-round-edge-spec : {M : Type 1} → statement M
-is-round-edge-spec =
+pub is_round_edge_spec : {M : Type 1} → statement M
+is_round_edge_spec =
     tie.close
     (tie.spec
-    sub-last
-    mul-result
-    sub-result
-    mul-result-2
-    mul-result-3
-    mul-result-4
-    sub-result-2
-    mul-result-5
-    sub-result-3
+    overflow_sub-last
+    overflow_mul-result
+    overflow_sub-result
+    overflow_mul-result-2
+    overflow_mul-result-3
+    overflow_mul-result-4
+    overflow_sub-result-2
+    overflow_mul-result-5
+    overflow_sub-result-3
     returns)

@@ -13,43 +13,43 @@ use Rattle.kinds.proofs.runs.straight_run.Statement.{statement}
 use Rattle.kinds.proofs.runs.straight_run.Tie as tie
 
 -- past the two tests
-run_is : (c : tie.Else2) → let a = c.before.before.args in
+run_is : (c : tie.Else-r-b) → let a = c.before.before.args in
     (a.kind ≡ 6 → ⊥) → straight_run a.kind a.c a.r a.b ≡ run_in (kind_of a.kind) a.c a.r a.b
-run_is c n = straight_is _ _ _ _ (omega (arith, c.before.if1.false)) c.if2.false n
+run_is c n = straight_is _ _ _ _ (omega (arith, c.before.if-c-eq0.false)) c.if-r-b.false n
 
-returns : tie.Need-returns
-returns c = sym (straight_none _ _ _ _ c.if1.true)
+returns-then-c-eq0 : tie.Need-returns-then-c-eq0
+returns-then-c-eq0 c = sym (straight_none _ _ _ _ c.if-c-eq0.true)
 
-returns-2 : tie.Need-returns-2
-returns-2 c = sym (straight_past _ _ _ _ c.if2.true)
+returns-then-r-b : tie.Need-returns-then-r-b
+returns-then-r-b c = sym (straight_past _ _ _ _ c.if-r-b.true)
 
-sub-last : tie.Need-overflow-sub-last
-sub-last c = search rules
+overflow_sub-last : tie.Need-overflow_sub-last
+overflow_sub-last c = search rules
 
-inner-run-requires : tie.Need-inner-run-requires
-inner-run-requires c κs = search rules
+inner_run-requires : tie.Need-inner_run-requires
+inner_run-requires c κs = search rules
 
 -- neither of two other numbers is 6
 other : {m n k : ℕ} → (m ≡ 6 → ⊥) → (n ≡ 6 → ⊥) → (k ≡ m) ⊎ (k ≡ n) → k ≡ 6 → ⊥
 other a b (inl e) f = a (sym e ∙ f)
 other a b (inr e) f = b (sym e ∙ f)
 
-returns-3 : tie.Need-returns-3
-returns-3 c =
-    sym (run_is c.before (other (eqb-false 1 6 refl) (eqb-false 4 6 refl) c.match.keys1) ∙ ends-run _ _ _ c.match.keys1)
+returns-in-1 : tie.Need-returns-in-1
+returns-in-1 c =
+    sym (run_is c.before (other (eqb-false 1 6 refl) (eqb-false 4 6 refl) c.in-1.is) ∙ ends-run _ _ _ c.in-1.is)
 
-returns-4 : tie.Need-returns-4
+returns-in-2 : tie.Need-returns-in-2
 unfolding run_in
-returns-4 c = simp (run_is c.before (λ e. omega (arith, c.match.keys2)), kind_is halfFreeString c.match.keys2)
+returns-in-2 c = simp (run_is c.before (λ e. omega (arith, c.in-2.is)), kind_is halfFreeString c.in-2.is)
 
-returns-5 : tie.Need-returns-5
+returns-in-3 : tie.Need-returns-in-3
 unfolding run_in
-returns-5 c = simp (run_is c.before (λ e. omega (arith, c.match.keys3)), kind_is freeString c.match.keys3)
+returns-in-3 c = simp (run_is c.before (λ e. omega (arith, c.in-3.is)), kind_is freeString c.in-3.is)
 
-returns-6 : tie.Need-returns-6
-returns-6 c =
-    let k = c.before.match.keys4 in
-    c.inner-run.ensures ∙ sym (run_is c.before.before (other (eqb-false 5 6 refl) (eqb-false 7 6 refl) k) ∙ ring_run _ _ _ k)
+returns-in-5 : tie.Need-returns-in-5
+returns-in-5 c =
+    let k = c.before.in-5.is in
+    c.inner_run.ensures ∙ sym (run_is c.before.before (other (eqb-false 5 6 refl) (eqb-false 7 6 refl) k) ∙ ring_run _ _ _ k)
 
 -- past four numbers, and past three more
 past-four : (k : ℕ) → (k ≡ 1 → ⊥) → (k ≡ 2 → ⊥) → (k ≡ 3 → ⊥) → (k ≡ 4 → ⊥) → 1 ≤ k → 4 < k
@@ -58,23 +58,23 @@ past-four k a b c d l = omega arith
 past-seven : (k : ℕ) → (k ≡ 5 → ⊥) → (k ≡ 6 → ⊥) → (k ≡ 7 → ⊥) → 4 < k → 7 < k
 past-seven k a b c l = omega arith
 
-returns-7 : tie.Need-returns-7
-returns-7 c =
+returns-in_default : tie.Need-returns-in_default
+returns-in_default c =
     let k = c.before.before.before.args.kind in
-    let r = c.match.rest in
+    let r = c.in_default.in_default-own.rest in
     sym (straight_other k _ _ _ (λ six l. past-seven k (λ e. r.1 (inl e)) six (λ e. r.1 (inr e))
     (past-four k (λ e. r.0.0.0.1 (inl e)) r.0.0.1 r.0.1 (λ e. r.0.0.0.1 (inr e)) l)))
 
-pub straight-run-spec : {M : Type 1} → statement M
-straight-run-spec =
+pub straight_run_spec : {M : Type 1} → statement M
+straight_run_spec =
     tie.close
     (tie.spec
-    returns
-    returns-2
-    sub-last
-    inner-run-requires
-    returns-3
-    returns-4
-    returns-5
-    returns-6
-    returns-7)
+    returns-then-c-eq0
+    returns-then-r-b
+    overflow_sub-last
+    inner_run-requires
+    returns-in-1
+    returns-in-2
+    returns-in-3
+    returns-in-5
+    returns-in_default)
