@@ -130,6 +130,63 @@ def read(text):
     return out
 
 
+def changes(before, after, words):
+    """What becomes what, token by token, without brackets and dots: [(tokens gone, tokens come, the token before, the token after)]."""
+    a = [words.get(t, t) for t in plain(joined(before))]
+    b = [words.get(t, t) for t in plain(joined(after))]
+    out = []
+    for op, i, j, k, l in difflib.SequenceMatcher(None, a, b, autojunk=False).get_opcodes():
+        if op != "equal":
+            out.append((a[i:j], b[k:l], a[i - 1:i], a[j:j + 1]))
+    return out
+
+
+def joined(text):
+    """Without the paths that both spellings write out."""
+    for path, name in PATHS.items():
+        text = re.sub(re.escape(path) + r"(?![\w'-])", name, text)
+    return text
+
+
+def compare(e, was, now, whole, local, commit):
+    """Whether today's edit makes of today's files what COMMIT's made of COMMIT's; what differs is printed."""
+    crate = "/".join(e.split("/")[:2])
+    ends = []
+    for pairs, text_of in ((was, lambda p: git_show(commit, p)), (now, today)):
+        made, begun = {}, {}
+        for file, old, new in pairs:
+            p = f"{crate}/{file}"
+            text = made[p] if p in made else begun.setdefault(p, text_of(p))
+            if text.count(old) != 1:
+                print(f"{e}: {text.count(old)} times: {old}")
+                return False
+            made[p] = text.replace(old, new)
+            if text == made[p] or new.count("\n"):
+                print(f"{e}: changes nothing: {old}")
+        ends.append((begun, made))
+    if list(ends[0][0]) != list(ends[1][0]):
+        print(f"{e}: other files: {list(ends[0][0])}, {list(ends[1][0])}")
+        return False
+    good = True
+    for p in ends[0][0]:
+        words = dict(whole)
+        words.update(best(local.get(p, {})))
+        a = lines_changed(ends[0][0][p], ends[0][1][p], words)
+        b = lines_changed(ends[1][0][p], ends[1][1][p], {})
+        if a != b:
+            good = False
+            print(f"{e}: {p}\n    was {a}\n    now {b}")
+    return good
+
+
+def lines_changed(before, after, words):
+    out = []
+    for x, y in zip(before.splitlines(), after.splitlines()):
+        if x != y:
+            out += [(" ".join(g), " ".join(c), " ".join(l), " ".join(r)) for g, c, l, r in changes(x, y, words)]
+    return out
+
+
 def main():
     args = sys.argv[1:]
     check = args[:1] == ["check"]
@@ -151,6 +208,9 @@ def main():
     for e in edits:
         crate = "/".join(e.split("/")[:2])
         was = read(git_show(commit, e))
+        if check:
+            left += not compare(e, was, read(today(e)), whole, local, commit)
+            continue
         lines, bad, made = [], [], {}
         said = None
         for k, (file, old, new) in enumerate(was):
@@ -177,7 +237,7 @@ def main():
             print(e)
             for b in bad:
                 print("    " + b)
-        elif not check:
+        else:
             with open(os.path.join(TOP, e), "w", encoding="utf-8") as f:
                 f.write("\n".join(lines) + "\n")
     print(f"{len(edits)} edits, {left} left")
