@@ -44,7 +44,7 @@ loop-holds c =
 value-requires : tie.Need-value-requires invariant-loop decreases-loop
 value-requires c κs =
     let l = c.before.before in
-    ((s l).requires.0, (s l).requires.1, l.before.step_of_lem.ensures, omega (arith, c.if1.true))
+    ((s l).requires.0, (s l).requires.1, l.before.step_of.ensures, omega (arith, c.if1.true))
 
 put-both-requires : tie.Need-put-both-requires invariant-loop decreases-loop
 put-both-requires c κs =
