@@ -40,19 +40,19 @@ offset_bounds-edges-row : tie.Need-offset_bounds-edges-row invariant-loop-row de
 offset_bounds-edges-row c = let h = in_row c.before in search rules
 
 bounds-edges-row : tie.Need-bounds-edges-row invariant-loop-row decreases-loop-row
-bounds-edges-row c = omega (arith, in_row c.before)
+bounds-edges-row c = omega (arith, in_row c.before.before)
 
 point_at-requires-in-loop-row : tie.Need-point_at-requires-in-loop-row invariant-loop-row decreases-loop-row
-point_at-requires-in-loop-row c κs = in_row c.before
+point_at-requires-in-loop-row c κs = in_row c.before.before
 
 overflow_add-edges : tie.Need-overflow_add-edges invariant-loop-row decreases-loop-row
-overflow_add-edges c = let h = in_row c.before.before in search rules
+overflow_add-edges c = let h = in_row c.before.before.before in search rules
 
 offset_bounds-edges-row-in-loop-row : tie.Need-offset_bounds-edges-row-in-loop-row invariant-loop-row decreases-loop-row
-offset_bounds-edges-row-in-loop-row c = let h = in_row c.before.before in search rules
+offset_bounds-edges-row-in-loop-row c = let h = in_row c.before.before.before in search rules
 
 bounds-edges-row-in-loop-row : tie.Need-bounds-edges-row-in-loop-row invariant-loop-row decreases-loop-row
-bounds-edges-row-in-loop-row c = omega (arith, in_row c.before.before)
+bounds-edges-row-in-loop-row c = omega (arith, in_row c.before.before.before)
 
 overflow_add-row : tie.Need-overflow_add-row invariant-loop-row decreases-loop-row
 overflow_add-row c = search rules
@@ -62,14 +62,14 @@ loop-row-smaller c = search rules
 
 loop-row-preserved : tie.Need-loop-row-preserved invariant-loop-row decreases-loop-row
 loop-row-preserved c =
-    let p = c.before in
+    let p = c.before.before in
     let r = p.before in
     let g = (loop r).args.g in
     let row = (loop r).loop-row.row in (
       search rules,
       passed-more (loop r).loop-row.invariant.1 (in_row r) _ _
-          (p.point_at.ensures ∙ ap (λ (x : Run). point_at g.columns row x.from) r.row-run.ensures)
-          (c.point_at-in-loop-row.ensures ∙ ap (λ (x : Run). point_at g.columns row x.to) r.row-run.ensures),
+          (p.point_at.ensures ∙ ap (λ (x : Run). point_at g.columns row x.from) r.row_run-run.ensures)
+          (c.point_at-in-loop-row.ensures ∙ ap (λ (x : Run). point_at g.columns row x.to) r.row_run-run.ensures),
     )
 
 returns : tie.Need-returns invariant-loop-row decreases-loop-row

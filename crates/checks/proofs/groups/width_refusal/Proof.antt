@@ -19,12 +19,12 @@ is_within-requires c κs = tt
 returns-then-is_within : tie.Need-returns-then-is_within
 returns-then-is_within c =
     let a = c.args in
-    passed_here HalfWidth [] (wrong_width a.g a.half-width) (ap not (sym c.is_within.ensures ∙ c.if-is_within.true)) refl
+    passed_here HalfWidth [] (wrong_width a.g a.half_width) (ap not (sym c.is_within.ensures ∙ c.if-is_within.true)) refl
 
 returns-else-is_within : tie.Need-returns-else-is_within
 returns-else-is_within c =
     let a = c.args in
-    refused_here HalfWidth [] (wrong_width a.g a.half-width) (ap not (sym c.is_within.ensures ∙ c.if-is_within.false))
+    refused_here HalfWidth [] (wrong_width a.g a.half_width) (ap not (sym c.is_within.ensures ∙ c.if-is_within.false))
 
 pub width_refusal_spec : {M : Type 1} → statement M
 width_refusal_spec = tie.close (tie.spec overflow_sub-g is_within-requires returns-then-is_within returns-else-is_within)

@@ -54,13 +54,13 @@ returns-then-wrong c =
     further c.before (refused_here WrongLength (hit s ++ pick s) s.args.wrong c.if-wrong.true)
 
 hit_refusal-r-requires : tie.Need-hit_refusal-r-requires
-hit_refusal-r-requires c κs = size c.before
+hit_refusal-r-requires c κs = size c.before.before
 
 is_nothing-requires-2 : tie.Need-is_nothing-requires-2
 is_nothing-requires-2 c κs = tt
 
 pick_refusal-requires : tie.Need-pick_refusal-requires
-pick_refusal-requires c κs = size c.before.before.before.before.before
+pick_refusal-requires c κs = size c.before.before.before.before.before.before
 
 returns-then-is_nothing : tie.Need-returns-then-is_nothing
 returns-then-is_nothing c =

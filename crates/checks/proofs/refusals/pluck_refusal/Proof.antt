@@ -21,7 +21,7 @@ abbrev hit : tie.Start → List Check
 hit s = hit_checks s.args.g (At s.args.centre s.args.height)
 
 abbrev width : tie.Start → List Check
-width s = width_checks s.args.g s.args.half-width
+width s = width_checks s.args.g s.args.half_width
 
 abbrev after : tie.Start → List Check
 after s = length_checks s.args.wrong ++ (hit s ++ width s)
