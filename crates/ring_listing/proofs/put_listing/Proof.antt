@@ -19,7 +19,7 @@ returns : tie.Need-returns
 returns c =
     let p = c.before.before in
     let t = p.before.before in
-    put_over (put_same (listed _ _ _ _ (sym t.before.is-listed.ensures ∙ t.if1.true)) p.put_all_lem.ensures)
+    put_over (put_same (listed _ _ _ _ (sym t.before.is-listed.ensures ∙ t.if1.true)) p.put_all.ensures)
 
 returns-2 : tie.Need-returns-2
 returns-2 c = put_over (put_same (not_listed _ _ _ _ (sym c.before.is-listed.ensures ∙ c.if1.false)) (put_nothing _ 0))
