@@ -194,12 +194,12 @@ module _ (b : ℕ) where
       (f ∙ ap (λ (x : ℕ). nearest (leading + d) (2 ^ (1059 - x))) (sym (no_sign (omega arith))))
 
   -- and whether what is rounded is past D
-  pub bits_whole : {n : ℕ} → 1006 ≤ b / leading → b / leading ≤ 1023 → n ≡ nearest (leading + digits b) (2 ^ (1059 - b / leading)) → n ≤ D
-      → nearest_whole (of_bits binary64 b) ≡ Is n
+  pub bits_whole : {n : ℕ} → 1006 ≤ b / leading → b / leading ≤ 1023 → n ≡ nearest (leading + digits b) (2 ^ (1059 - b / leading))
+      → n ≤ D → nearest_whole (of_bits binary64 b) ≡ Is n
   bits_whole {n} low high e h = field_middle low high refl e ∙ is_whole n h
 
-  pub bits_above : {n : ℕ} → 1006 ≤ b / leading → b / leading ≤ 1023 → n ≡ nearest (leading + digits b) (2 ^ (1059 - b / leading)) → D < n
-      → nearest_whole (of_bits binary64 b) ≡ Outside
+  pub bits_above : {n : ℕ} → 1006 ≤ b / leading → b / leading ≤ 1023 → n ≡ nearest (leading + digits b) (2 ^ (1059 - b / leading))
+      → D < n → nearest_whole (of_bits binary64 b) ≡ Outside
   bits_above {n} low high e h = field_middle low high refl e ∙ above-whole n h
 
   pub field_large : 1023 < b / leading → b < sign → nearest_whole (of_bits binary64 b) ≡ Outside
