@@ -19,7 +19,7 @@ use Rattle.scheme.specs.Calls.{AfterBlock, accepted, block, block_refused}
 use Rattle.scheme.proofs.Laws.Bools.{and_yes}
 use Rattle.scheme.proofs.Laws.Refusals.{accepted_is}
 use Rattle.scheme.proofs.Laws.Calls.{block-done, block_refused_lem, stands_behind}
-use Rattle.ring_line.specs.declared.types.Numbers.{Numbers}
+use Rattle.ring_line.specs.declared.asked.Numbers.{Numbers}
 use Rattle.ring_setup.specs.declared.Setup.{Setup}
 use Rattle.ring_setup.specs.Numbers.{grid_of, asked_instrument, asked_hit, is_too_large, level_length, setup_of}
 use Rattle.ring_playing.specs.Play.{heard, heard_of, block_at_rest, from_rest, played}

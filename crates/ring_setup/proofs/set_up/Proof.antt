@@ -5,7 +5,7 @@ use Prim.Native.Nat.{ℕ}
 use borrow.Author.Rules.{rules}
 use Rattle.types.specs.declared.Instrument.{Instrument}
 use Rattle.types.specs.declared.Hit.{Hit}
-use Rattle.ring_line.specs.declared.types.Numbers.{Numbers}
+use Rattle.ring_line.specs.declared.asked.Numbers.{Numbers}
 use Rattle.ring_setup.specs.declared.Setup.{Setup}
 use Rattle.ring_setup.specs.Numbers.{asked_instrument, asked_hit, is_too_large, level_length, setup_of}
 use Rattle.ring_setup.proofs.set_up.Statement.{statement}
