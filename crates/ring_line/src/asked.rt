@@ -1,6 +1,6 @@
 // The answer, and the ten numbers in the order of the line.
 
-#[derive(Drop)]
+#[derive(Clone, Copy)]
 pub struct Numbers {
     pub kind: u64,
     pub columns: usize,

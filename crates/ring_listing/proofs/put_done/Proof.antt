@@ -16,21 +16,21 @@ use Rattle.ring_listing.proofs.put_done.Tie as tie
 pair_is : (c : tie.Start) → pair_line c.args.count (to_z w16 c.args.refusal) ≡ pair_line c.args.count (pos c.args.refusal)
 pair_is c = ap (pair_line c.args.count) (to_z_pos w16 c.args.refusal (omega arith))
 
-put-word-requires : tie.Need-put-word-requires
-put-word-requires c κs = let s = c.before.before in omega (arith, done_parts s.args.count s.args.refusal)
+put_word-pair-requires : tie.Need-put_word-pair-requires
+put_word-pair-requires c κs = let s = c.before.before in omega (arith, done_parts s.args.count s.args.refusal)
 
-cast-put-pair : tie.Need-overflow-cast-put-pair
-cast-put-pair c = record { sfits = omega arith }
+overflow_cast-refusal : tie.Need-overflow_cast-refusal
+overflow_cast-refusal c = record { sfits = omega arith }
 
-put-pair-requires : tie.Need-put-pair-requires
+put_pair-requires : tie.Need-put_pair-requires
 unfolding text
-put-pair-requires c κs =
+put_pair-requires c κs =
     let p = c.before.before.before in
     let s = p.before.before.before in
-    omega (arith, p.put_word.ensures.ends, done_parts s.args.count s.args.refusal, ap length (pair_is s))
+    omega (arith, p.put_word-pair.ensures.ends, done_parts s.args.count s.args.refusal, ap length (pair_is s))
 
-same_length : tie.Need-same-length
-same_length c = search rules
+shape_of-out : tie.Need-shape_of-out
+shape_of-out c = search rules
 
 returns : tie.Need-returns
 unfolding done_line text
@@ -38,14 +38,14 @@ returns c =
     let q = c.before.before in
     let p = q.before.before.before.before in
     let s = p.before.before.before in
-    put_put p.put_word.ensures (put_same (pair_is s) q.put-pair.ensures)
+    put_put p.put_word-pair.ensures (put_same (pair_is s) q.put_pair.ensures)
 
-pub put-done-spec : {M : Type 1} → statement M
-put-done-spec =
+pub put_done_spec : {M : Type 1} → statement M
+put_done_spec =
     tie.close
     (tie.spec
-    put-word-requires
-    cast-put-pair
-    put-pair-requires
-    same_length
+    put_word-pair-requires
+    overflow_cast-refusal
+    put_pair-requires
+    shape_of-out
     returns)

@@ -21,39 +21,39 @@ parts : (c : tie.Start) → length (pair_line c.args.number c.args.value)
 parts c = omega (arith, pair_parts c.args.number c.args.value, ap length (value-is c))
 
 -- the texts before each
-abbrev first : tie.After-put-byte-arg → tie.After-put-decimal
+abbrev first : tie.After-put_byte-arg-1 → tie.After-put_decimal-space
 first c = c.before.before.before
 
-abbrev second : tie.After-put-signed-arg → tie.After-put-byte
+abbrev second : tie.After-put_signed-arg-1 → tie.After-put_byte-second
 second c = c.before.before.before
 
-abbrev third : tie.After-put-byte-arg2 → tie.After-put-signed
+abbrev third : tie.After-put_byte-arg-2-1 → tie.After-put_signed-end
 third c = c.before.before.before
 
-abbrev start : tie.After-put-decimal → tie.Start
+abbrev start : tie.After-put_decimal-space → tie.Start
 start c = c.before.before.before
 
-put-decimal-requires : tie.Need-put-decimal-requires
-put-decimal-requires c κs = omega (arith, parts c.before.before)
+put_decimal-space-requires : tie.Need-put_decimal-space-requires
+put_decimal-space-requires c κs = omega (arith, parts c.before.before)
 
-put-byte-requires : tie.Need-put-byte-requires
-put-byte-requires c κs = let p = first c in omega (arith, parts (start p), p.put-decimal.ensures.ends)
+put_byte-second-requires : tie.Need-put_byte-second-requires
+put_byte-second-requires c κs = let p = first c in omega (arith, parts (start p), p.put_decimal-space.ensures.ends)
 
-put-signed-requires : tie.Need-put-signed-requires
-put-signed-requires c κs =
+put_signed-end-requires : tie.Need-put_signed-end-requires
+put_signed-end-requires c κs =
     let q = second c in
     let p = first q.before in
-    omega (arith, parts (start p), p.put-decimal.ensures.ends, q.put_byte.ensures.ends)
+    omega (arith, parts (start p), p.put_decimal-space.ensures.ends, q.put_byte-second.ensures.ends)
 
-put-byte-requires-2 : tie.Need-put-byte-requires-2
-put-byte-requires-2 c κs =
+put_byte-requires : tie.Need-put_byte-requires
+put_byte-requires c κs =
     let r = third c in
     let q = second r.before in
     let p = first q.before in
-    omega (arith, parts (start p), p.put-decimal.ensures.ends, q.put_byte.ensures.ends, r.put-signed.ensures.ends)
+    omega (arith, parts (start p), p.put_decimal-space.ensures.ends, q.put_byte-second.ensures.ends, r.put_signed-end.ensures.ends)
 
-same_length : tie.Need-same-length
-same_length c = search rules
+shape_of-out : tie.Need-shape_of-out
+shape_of-out c = search rules
 
 returns : tie.Need-returns
 unfolding pair_line text
@@ -62,16 +62,16 @@ returns c =
     let r = third e.before in
     let q = second r.before in
     let p = first q.before in
-    let end = put_put (put_same (value-is (start p)) r.put-signed.ensures) e.put-byte2.ensures in
-    put_put p.put-decimal.ensures (put_put q.put_byte.ensures end)
+    let end = put_put (put_same (value-is (start p)) r.put_signed-end.ensures) e.put_byte.ensures in
+    put_put p.put_decimal-space.ensures (put_put q.put_byte-second.ensures end)
 
-pub put-pair-spec : {M : Type 1} → statement M
-put-pair-spec =
+pub put_pair_spec : {M : Type 1} → statement M
+put_pair_spec =
     tie.close
     (tie.spec
-    put-decimal-requires
-    put-byte-requires
-    put-signed-requires
-    put-byte-requires-2
-    same_length
+    put_decimal-space-requires
+    put_byte-second-requires
+    put_signed-end-requires
+    put_byte-requires
+    shape_of-out
     returns)

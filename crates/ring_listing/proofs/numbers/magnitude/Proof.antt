@@ -31,38 +31,38 @@ from-0 (negsuc k) e f = absurd (true≢false e)
 back : (c : tie.Start) → to_z w16 (of_z w16 c.args.v) ≡ c.args.v
 back c = to_z-of_z w16 c.args.v c.ranges.v
 
-below : (c : tie.Then1) → lt_z c.before.args.v (pos 0) ≡ true
-below c = ap (λ (z : ℤ). lt_z z (pos 0)) (sym (back c.before)) ∙ c.if1.true
+below : (c : tie.Then-v-lt0) → lt_z c.args.v (pos 0) ≡ true
+below c = ap (λ (z : ℤ). lt_z z (pos 0)) (sym (back c.before)) ∙ c.if-v-lt0.true
 
-computed : (c : tie.Then1) → negsuc 0 -ℤ to_z w16 (of_z w16 c.before.args.v) ≡ pos (nat_abs c.before.args.v - 1)
-computed c = ap (λ (z : ℤ). negsuc 0 -ℤ z) (back c.before) ∙ less c.before.args.v (below c)
+computed : (c : tie.Then-v-lt0) → negsuc 0 -ℤ to_z w16 (of_z w16 c.args.v) ≡ pos (nat_abs c.args.v - 1)
+computed c = ap (λ (z : ℤ). negsuc 0 -ℤ z) (back c.before) ∙ less c.args.v (below c)
 
-inside : (c : tie.Then1) → SFits w16 (pos (nat_abs c.before.args.v - 1))
-inside c = record { sfits = (size c.before.args.v (below c) c.before.ranges.v).1 }
+inside : (c : tie.Then-v-lt0) → SFits w16 (pos (nat_abs c.args.v - 1))
+inside c = record { sfits = (size c.args.v (below c) c.before.ranges.v).1 }
 
-kept : (c : tie.Then1) → to_z w16 (of_z w16 (negsuc 0 -ℤ to_z w16 (of_z w16 c.before.args.v))) ≡ pos (nat_abs c.before.args.v - 1)
+kept : (c : tie.Then-v-lt0) → to_z w16 (of_z w16 (negsuc 0 -ℤ to_z w16 (of_z w16 c.args.v))) ≡ pos (nat_abs c.args.v - 1)
 kept c = ap (λ (z : ℤ). to_z w16 (of_z w16 z)) (computed c) ∙ to_z-of_z w16 _ (inside c)
 
-sub-result : tie.Need-overflow-sub-result
-sub-result c = subst⁻¹ (SFits w16) (computed c) (inside c)
+overflow_sub-result : tie.Need-overflow_sub-result
+overflow_sub-result c = subst⁻¹ (SFits w16) (computed c) (inside c)
 
-cast-result : tie.Need-overflow-cast-result
-cast-result c = subst⁻¹ (λ (z : ℤ). T (non_neg z) × Fits w64 (nat_abs z)) (kept c) (tt, record { fits = omega (arith, (inside c).sfits) })
+overflow_cast-result : tie.Need-overflow_cast-result
+overflow_cast-result c = subst⁻¹ (λ (z : ℤ). T (non_neg z) × Fits w64 (nat_abs z)) (kept c) (tt, record { fits = omega (arith, (inside c).sfits) })
 
-add-result : tie.Need-overflow-add-result
-add-result c = subst⁻¹ (λ (z : ℤ). Fits w64 (nat_abs z + 1)) (kept c) (record { fits = omega (arith, (inside c).sfits) })
+overflow_add-result : tie.Need-overflow_add-result
+overflow_add-result c = subst⁻¹ (λ (z : ℤ). Fits w64 (nat_abs z + 1)) (kept c) (record { fits = omega (arith, (inside c).sfits) })
 
-returns : tie.Need-returns
-returns c = ap (λ (z : ℤ). nat_abs z + 1) (kept c) ∙ omega (arith, size c.before.args.v (below c) c.before.ranges.v)
+returns-then-v-lt0 : tie.Need-returns-then-v-lt0
+returns-then-v-lt0 c = ap (λ (z : ℤ). nat_abs z + 1) (kept c) ∙ omega (arith, size c.args.v (below c) c.before.ranges.v)
 
-cast-result-2 : tie.Need-overflow-cast-result-2
-cast-result-2 c =
+overflow_cast-result-2 : tie.Need-overflow_cast-result-2
+overflow_cast-result-2 c =
     let s = c.before in
     subst⁻¹ (λ (z : ℤ). T (non_neg z) × Fits w64 (nat_abs z)) (back s)
-    (from-0 s.args.v (ap (λ (z : ℤ). lt_z z (pos 0)) (sym (back s)) ∙ c.if1.false) s.ranges.v)
+    (from-0 s.args.v (ap (λ (z : ℤ). lt_z z (pos 0)) (sym (back s)) ∙ c.if-v-lt0.false) s.ranges.v)
 
-returns-2 : tie.Need-returns-2
-returns-2 c = search rules
+returns : tie.Need-returns
+returns c = search rules
 
-pub magnitude-spec : {M : Type 1} → statement M
-magnitude-spec = tie.close (tie.spec sub-result cast-result add-result returns cast-result-2 returns-2)
+pub magnitude_spec : {M : Type 1} → statement M
+magnitude_spec = tie.close (tie.spec overflow_sub-result overflow_cast-result overflow_add-result returns-then-v-lt0 overflow_cast-result-2 returns)

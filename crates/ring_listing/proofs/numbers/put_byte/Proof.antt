@@ -9,14 +9,14 @@ use lib.Seq.{take-suc-set, drop-set-lt}
 use Rattle.ring_listing.proofs.numbers.put_byte.Statement.{statement}
 use Rattle.ring_listing.proofs.numbers.put_byte.Tie as tie
 
-slice-write-out : tie.Need-slice-write-out
-slice-write-out c = search rules
+bounds-out-at : tie.Need-bounds-out-at
+bounds-out-at c = search rules
 
-add-result : tie.Need-overflow-add-result
-add-result c = search rules
+overflow_add-result : tie.Need-overflow_add-result
+overflow_add-result c = search rules
 
-same_length : tie.Need-same-length
-same_length c = search rules
+shape_of-out : tie.Need-shape_of-out
+shape_of-out c = search rules
 
 returns : tie.Need-returns
 returns c =
@@ -28,5 +28,5 @@ returns c =
       kept = drop-set-lt (a.at + 1) out a.at a.byte (omega arith);
     }
 
-pub put-byte-spec : {M : Type 1} → statement M
-put-byte-spec = tie.close (tie.spec slice-write-out add-result same_length returns)
+pub put_byte_spec : {M : Type 1} → statement M
+put_byte_spec = tie.close (tie.spec bounds-out-at overflow_add-result shape_of-out returns)

@@ -18,23 +18,23 @@ use Rattle.ring_listing.proofs.numbers.put_sign.Tie as tie
 back : (c : tie.Start) → to_z w16 (of_z w16 c.args.v) ≡ c.args.v
 back c = to_z-of_z w16 c.args.v c.ranges.v
 
-minus : (c : tie.Then1) → sign c.before.before.args.v ≡ 45 ∷ []
-minus c = let s = c.before.before in sign_below s.args.v (ap (λ (z : ℤ). lt_z z (pos 0)) (sym (back s)) ∙ c.if1.true)
+minus : (c : tie.Then-v-lt0) → sign c.args.v ≡ 45 ∷ []
+minus c = let s = c.before.before in sign_below s.args.v (ap (λ (z : ℤ). lt_z z (pos 0)) (sym (back s)) ∙ c.if-v-lt0.true)
 
-nothing : (c : tie.Else1) → sign c.before.before.args.v ≡ []
-nothing c = let s = c.before.before in sign-from_0 s.args.v (ap (λ (z : ℤ). lt_z z (pos 0)) (sym (back s)) ∙ c.if1.false)
+nothing : (c : tie.Else-v-lt0) → sign c.args.v ≡ []
+nothing c = let s = c.before.before in sign-from_0 s.args.v (ap (λ (z : ℤ). lt_z z (pos 0)) (sym (back s)) ∙ c.if-v-lt0.false)
 
-put-byte-requires : tie.Need-put-byte-requires
-put-byte-requires c κs = omega (arith, ap length (minus c.before))
+put_byte-requires : tie.Need-put_byte-requires
+put_byte-requires c κs = omega (arith, ap length (minus c.before))
 
-same_length : tie.Need-same-length
-same_length c = search rules
+shape_of-out-then-v-lt0 : tie.Need-shape_of-out-then-v-lt0
+shape_of-out-then-v-lt0 c = search rules
+
+returns-then-v-lt0 : tie.Need-returns-then-v-lt0
+returns-then-v-lt0 c = let p = c.before.before in put_same (sym (minus p.before.before)) p.put_byte.ensures
 
 returns : tie.Need-returns
-returns c = let p = c.before.before in put_same (sym (minus p.before.before)) p.put_byte.ensures
+returns c = put_same (sym (nothing c)) (put_nothing _ _)
 
-returns-2 : tie.Need-returns-2
-returns-2 c = put_same (sym (nothing c)) (put_nothing _ _)
-
-pub put-sign-spec : {M : Type 1} → statement M
-put-sign-spec = tie.close (tie.spec put-byte-requires same_length returns returns-2)
+pub put_sign_spec : {M : Type 1} → statement M
+put_sign_spec = tie.close (tie.spec put_byte-requires shape_of-out-then-v-lt0 returns-then-v-lt0 returns)

@@ -28,20 +28,20 @@ digits c = let s = c.before.before.before.before.before.before.before in ap deci
 long : (c : tie.Start) → length (signed_decimal c.args.v) ≡ length (sign c.args.v) + length (decimal (nat_abs c.args.v))
 long c = omega (arith, ap length (signed_parts c.args.v), length-append (sign c.args.v) (decimal (nat_abs c.args.v)))
 
-put-sign-requires : tie.Need-put-sign-requires
-put-sign-requires c κs = let s = c.before.before in omega (arith, ap length (sign-is s), long s)
+put_sign-digits-requires : tie.Need-put_sign-digits-requires
+put_sign-digits-requires c κs = let s = c.before.before in omega (arith, ap length (sign-is s), long s)
 
 magnitude-requires : tie.Need-magnitude-requires
 magnitude-requires c κs = search rules
 
-put-decimal-requires : tie.Need-put-decimal-requires
-put-decimal-requires c κs =
+put_decimal-requires : tie.Need-put_decimal-requires
+put_decimal-requires c κs =
     let p = c.before.before.before.before in
     let s = p.before.before.before in
-    omega (arith, p.put-sign.ensures.ends, ap length (sign-is s), long s, ap length (digits c))
+    omega (arith, p.put_sign-digits.ensures.ends, ap length (sign-is s), long s, ap length (digits c))
 
-same_length : tie.Need-same-length
-same_length c = search rules
+shape_of-out : tie.Need-shape_of-out
+shape_of-out c = search rules
 
 returns : tie.Need-returns
 returns c =
@@ -49,8 +49,8 @@ returns c =
     let m = d.before in
     let p = m.before.before.before.before in
     let s = p.before.before.before in
-    let signed = put_same (sign-is s) p.put-sign.ensures in
-    put_same (signed_parts s.args.v) (put_put signed (put_same (digits m) d.put-decimal.ensures))
+    let signed = put_same (sign-is s) p.put_sign-digits.ensures in
+    put_same (signed_parts s.args.v) (put_put signed (put_same (digits m) d.put_decimal.ensures))
 
-pub put-signed-spec : {M : Type 1} → statement M
-put-signed-spec = tie.close (tie.spec put-sign-requires magnitude-requires put-decimal-requires same_length returns)
+pub put_signed_spec : {M : Type 1} → statement M
+put_signed_spec = tie.close (tie.spec put_sign-digits-requires magnitude-requires put_decimal-requires shape_of-out returns)
