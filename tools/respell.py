@@ -108,7 +108,9 @@ def main():
         out = []
         for line in text.splitlines(keepends=True):
             code, slash, comment = line.partition("//")
-            out.append(ghost(code) + slash + ghost_in_ticks(comment))
+            # functions of src/ keep their names
+            code = token.sub(lambda m: m[0] if re.fullmatch(r"[a-z_][a-z0-9_]*", m[0]) else word(m), code)
+            out.append(code + slash + ghost_in_ticks(comment))
         return "".join(out)
 
     def ghost_in_ticks(comment):

@@ -15,7 +15,7 @@ fn kept_rows(rows: usize) -> usize
 }
 
 // The point in a column of a row, in 16 bits.
-fn point_at_lem(columns: usize, row: usize, column: usize) -> u16
+fn point_at(columns: usize, row: usize, column: usize) -> u16
     requires { row < 64 }
     ensures { result ≡ point_at columns row column }
 {
@@ -31,8 +31,8 @@ pub fn row_edges(g: Grid, edges: &mut [u16; 128])
     let mut row = 0;
     while row < rows {
         let run = row_run(g.kind, g.columns, g.rows, row);
-        edges[row] = point_at_lem(g.columns, row, run.from);
-        edges[64 + row] = point_at_lem(g.columns, row, run.to);
+        edges[row] = point_at(g.columns, row, run.from);
+        edges[64 + row] = point_at(g.columns, row, run.to);
         row += 1;
     }
 }

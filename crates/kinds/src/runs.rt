@@ -6,7 +6,7 @@ ghost use Rattle.kinds.specs.Runs.{inner_run, on_square, straight_run};
 use types::Grid;
 
 // The columns a with from ≤ a < to.
-#[derive(Drop)]
+#[derive(Clone, Copy)]
 pub struct Run {
     pub from: usize,
     pub to: usize,

@@ -10,7 +10,7 @@ ghost use Rattle.nearest.specs.Nearest.{outside, value_of, nearest_whole};
 use types::Settings;
 
 // A whole number from 0 to D, or none. The definitions `outside` and `value_of` tell what the paper makes of each.
-#[derive(Drop)]
+#[derive(Clone, Copy)]
 pub enum Whole {
     Is(u64),
     Outside,

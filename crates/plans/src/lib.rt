@@ -14,7 +14,7 @@ const D: i64 = Settings::D as i64;
 // newer value, near = q times the sum of the neighbours, kept = D − s times the older value and m times L of L: m times the sum of the
 // neighbours' sums, less bend = 2cm times the sum of the neighbours, and stiff = c²m times the newer value. It is divided by
 // divisor = D + s, of which half is the half: a size that has reached limit with that added is rounded to a value beyond the ceiling.
-#[derive(Drop)]
+#[derive(Clone, Copy)]
 pub struct Plan {
     pub instrument: Instrument,
     pub own: i64,

@@ -12,7 +12,7 @@ use slices::clear;
 const PARTS: usize = 4294967296;
 
 // The moving points of a line, and a pluck's centre, half width and height.
-#[derive(Drop)]
+#[derive(Clone, Copy)]
 pub(crate) struct Shape {
     pub run: Run,
     pub centre: usize,

@@ -6,7 +6,7 @@ ghost use Rattle.pluck_table.specs.Loading.{never_falls, loaded_table};
 
 // What loading a table answers: the place of its last entry, or that it breaks a rule. The definitions `loaded_number` and `loaded_last` tell
 // the paper's number and the value of each.
-#[derive(Drop)]
+#[derive(Clone, Copy)]
 pub enum LoadedTable {
     Sound { last: usize },
     Broken,

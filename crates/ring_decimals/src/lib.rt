@@ -10,14 +10,14 @@ const MINUS: u8 = 45;
 const MOST: u64 = 9223372036854775807;
 
 // A number that may not be negative. The definition `unsigned_read` tells which fields are none, and the value of the others.
-#[derive(Drop)]
+#[derive(Clone, Copy)]
 pub enum Unsigned {
     Is(u64),
     Wrong,
 }
 
 // A number that may be negative. The definition `signed_read` tells which fields are none, and the value of the others.
-#[derive(Drop)]
+#[derive(Clone, Copy)]
 pub enum Signed {
     Is(i64),
     Wrong,

@@ -55,7 +55,7 @@ pub fn raised(n: i64, half: u32) -> u64
 }
 
 // A whole number, and what rounding to it leaves.
-#[derive(Drop)]
+#[derive(Clone, Copy)]
 pub struct Rounded {
     pub whole: i64,
     pub remainder: i64,

@@ -7,7 +7,7 @@ use nearest::Whole;
 use types::Settings;
 
 // Each times D and rounded: q for R, m for μ², s for σ₀k.
-#[derive(Drop)]
+#[derive(Clone, Copy)]
 pub(crate) struct Coefficients {
     pub(crate) q: Whole,
     pub(crate) m: Whole,

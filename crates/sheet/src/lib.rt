@@ -15,7 +15,7 @@ use types::{Grid, Refusal, Settings};
 
 // A speed: hertz, which is wave speed over twice the length, or a tension with a density. The definitions `speed_allowed` and
 // `courant_squared` tell what the paper makes of each.
-#[derive(Drop)]
+#[derive(Clone, Copy)]
 pub enum Speed {
     Hertz(f64),
     Tension { tension: f64, density: f64 },
@@ -23,14 +23,14 @@ pub enum Speed {
 
 // A loss: a rate per second, or the seconds to a thousandth. The definitions `loss_allowed` and `loss_per_step` tell what the paper makes
 // of each.
-#[derive(Drop)]
+#[derive(Clone, Copy)]
 pub enum Loss {
     PerSecond(f64),
     Seconds(f64),
 }
 
 // The player's sheet: rate in hertz, length in metres, bending κ², a speed and a loss.
-#[derive(Drop)]
+#[derive(Clone, Copy)]
 pub struct Sheet {
     pub rate: f64,
     pub length: f64,
@@ -41,7 +41,7 @@ pub struct Sheet {
 
 // A sheet's answer: what refused it, and the settings, all zeros where something did. The definition `number` tells the paper's number
 // of each refusal.
-#[derive(Drop)]
+#[derive(Clone, Copy)]
 pub struct SheetAnswer {
     pub settings: Settings,
     pub refusal: Refusal,

@@ -20,7 +20,7 @@ use types::{Hit, Instrument, Refusal};
 
 // What the steps of a call leave: whether it was carried out, the steps done, how many points were inexact in them,
 // what refused or ended them, and the turn that the slices are in.
-#[derive(Drop)]
+#[derive(Clone, Copy)]
 pub struct InTurn {
     pub begun: bool,
     pub steps: usize,
@@ -30,7 +30,7 @@ pub struct InTurn {
 }
 
 // The same on two levels. `exchanged` tells that each of them stands in the other's slice.
-#[derive(Drop)]
+#[derive(Clone, Copy)]
 pub struct InPlace {
     pub steps: usize,
     pub inexact: u64,

@@ -127,7 +127,7 @@ fn level_run(
 }
 
 // The next level, worked out beside the two, tested in place or written in place. Off a line only a plate is stiff.
-pub(crate) fn next_level_lem(
+pub(crate) fn next_level(
     plan: Plan,
     edges: &[u16; 128],
     older: &mut [i64],

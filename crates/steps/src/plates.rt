@@ -21,7 +21,7 @@ use types::Hit;
 
 // Where the sums of two rows stand: of column c of the row that begins at point `start` at place here + c; at other + c that of the row
 // above it until column c is done, then that of the row below it. `last` tells that the row below is the ring's.
-#[derive(Drop)]
+#[derive(Clone, Copy)]
 pub(crate) struct SumRows {
     pub(crate) start: usize,
     pub(crate) here: usize,

@@ -21,7 +21,7 @@ fn put_sample(samples: &mut [i16], place: usize, v: i16)
 }
 
 // How many steps were done, how many points were inexact in them, and the turn that the slices are in.
-#[derive(Drop)]
+#[derive(Clone, Copy)]
 pub(crate) struct Steps {
     pub(crate) done: usize,
     pub(crate) inexact: u64,

@@ -12,7 +12,7 @@ ghost use Rattle.turns.specs.Turns.{older_of, newer_of, out_of};
 ghost use Rattle.steps.specs.Steps.{Steppable, SteppedInPlace, SteppedIn, Third};
 
 use crate::arithmetic::sample;
-use crate::level::next_level_lem;
+use crate::level::next_level;
 use crate::progress::Progress;
 use plans::Plan;
 use slices::copy;
@@ -33,7 +33,7 @@ fn small_step(
     ensures { SteppedInPlace plan.instrument hit older.old newer.now older.new result }
 {
     copy(older, room);
-    let p = next_level_lem(plan, edges, older, newer, room, hit, true, false);
+    let p = next_level(plan, edges, older, newer, room, hit, true, false);
     if p.within {
         copy(room, older);
     }
@@ -57,11 +57,11 @@ fn step_in_place(
     if n <= PIECE {
         return small_step(plan, edges, older, newer, &mut room[..n], hit);
     }
-    let tested = next_level_lem(plan, edges, older, newer, room, hit, false, true);
+    let tested = next_level(plan, edges, older, newer, room, hit, false, true);
     if !tested.within {
         return tested;
     }
-    next_level_lem(plan, edges, older, newer, room, hit, true, true)
+    next_level(plan, edges, older, newer, room, hit, true, true)
 }
 
 // A step in the turn that the slices are in.
@@ -81,9 +81,9 @@ pub(crate) fn step_in_turn(
         older.new newer.new work.new result }
 {
     match turn {
-        0 => next_level_lem(plan, edges, older, newer, work, hit, true, false),
-        1 => next_level_lem(plan, edges, newer, work, older, hit, true, false),
-        2 => next_level_lem(plan, edges, work, older, newer, hit, true, false),
+        0 => next_level(plan, edges, older, newer, work, hit, true, false),
+        1 => next_level(plan, edges, newer, work, older, hit, true, false),
+        2 => next_level(plan, edges, work, older, newer, hit, true, false),
         3 => step_in_place(plan, edges, older, newer, work, hit),
         _ => step_in_place(plan, edges, newer, older, work, hit),
     }

@@ -9,7 +9,7 @@ ghost use Rattle.stretches.specs.Stretches.{clamp, part_of, with_write, end_of, 
 use types::Hit;
 
 // The points from..to, and the force on each. The next value of point k goes to place k − base, if it is written.
-#[derive(Drop)]
+#[derive(Clone, Copy)]
 pub struct Stretch {
     pub from: usize,
     pub to: usize,

@@ -1,6 +1,6 @@
 -- `block_refusal` meets its contract: the input first, then the state of two levels that 6 let pass.
-use mathlib.Core.Path.{◌≡◌, ap₂, ◌∙◌}
-use mathlib.Core.Bool.{Bool, true, ◌||◌}
+use mathlib.Core.Path.{ap, ◌≡◌, ap₂, ◌∙◌}
+use mathlib.Core.Bool.{not, Bool, true, ◌||◌}
 use mathlib.Core.List.{List}
 use borrow.Author.Tests.{not-false}
 use lib.ListN.{length}
@@ -15,7 +15,7 @@ use borrow.Author.Rules.{rules}
 use Rattle.block_checks.proofs.block_refusal.Statement.{statement}
 use Rattle.block_checks.proofs.block_refusal.Tie as tie
 
-module _ (c : tie.After-input-refusal) where
+module _ (c : tie.After-input_refusal-r) where
   abbrev s : tie.Start
   s = c.before.before.before
 
@@ -30,50 +30,50 @@ module _ (c : tie.After-input-refusal) where
   state = state_checks (some_beyond s.args.older.now || some_beyond s.args.newer.now)
       (fixed_not_zero s.args.i.grid s.args.older.now || fixed_not_zero s.args.i.grid s.args.newer.now)
 
-  test-is : in_table s.args.i.grid ≡ true → c.before.wrong-lengths.result ≡ (levels || s.args.wrong)
+  test-is : in_table s.args.i.grid ≡ true → c.wrong_lengths.result ≡ (levels || s.args.wrong)
   test-is size =
-      c.before.wrong-lengths.ensures ∙ ap₂ (λ (x y : Bool). x || y || s.args.wrong)
+      c.wrong_lengths.ensures ∙ ap₂ (λ (x y : Bool). x || y || s.args.wrong)
       (long_is s.args.i.grid (length s.args.older.now) size) (long_is s.args.i.grid (length s.args.newer.now) size)
 
-  input-is : c.input-refusal.result ≡ lowest input
-  input-is = c.input-refusal.ensures ∙ input_same s.args.i c.before.wrong-lengths.result (levels || s.args.wrong)
+  input-is : c.input_refusal-r.result ≡ lowest input
+  input-is = c.input_refusal-r.ensures ∙ input_same s.args.i c.wrong_lengths.result (levels || s.args.wrong)
       s.args.pick s.args.h test-is
 
-wrong-lengths-requires : tie.Need-wrong-lengths-requires
-wrong-lengths-requires c κs = search rules
+wrong_lengths-requires : tie.Need-wrong_lengths-requires
+wrong_lengths-requires c κs = search rules
 
-input-refusal-requires : tie.Need-input-refusal-requires
-input-refusal-requires c κs = search rules
+input_refusal-r-requires : tie.Need-input_refusal-r-requires
+input_refusal-r-requires c κs = search rules
 
-is-nothing-requires : tie.Need-is-nothing-requires
-is-nothing-requires c κs = search rules
+is_nothing-requires : tie.Need-is_nothing-requires
+is_nothing-requires c κs = search rules
+
+returns-then-not-is_nothing : tie.Need-returns-then-not-is_nothing
+unfolding block_refusal
+returns-then-not-is_nothing c = let m = c.before.before in refused_by_lem (input m) (state m) tt (input-is m) c.is_nothing.ensures (ap not c.if-not-is_nothing.true)
+
+state_refusal-requires : tie.Need-state_refusal-requires
+state_refusal-requires c κs = search rules
 
 returns : tie.Need-returns
 unfolding block_refusal
-returns c = let m = c.before.before in refused_by_lem (input m) (state m) tt (input-is m) c.before.is-nothing.ensures c.if1.true
-
-state-refusal-requires : tie.Need-state-refusal-requires
-state-refusal-requires c κs = search rules
-
-returns-2 : tie.Need-returns-2
-unfolding block_refusal
-returns-2 c =
+returns c =
     let e = c.before in
     let m = e.before.before in
     let g = (s m).args.i.grid in
-    let none : NoneApplies (input m) = passed (input m) (input m) tt (input-is m) e.before.is-nothing.ensures e.if1.false in
+    let none : NoneApplies (input m) = passed (input m) (input m) tt (input-is m) e.is_nothing.ensures (ap not e.if-not-is_nothing.false) in
     let size : in_table g ≡ true = not-false _ none.1.0 in
     let l = or_neither _ _ (or_neither _ _ none.1.1.1.1.0).0 in
-    goes_on_lem (input m) (state m) tt (input-is m) e.before.is-nothing.ensures e.if1.false
-    (c.state-refusal.ensures ∙ state_is g (s m).args.older.now (s m).args.newer.now size l.0 l.1)
+    goes_on_lem (input m) (state m) tt (input-is m) e.is_nothing.ensures (ap not e.if-not-is_nothing.false)
+    (c.state_refusal.ensures ∙ state_is g (s m).args.older.now (s m).args.newer.now size l.0 l.1)
 
-pub block-refusal-spec : {M : Type 1} → statement M
-block-refusal-spec =
+pub block_refusal_spec : {M : Type 1} → statement M
+block_refusal_spec =
     tie.close
     (tie.spec
-    wrong-lengths-requires
-    input-refusal-requires
-    is-nothing-requires
-    returns
-    state-refusal-requires
-    returns-2)
+    wrong_lengths-requires
+    input_refusal-r-requires
+    is_nothing-requires
+    returns-then-not-is_nothing
+    state_refusal-requires
+    returns)

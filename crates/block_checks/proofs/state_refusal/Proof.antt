@@ -18,60 +18,60 @@ loose s = unfixed s.args.g s.args.older.now || unfixed s.args.g s.args.newer.now
 
 -- what was said
 high_is : (c : tie.After-either) {b : Bool} → c.either.result ≡ b → high c.before.before.before ≡ b
-high_is c e = sym (c.either.ensures ∙ ap₂ ◌||◌ c.before.before.some-beyond.ensures c.before.some-beyond2.ensures) ∙ e
+high_is c e = sym (c.either.ensures ∙ ap₂ ◌||◌ c.some_beyond.ensures c.some_beyond-2.ensures) ∙ e
 
-loose-is : (c : tie.After-either2) {b : Bool} → c.either2.result ≡ b
+loose-is : (c : tie.After-either-2) {b : Bool} → c.either-2.result ≡ b
     → loose c.before.before.before.before.before.before.before ≡ b
-loose-is c e = sym (c.either2.ensures ∙ ap₂ ◌||◌ c.before.before.is-unfixed.ensures c.before.is-unfixed2.ensures) ∙ e
+loose-is c e = sym (c.either-2.ensures ∙ ap₂ ◌||◌ c.is_unfixed.ensures c.is_unfixed-2.ensures) ∙ e
 
-some-beyond-requires : tie.Need-some-beyond-requires
-some-beyond-requires c κs = tt
+some_beyond-requires : tie.Need-some_beyond-requires
+some_beyond-requires c κs = tt
 
-some-beyond-requires-2 : tie.Need-some-beyond-requires-2
-some-beyond-requires-2 c κs = tt
+some_beyond-requires-2 : tie.Need-some_beyond-requires-2
+some_beyond-requires-2 c κs = tt
 
 either-requires : tie.Need-either-requires
 either-requires c κs = tt
 
-returns : tie.Need-returns
+returns-then-either : tie.Need-returns-then-either
 unfolding state_refusal
-returns c =
+returns-then-either c =
     let s = c.before.before.before.before in
-    refused-first PointBeyond FixedNotZero (high s) (loose s) (high_is c.before c.if1.true)
+    refused-first PointBeyond FixedNotZero (high s) (loose s) (high_is c.before c.if-either.true)
 
-is-unfixed-requires : tie.Need-is-unfixed-requires
-is-unfixed-requires c κs = tt
+is_unfixed-requires : tie.Need-is_unfixed-requires
+is_unfixed-requires c κs = tt
 
-is-unfixed-requires-2 : tie.Need-is-unfixed-requires-2
-is-unfixed-requires-2 c κs = tt
+is_unfixed-requires-2 : tie.Need-is_unfixed-requires-2
+is_unfixed-requires-2 c κs = tt
 
 either-requires-2 : tie.Need-either-requires-2
 either-requires-2 c κs = tt
 
-returns-2 : tie.Need-returns-2
+returns-then-either-2 : tie.Need-returns-then-either-2
 unfolding state_refusal
-returns-2 c =
+returns-then-either-2 c =
     let e = c.before.before.before.before in
     let s = e.before.before.before.before in
-    refused_second PointBeyond FixedNotZero (high s) (loose s) (high_is e.before e.if1.false) (loose-is c.before c.if2.true)
+    refused_second PointBeyond FixedNotZero (high s) (loose s) (high_is e.before e.if-either.false) (loose-is c.before c.if-either-2.true)
 
-returns-3 : tie.Need-returns-3
+returns : tie.Need-returns
 unfolding state_refusal
-returns-3 c =
+returns c =
     let e = c.before.before.before.before in
     let s = e.before.before.before.before in
-    refused_neither PointBeyond FixedNotZero (high s) (loose s) (high_is e.before e.if1.false) (loose-is c.before c.if2.false)
+    refused_neither PointBeyond FixedNotZero (high s) (loose s) (high_is e.before e.if-either.false) (loose-is c.before c.if-either-2.false)
 
-pub state-refusal-spec : {M : Type 1} → statement M
-state-refusal-spec =
+pub state_refusal_spec : {M : Type 1} → statement M
+state_refusal_spec =
     tie.close
     (tie.spec
-    some-beyond-requires
-    some-beyond-requires-2
+    some_beyond-requires
+    some_beyond-requires-2
     either-requires
-    returns
-    is-unfixed-requires
-    is-unfixed-requires-2
+    returns-then-either
+    is_unfixed-requires
+    is_unfixed-requires-2
     either-requires-2
-    returns-2
-    returns-3)
+    returns-then-either-2
+    returns)

@@ -10,31 +10,31 @@ use Rattle.block_checks.proofs.wrong_lengths.Statement.{statement}
 use Rattle.block_checks.proofs.wrong_lengths.Tie as tie
 
 -- older has the grid's length
-module _ (c : tie.Else1) where
+module _ (c : tie.Else-wrong_length) where
   abbrev s : tie.Start
   s = c.before.before
 
   older-right : not_long s.args.g s.args.older ≡ false
-  older-right = sym c.before.wrong-length.ensures ∙ c.if1.false
+  older-right = sym c.wrong_length.ensures ∙ c.if-wrong_length.false
 
   older_is : s.args.older ≡ points_of s.args.g
   older_is = eqb-true _ _ (not-false _ older-right)
 
-wrong-length-requires : tie.Need-wrong-length-requires
-wrong-length-requires c κs = tt
+wrong_length-requires : tie.Need-wrong_length-requires
+wrong_length-requires c κs = tt
+
+returns-then-wrong_length : tie.Need-returns-then-wrong_length
+returns-then-wrong_length c = sym (or_yes _ (or_yes _ (sym c.wrong_length.ensures ∙ c.if-wrong_length.true)))
+
+returns-then-newer-older : tie.Need-returns-then-newer-older
+returns-then-newer-older c =
+    let e = c.before in
+    sym (or_yes _ (or_no (older-right e) ∙ ap not (ne_eqb _ _ (λ q. c.if-newer-older.true (q ∙ sym (older_is e))))))
 
 returns : tie.Need-returns
-returns c = sym (or_yes _ (or_yes _ (sym c.before.wrong-length.ensures ∙ c.if1.true)))
-
-returns-2 : tie.Need-returns-2
-returns-2 c =
+returns c =
     let e = c.before in
-    sym (or_yes _ (or_no (older-right e) ∙ ap not (ne_eqb _ _ (λ q. c.if2.true (q ∙ sym (older_is e))))))
+    sym (or_no (neither_or (older-right e) (subst (λ (n : ℕ). not_long (s e).args.g n ≡ false) (sym c.if-newer-older.false) (older-right e))))
 
-returns-3 : tie.Need-returns-3
-returns-3 c =
-    let e = c.before in
-    sym (or_no (neither_or (older-right e) (subst (λ (n : ℕ). not_long (s e).args.g n ≡ false) (sym c.if2.false) (older-right e))))
-
-pub wrong-lengths-spec : {M : Type 1} → statement M
-wrong-lengths-spec = tie.close (tie.spec wrong-length-requires returns returns-2 returns-3)
+pub wrong_lengths_spec : {M : Type 1} → statement M
+wrong_lengths_spec = tie.close (tie.spec wrong_length-requires returns-then-wrong_length returns-then-newer-older returns)

@@ -31,7 +31,7 @@ returns c =
     let a = new.before.args in
     ap (λ (n : ℕ). pluck_left n called.new.1.0 called.new.1.1.0) c.number.ensures
     ∙ ap pluck_numbers called.ensures
-    ∙ ap₂ (λ (g : Grid) (z : ℤ). pluck_numbers (Calls.pluck g a.older.now a.newer.now a.centre a.half-width z))
+    ∙ ap₂ (λ (g : Grid) (z : ℤ). pluck_numbers (Calls.pluck g a.older.now a.newer.now a.centre a.half_width z))
     new.new.ensures (search rules)
 
 pub buvcsolta-pluck-spec : {M : Type 1} → statement M

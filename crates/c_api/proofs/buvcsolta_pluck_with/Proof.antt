@@ -32,7 +32,7 @@ returns c =
     ap (λ (n : ℕ). pluck_left n called.new.1.0 called.new.1.1.0) c.number.ensures
     ∙ ap pluck_numbers called.ensures
     ∙ ap₂ (λ (g : Grid) (z : ℤ). pluck_numbers
-    (Calls.pluck_with g a.older.now a.newer.now a.centre a.half-width z a.table.now)) new.new.ensures (search rules)
+    (Calls.pluck_with g a.older.now a.newer.now a.centre a.half_width z a.table.now)) new.new.ensures (search rules)
 
 pub buvcsolta-pluck-with-spec : {M : Type 1} → statement M
 buvcsolta-pluck-with-spec =

@@ -3,11 +3,11 @@ use Rattle.edges.proofs.EdgeLaws.{kept_few, kept_many}
 use Rattle.edges.proofs.kept_rows.Statement.{statement}
 use Rattle.edges.proofs.kept_rows.Tie as tie
 
-returns : tie.Need-returns
-returns c = kept_few _ c.if1.true
+returns-then-rows-lt64 : tie.Need-returns-then-rows-lt64
+returns-then-rows-lt64 c = kept_few _ c.if-rows-lt64.true
 
-returns-2 : tie.Need-returns-2
-returns-2 c = kept_many _ c.if1.false
+returns-else-rows-lt64 : tie.Need-returns-else-rows-lt64
+returns-else-rows-lt64 c = kept_many _ c.if-rows-lt64.false
 
-pub kept-rows-spec : {M : Type 1} → statement M
-kept-rows-spec = tie.close (tie.spec returns returns-2)
+pub kept_rows_spec : {M : Type 1} → statement M
+kept_rows_spec = tie.close (tie.spec returns-then-rows-lt64 returns-else-rows-lt64)

@@ -10,92 +10,92 @@ use Rattle.edges.proofs.row_edges.Statement.{statement}
 use Rattle.edges.proofs.row_edges.Tie as tie
 
 -- the rows passed have their moving points
-abbrev invariant-loop : tie.invariant-loop
-invariant-loop g edges₀ rows row₀ edges row = (row ≤ rows) × Passed g edges₀ edges row
+abbrev invariant-loop-row : tie.invariant-loop-row
+invariant-loop-row g edges₀ rows row₀ edges row = (row ≤ rows) × Passed g edges₀ edges row
 
-abbrev decreases-loop : tie.decreases-loop
-decreases-loop g edges₀ rows row₀ edges row = rows - row
+abbrev decreases-loop-row : tie.decreases-loop-row
+decreases-loop-row g edges₀ rows row₀ edges row = rows - row
 
 -- a turn of the loop: a row of at most 64
-module _ (c : tie.After-row-run invariant-loop decreases-loop) where
-  abbrev loop : tie.At-loop invariant-loop decreases-loop
+module _ (c : tie.After-row_run-run invariant-loop-row decreases-loop-row) where
+  abbrev loop : tie.At-loop-row invariant-loop-row decreases-loop-row
   loop = c.before.before
 
-  in_row : loop.loop.row < 64
-  in_row = omega (arith, loop.before.kept-rows.ensures, kept_most loop.before.before.args.g.rows, c.before.loop-test.true)
+  in_row : loop.loop-row.row < 64
+  in_row = omega (arith, loop.kept_rows-rows.ensures, kept_most loop.args.g.rows, c.loop-row-test.true)
 
-kept-rows-requires : tie.Need-kept-rows-requires invariant-loop decreases-loop
-kept-rows-requires c κs = tt
+kept_rows-rows-requires : tie.Need-kept_rows-rows-requires invariant-loop-row decreases-loop-row
+kept_rows-rows-requires c κs = tt
 
-loop-holds : tie.Need-loop-init invariant-loop decreases-loop
-loop-holds c = (search rules, passed_none _ _)
+loop-row-init : tie.Need-loop-row-init invariant-loop-row decreases-loop-row
+loop-row-init c = (search rules, passed_none _ _)
 
-row-run-requires : tie.Need-row-run-requires invariant-loop decreases-loop
-row-run-requires c κs = tt
+row_run-run-requires : tie.Need-row_run-run-requires invariant-loop-row decreases-loop-row
+row_run-run-requires c κs = tt
 
-point-at-requires : tie.Need-point-at-requires invariant-loop decreases-loop
-point-at-requires c κs = in_row c
+point_at-requires : tie.Need-point_at-requires invariant-loop-row decreases-loop-row
+point_at-requires c κs = in_row c
 
-mul-edges : tie.Need-overflow-mul-edges invariant-loop decreases-loop
-mul-edges c = let h = in_row c.before in search rules
+offset_bounds-edges-row : tie.Need-offset_bounds-edges-row invariant-loop-row decreases-loop-row
+offset_bounds-edges-row c = let h = in_row c.before in search rules
 
-element-write-edges : tie.Need-element-write-edges invariant-loop decreases-loop
-element-write-edges c = omega (arith, in_row c.before)
+bounds-edges-row : tie.Need-bounds-edges-row invariant-loop-row decreases-loop-row
+bounds-edges-row c = omega (arith, in_row c.before.before)
 
-point-at-requires-2 : tie.Need-point-at-requires-2 invariant-loop decreases-loop
-point-at-requires-2 c κs = in_row c.before
+point_at-requires-in-loop-row : tie.Need-point_at-requires-in-loop-row invariant-loop-row decreases-loop-row
+point_at-requires-in-loop-row c κs = in_row c.before.before
 
-add-edges : tie.Need-overflow-add-edges invariant-loop decreases-loop
-add-edges c = let h = in_row c.before.before in search rules
+overflow_add-edges : tie.Need-overflow_add-edges invariant-loop-row decreases-loop-row
+overflow_add-edges c = let h = in_row c.before.before.before in search rules
 
-mul-edges-2 : tie.Need-overflow-mul-edges-2 invariant-loop decreases-loop
-mul-edges-2 c = let h = in_row c.before.before in search rules
+offset_bounds-edges-row-in-loop-row : tie.Need-offset_bounds-edges-row-in-loop-row invariant-loop-row decreases-loop-row
+offset_bounds-edges-row-in-loop-row c = let h = in_row c.before.before.before in search rules
 
-element-write-edges-2 : tie.Need-element-write-edges-2 invariant-loop decreases-loop
-element-write-edges-2 c = omega (arith, in_row c.before.before)
+bounds-edges-row-in-loop-row : tie.Need-bounds-edges-row-in-loop-row invariant-loop-row decreases-loop-row
+bounds-edges-row-in-loop-row c = omega (arith, in_row c.before.before.before)
 
-add_row : tie.Need-overflow-add-row invariant-loop decreases-loop
-add_row c = search rules
+overflow_add-row : tie.Need-overflow_add-row invariant-loop-row decreases-loop-row
+overflow_add-row c = search rules
 
-loop-less : tie.Need-loop-smaller invariant-loop decreases-loop
-loop-less c = search rules
+loop-row-smaller : tie.Need-loop-row-smaller invariant-loop-row decreases-loop-row
+loop-row-smaller c = search rules
 
-loop-again : tie.Need-loop-preserved invariant-loop decreases-loop
-loop-again c =
-    let p = c.before in
+loop-row-preserved : tie.Need-loop-row-preserved invariant-loop-row decreases-loop-row
+loop-row-preserved c =
+    let p = c.before.before in
     let r = p.before in
-    let g = (loop r).before.before.args.g in
-    let row = (loop r).loop.row in (
+    let g = (loop r).args.g in
+    let row = (loop r).loop-row.row in (
       search rules,
-      passed-more (loop r).loop.invariant.1 (in_row r) _ _
-          (p.point_at_lem.ensures ∙ ap (λ (x : Run). point_at g.columns row x.from) r.row-run.ensures)
-          (c.point-at2.ensures ∙ ap (λ (x : Run). point_at g.columns row x.to) r.row-run.ensures),
+      passed-more (loop r).loop-row.invariant.1 (in_row r) _ _
+          (p.point_at.ensures ∙ ap (λ (x : Run). point_at g.columns row x.from) r.row_run-run.ensures)
+          (c.point_at-in-loop-row.ensures ∙ ap (λ (x : Run). point_at g.columns row x.to) r.row_run-run.ensures),
     )
 
-returns : tie.Need-returns invariant-loop decreases-loop
+returns : tie.Need-returns invariant-loop-row decreases-loop-row
 returns c =
-    let l = c.before.loop in
+    let l = c.loop-row in
     let b = c.before.before in
-    let end : l.row ≡ b.kept-rows.result = omega (arith, l.invariant.0, c.loop-test.false) in
-    passed-all (end ∙ b.kept-rows.ensures) l.invariant.1
+    let end : l.row ≡ b.kept_rows-rows.result = omega (arith, l.invariant.0, c.loop-row-test.false) in
+    passed-all (end ∙ b.kept_rows-rows.ensures) l.invariant.1
 
-pub row-edges-spec : {M : Type 1} → statement M
-row-edges-spec =
+pub row_edges_spec : {M : Type 1} → statement M
+row_edges_spec =
     tie.close
     (tie.spec
-    invariant-loop
-    decreases-loop
-    kept-rows-requires
-    loop-holds
-    row-run-requires
-    point-at-requires
-    mul-edges
-    element-write-edges
-    point-at-requires-2
-    add-edges
-    mul-edges-2
-    element-write-edges-2
-    add_row
-    loop-less
-    loop-again
+    invariant-loop-row
+    decreases-loop-row
+    kept_rows-rows-requires
+    loop-row-init
+    row_run-run-requires
+    point_at-requires
+    offset_bounds-edges-row
+    bounds-edges-row
+    point_at-requires-in-loop-row
+    overflow_add-edges
+    offset_bounds-edges-row-in-loop-row
+    bounds-edges-row-in-loop-row
+    overflow_add-row
+    loop-row-smaller
+    loop-row-preserved
     returns)

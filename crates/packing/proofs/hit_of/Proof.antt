@@ -6,11 +6,11 @@ use Rattle.packing.proofs.Flags.{unset, set}
 use Rattle.packing.proofs.hit_of.Statement.{statement}
 use Rattle.packing.proofs.hit_of.Tie as tie
 
-returns : tie.Need-returns
-returns c = unset _ _ _ c.if1.true
+returns-then-hit-eq0 : tie.Need-returns-then-hit-eq0
+returns-then-hit-eq0 c = unset _ _ _ c.if-hit-eq0.true
 
-returns-2 : tie.Need-returns-2
-returns-2 c = ap (At c.before.args.point) (search rules) ∙ set _ _ _ c.if1.false
+returns-else-hit-eq0 : tie.Need-returns-else-hit-eq0
+returns-else-hit-eq0 c = ap (At c.args.point) (search rules) ∙ set _ _ _ c.if-hit-eq0.false
 
-pub hit-of-spec : {M : Type 1} → statement M
-hit-of-spec = tie.close (tie.spec returns returns-2)
+pub hit_of_spec : {M : Type 1} → statement M
+hit_of_spec = tie.close (tie.spec returns-then-hit-eq0 returns-else-hit-eq0)

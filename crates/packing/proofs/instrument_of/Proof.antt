@@ -7,16 +7,16 @@ use Rattle.types.specs.declared.Instrument.{Instrument}
 use Rattle.packing.proofs.instrument_of.Statement.{statement}
 use Rattle.packing.proofs.instrument_of.Tie as tie
 
-new-requires : tie.Need-new-requires
-new-requires c κs = search rules
+new-grid-requires : tie.Need-new-grid-requires
+new-grid-requires c κs = search rules
 
-new-requires-2 : tie.Need-new-requires-2
-new-requires-2 c κs = search rules
+new-settings-requires : tie.Need-new-settings-requires
+new-settings-requires c κs = search rules
 
 returns : tie.Need-returns
 returns c =
     let made : Grid → Settings → Instrument = λ g k. record { grid = g; settings = k } in
-    ap₂ made c.before.new.ensures c.new2.ensures
+    ap₂ made c.new-grid.ensures c.new-settings.ensures
 
-pub instrument-of-spec : {M : Type 1} → statement M
-instrument-of-spec = tie.close (tie.spec new-requires new-requires-2 returns)
+pub instrument_of_spec : {M : Type 1} → statement M
+instrument_of_spec = tie.close (tie.spec new-grid-requires new-settings-requires returns)

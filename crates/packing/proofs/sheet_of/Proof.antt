@@ -7,18 +7,18 @@ use Rattle.sheet.specs.declared.Sheet.{Sheet}
 use Rattle.packing.proofs.sheet_of.Statement.{statement}
 use Rattle.packing.proofs.sheet_of.Tie as tie
 
-speed-of-requires : tie.Need-speed-of-requires
-speed-of-requires c κs = search rules
+speed_of-speed-requires : tie.Need-speed_of-speed-requires
+speed_of-speed-requires c κs = search rules
 
-loss-of-requires : tie.Need-loss-of-requires
-loss-of-requires c κs = search rules
+loss_of-loss-requires : tie.Need-loss_of-loss-requires
+loss_of-loss-requires c κs = search rules
 
 returns : tie.Need-returns
 returns c =
     let sped = c.before in
-    let a = sped.before.args in
+    let a = sped.args in
     let numbers : Speed → Loss → Sheet = λ v l. record { rate = a.rate; length = a.length; bending = a.bending; speed = v; loss = l } in
-    ap₂ numbers sped.speed-of.ensures c.loss-of.ensures
+    ap₂ numbers sped.speed_of-speed.ensures c.loss_of-loss.ensures
 
-pub sheet-of-spec : {M : Type 1} → statement M
-sheet-of-spec = tie.close (tie.spec speed-of-requires loss-of-requires returns)
+pub sheet_of_spec : {M : Type 1} → statement M
+sheet_of_spec = tie.close (tie.spec speed_of-speed-requires loss_of-loss-requires returns)

@@ -3,11 +3,11 @@ use Rattle.packing.proofs.Flags.{unset, set}
 use Rattle.packing.proofs.speed_of.Statement.{statement}
 use Rattle.packing.proofs.speed_of.Tie as tie
 
-returns : tie.Need-returns
-returns c = unset _ _ _ c.if1.true
+returns-then-by_tension-eq0 : tie.Need-returns-then-by_tension-eq0
+returns-then-by_tension-eq0 c = unset _ _ _ c.if-by_tension-eq0.true
 
-returns-2 : tie.Need-returns-2
-returns-2 c = set _ _ _ c.if1.false
+returns-else-by_tension-eq0 : tie.Need-returns-else-by_tension-eq0
+returns-else-by_tension-eq0 c = set _ _ _ c.if-by_tension-eq0.false
 
-pub speed-of-spec : {M : Type 1} → statement M
-speed-of-spec = tie.close (tie.spec returns returns-2)
+pub speed_of_spec : {M : Type 1} → statement M
+speed_of_spec = tie.close (tie.spec returns-then-by_tension-eq0 returns-else-by_tension-eq0)

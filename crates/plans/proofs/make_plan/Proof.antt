@@ -19,19 +19,19 @@ use Rattle.plans.proofs.make_plan.Statement.{statement}
 use Rattle.plans.proofs.make_plan.Tie as tie
 
 -- the count of neighbours and the settings, as the code reads them
-module _ (c : tie.After-count-in) where
+module _ (c : tie.After-count_in-count) where
   abbrev s : tie.Start
-  s = c.before.before.before
+  s = c.before.before.before.before.before
 
   passes : wrong_coefficient s.args.i.settings ≡ false
-  passes = sym c.before.before.wrong-coefficient.ensures ∙ c.before.if1.false
+  passes = sym c.wrong_coefficient.ensures ∙ c.if-wrong_coefficient.false
 
   low : let k = s.args.i.settings in (k.q ≤ D) × (k.m ≤ D) × (k.s ≤ D)
   low = coefficients_small s.args.i.settings passes
 
   abbrev count# : E
   count# = via {B = 4} (record {
-    is = back c.count_in.result c.count_in.type-inv ∙ c.count_in.ensures;
+    is = back c.count_in-count.result c.count_in-count.type_inv ∙ c.count_in-count.ensures;
     size = count_few s.args.i.grid;
   })
 
@@ -61,82 +61,82 @@ module _ (c : tie.After-count-in) where
   limit# = num 8795824586753 ⊠ divisor#
 
 -- where the settings are read
-abbrev at-s : tie.After-struct-known3 → tie.After-count-in
+abbrev at-s : tie.After-struct_known-3-1 → tie.After-count_in-count
 at-s c = c.before.before.before
 
-wrong-coefficient-requires : tie.Need-wrong-coefficient-requires
-wrong-coefficient-requires c κs = search rules
+wrong_coefficient-requires : tie.Need-wrong_coefficient-requires
+wrong_coefficient-requires c κs = search rules
 
-returns : tie.Need-returns
-returns c =
-    sym (plan_refused c.before.before.args.i (sym c.before.wrong-coefficient.ensures ∙ c.if1.true))
+returns-then-wrong_coefficient : tie.Need-returns-then-wrong_coefficient
+returns-then-wrong_coefficient c =
+    sym (plan_refused c.args.i (sym c.wrong_coefficient.ensures ∙ c.if-wrong_coefficient.true))
 
-count-in-requires : tie.Need-count-in-requires
-count-in-requires c κs = search rules
+count_in-count-requires : tie.Need-count_in-count-requires
+count_in-count-requires c κs = search rules
 
-cast-q : tie.Need-overflow-cast-q
-cast-q c = fits (q# c.before) tt
+overflow_cast-q : tie.Need-overflow_cast-q
+overflow_cast-q c = fits (q# c.before) tt
 
-cast-m : tie.Need-overflow-cast-m
-cast-m c = fits (m# c.before.before) tt
+overflow_cast-m : tie.Need-overflow_cast-m
+overflow_cast-m c = fits (m# c.before.before) tt
 
-cast-s : tie.Need-overflow-cast-s
-cast-s c = fits (s# (at-s c)) tt
+overflow_cast-s : tie.Need-overflow_cast-s
+overflow_cast-s c = fits (s# (at-s c)) tt
 
-add-divisor : tie.Need-overflow-add-divisor
-add-divisor c = fits (divisor# (at-s c)) tt
+overflow_add-divisor : tie.Need-overflow_add-divisor
+overflow_add-divisor c = fits (divisor# (at-s c)) tt
 
-mul-t8 : tie.Need-overflow-mul-t8
-mul-t8 c = search rules
+overflow_mul-result : tie.Need-overflow_mul-result
+overflow_mul-result c = search rules
 
-mul-t9 : tie.Need-overflow-mul-t9
-mul-t9 c = let p = at-s c in fits (count# p ⊠ q# p) tt
+overflow_mul-result-2 : tie.Need-overflow_mul-result-2
+overflow_mul-result-2 c = let p = at-s c in fits (count# p ⊠ q# p) tt
 
-sub-t10 : tie.Need-overflow-sub-t10
-sub-t10 c = fits (own# (at-s c)) tt
+overflow_sub-result : tie.Need-overflow_sub-result
+overflow_sub-result c = fits (own# (at-s c)) tt
 
-sub-t11 : tie.Need-overflow-sub-t11
-sub-t11 c = fits (num 65536 ⊟ s# (at-s c)) tt
+overflow_sub-result-2 : tie.Need-overflow_sub-result-2
+overflow_sub-result-2 c = fits (num 65536 ⊟ s# (at-s c)) tt
 
-mul-t12 : tie.Need-overflow-mul-t12
-mul-t12 c = fits (num 2 ⊠ count# (at-s c)) tt
+overflow_mul-result-3 : tie.Need-overflow_mul-result-3
+overflow_mul-result-3 c = fits (num 2 ⊠ count# (at-s c)) tt
 
-mul-t13 : tie.Need-overflow-mul-t13
-mul-t13 c = fits (bend# (at-s c)) tt
+overflow_mul-result-4 : tie.Need-overflow_mul-result-4
+overflow_mul-result-4 c = fits (bend# (at-s c)) tt
 
-mul-t14 : tie.Need-overflow-mul-t14
-mul-t14 c = let p = at-s c in fits (count# p ⊠ count# p) tt
+overflow_mul-result-5 : tie.Need-overflow_mul-result-5
+overflow_mul-result-5 c = let p = at-s c in fits (count# p ⊠ count# p) tt
 
-mul-t15 : tie.Need-overflow-mul-t15
-mul-t15 c = fits (stiff# (at-s c)) tt
+overflow_mul-result-6 : tie.Need-overflow_mul-result-6
+overflow_mul-result-6 c = fits (stiff# (at-s c)) tt
 
 -- numbers that fit an unsigned width
-cast-t16 : tie.Need-overflow-cast-t16
-cast-t16 c =
+overflow_cast-result : tie.Need-overflow_cast-result
+overflow_cast-result c =
     let p = at-s c in
     said (λ (z : ℤ). T (non_neg z) × Fits w32 (nat_abs z)) (divisor# p) tt (tt, record { fits = omega (arith, (low p).2) })
 
-div-t17 : tie.Need-nonzero-div-t17
-div-t17 c = (omega arith, fits (divisor# (at-s c) ÷ num 2) tt)
+nonzero_div-result : tie.Need-nonzero_div-result
+nonzero_div-result c = (omega arith, fits (divisor# (at-s c) ÷ num 2) tt)
 
-cast-t18 : tie.Need-overflow-cast-t18
-cast-t18 c =
+overflow_cast-result-2 : tie.Need-overflow_cast-result-2
+overflow_cast-result-2 c =
     let p = at-s c in
     said (λ (z : ℤ). T (non_neg z) × Fits w32 (nat_abs z)) (divisor# p ÷ num 2) tt (tt, record { fits = omega (arith, (low p).2) })
 
-add-t19 : tie.Need-overflow-add-t19
-add-t19 c = search rules
+overflow_add-result : tie.Need-overflow_add-result
+overflow_add-result c = search rules
 
-mul-t20 : tie.Need-overflow-mul-t20
-mul-t20 c = fits (limit# (at-s c)) tt
+overflow_mul-result-7 : tie.Need-overflow_mul-result-7
+overflow_mul-result-7 c = fits (limit# (at-s c)) tt
 
-cast-t21 : tie.Need-overflow-cast-t21
-cast-t21 c =
+overflow_cast-result-3 : tie.Need-overflow_cast-result-3
+overflow_cast-result-3 c =
     let p = at-s c in
     said (λ (z : ℤ). T (non_neg z) × Fits w64 (nat_abs z)) (limit# p) tt (tt, record { fits = omega (arith, (low p).2) })
 
-returns-2 : tie.Need-returns-2
-returns-2 c =
+returns : tie.Need-returns
+returns c =
     let p = at-s c in
     let i = (s p).args.i in
     (λ j. record {
@@ -152,29 +152,29 @@ returns-2 c =
       limit = nat_abs (is (limit# p) tt j);
     }) ∙ sym (plan_passed i (passes p))
 
-pub make-plan-spec : {M : Type 1} → statement M
-make-plan-spec =
+pub make_plan_spec : {M : Type 1} → statement M
+make_plan_spec =
     tie.close
     (tie.spec
-    wrong-coefficient-requires
-    returns
-    count-in-requires
-    cast-q
-    cast-m
-    cast-s
-    add-divisor
-    mul-t8
-    mul-t9
-    sub-t10
-    sub-t11
-    mul-t12
-    mul-t13
-    mul-t14
-    mul-t15
-    cast-t16
-    div-t17
-    cast-t18
-    add-t19
-    mul-t20
-    cast-t21
-    returns-2)
+    wrong_coefficient-requires
+    returns-then-wrong_coefficient
+    count_in-count-requires
+    overflow_cast-q
+    overflow_cast-m
+    overflow_cast-s
+    overflow_add-divisor
+    overflow_mul-result
+    overflow_mul-result-2
+    overflow_sub-result
+    overflow_sub-result-2
+    overflow_mul-result-3
+    overflow_mul-result-4
+    overflow_mul-result-5
+    overflow_mul-result-6
+    overflow_cast-result
+    nonzero_div-result
+    overflow_cast-result-2
+    overflow_add-result
+    overflow_mul-result-7
+    overflow_cast-result-3
+    returns)

@@ -17,14 +17,14 @@ unfolding in_float
 in-float (pos n) h = le→leb n (2 ^ 53) (omega arith)
 in-float (negsuc n) h = lt→ltb n (2 ^ 53) (omega arith)
 
-int-to-float-result : tie.Need-int-to-float-result
-int-to-float-result c =
+int_to_float-result : tie.Need-int_to_float-result
+int_to_float-result c =
     let a = c.before in
     subst (λ (z : ℤ). T (in_float binary64 z)) (sym (to_z-of_z w64 a.args.v a.ranges.v)) (in-float a.args.v a.requires)
 
 returns : tie.Need-returns
 unfolding float_of of_int of_bits round
-returns c = ap float_of (to_z-of_z w64 c.before.args.v c.before.ranges.v)
+returns c = ap float_of (to_z-of_z w64 c.args.v c.before.ranges.v)
 
-pub float-of-spec : {M : Type 1} → statement M
-float-of-spec = tie.close (tie.spec int-to-float-result returns)
+pub float_of_spec : {M : Type 1} → statement M
+float_of_spec = tie.close (tie.spec int_to_float-result returns)

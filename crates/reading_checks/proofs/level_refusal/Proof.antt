@@ -7,32 +7,32 @@ use Rattle.instruments.proofs.RefusalLaws.{refused-first, refused_second, refuse
 use Rattle.reading_checks.proofs.level_refusal.Statement.{statement}
 use Rattle.reading_checks.proofs.level_refusal.Tie as tie
 
-some-beyond-requires : tie.Need-some-beyond-requires
-some-beyond-requires c κs = tt
+some_beyond-requires : tie.Need-some_beyond-requires
+some_beyond-requires c κs = tt
 
-returns : tie.Need-returns
-returns c =
-    let a = c.before.before.args in
+returns-then-some_beyond : tie.Need-returns-then-some_beyond
+returns-then-some_beyond c =
+    let a = c.args in
     refused-first PointBeyond FixedNotZero (some_beyond a.xs.now) (unfixed a.g a.xs.now)
-    (sym c.before.some-beyond.ensures ∙ c.if1.true)
+    (sym c.some_beyond.ensures ∙ c.if-some_beyond.true)
 
-is-unfixed-requires : tie.Need-is-unfixed-requires
-is-unfixed-requires c κs = tt
+is_unfixed-requires : tie.Need-is_unfixed-requires
+is_unfixed-requires c κs = tt
 
-returns-2 : tie.Need-returns-2
-returns-2 c =
+returns-then-is_unfixed : tie.Need-returns-then-is_unfixed
+returns-then-is_unfixed c =
     let e = c.before.before in
-    let a = e.before.before.args in
+    let a = e.args in
     refused_second PointBeyond FixedNotZero (some_beyond a.xs.now) (unfixed a.g a.xs.now)
-    (sym e.before.some-beyond.ensures ∙ e.if1.false) (sym c.before.is-unfixed.ensures ∙ c.if2.true)
+    (sym e.some_beyond.ensures ∙ e.if-some_beyond.false) (sym c.is_unfixed.ensures ∙ c.if-is_unfixed.true)
 
-returns-3 : tie.Need-returns-3
-returns-3 c =
+returns-else-is_unfixed : tie.Need-returns-else-is_unfixed
+returns-else-is_unfixed c =
     let e = c.before.before in
-    let a = e.before.before.args in
+    let a = e.args in
     refused_neither PointBeyond FixedNotZero (some_beyond a.xs.now) (unfixed a.g a.xs.now)
-    (sym e.before.some-beyond.ensures ∙ e.if1.false) (sym c.before.is-unfixed.ensures ∙ c.if2.false)
+    (sym e.some_beyond.ensures ∙ e.if-some_beyond.false) (sym c.is_unfixed.ensures ∙ c.if-is_unfixed.false)
 
-pub level-refusal-spec : {M : Type 1} → statement M
-level-refusal-spec =
-    tie.close (tie.spec some-beyond-requires returns is-unfixed-requires returns-2 returns-3)
+pub level_refusal_spec : {M : Type 1} → statement M
+level_refusal_spec =
+    tie.close (tie.spec some_beyond-requires returns-then-some_beyond is_unfixed-requires returns-then-is_unfixed returns-else-is_unfixed)

@@ -34,52 +34,52 @@ abbrev after : tie.Start → List Check
 after s = length_checks (wrong s) ++ (pick s ++ state s)
 
 -- 1 and 2 have passed
-module _ (c : tie.Else1) where
+module _ (c : tie.Else-not-is_nothing) where
   abbrev s : tie.Start
   s = c.before.before.before
 
   size : in_table s.args.g ≡ true
-  size = grid_in last_kind s.args.g (passed (grid s) (after s) tt c.before.before.grid-refusal.ensures
-      c.before.is-nothing.ensures c.if1.false)
+  size = grid_in last_kind s.args.g (passed (grid s) (after s) tt c.grid_refusal-r.ensures
+      c.is_nothing.ensures (ap not c.if-not-is_nothing.false))
 
   further : {r : Refusal} → r ≡ lowest (after s) → r ≡ reading_refusal s.args.g s.args.newer.now s.args.pick
   unfolding reading_refusal
-  further e = goes_on_lem (grid s) (after s) tt c.before.before.grid-refusal.ensures c.before.is-nothing.ensures c.if1.false e
+  further e = goes_on_lem (grid s) (after s) tt c.grid_refusal-r.ensures c.is_nothing.ensures (ap not c.if-not-is_nothing.false) e
 
 -- what was said of the length
-wrong-is : (c : tie.After-wrong-length) {b : Bool} → c.wrong-length.result ≡ b → wrong c.before.before.before.before ≡ b
+wrong-is : (c : tie.After-wrong_length) {b : Bool} → c.wrong_length.result ≡ b → wrong c.before.before.before.before ≡ b
 wrong-is c e =
     let s = c.before.before.before.before in
-    sym (c.wrong-length.ensures ∙ long_is s.args.g (length s.args.newer.now) (size c.before)) ∙ e
+    sym (c.wrong_length.ensures ∙ long_is s.args.g (length s.args.newer.now) (size c.before)) ∙ e
 
-grid-refusal-requires : tie.Need-grid-refusal-requires
-grid-refusal-requires c κs = tt
+grid_refusal-r-requires : tie.Need-grid_refusal-r-requires
+grid_refusal-r-requires c κs = tt
 
-is-nothing-requires : tie.Need-is-nothing-requires
-is-nothing-requires c κs = tt
+is_nothing-requires : tie.Need-is_nothing-requires
+is_nothing-requires c κs = tt
 
-returns : tie.Need-returns
+returns-then-not-is_nothing : tie.Need-returns-then-not-is_nothing
 unfolding reading_refusal
-returns c =
+returns-then-not-is_nothing c =
     let s = c.before.before.before in
-    refused_by_lem (grid s) (after s) tt c.before.before.grid-refusal.ensures c.before.is-nothing.ensures c.if1.true
+    refused_by_lem (grid s) (after s) tt c.grid_refusal-r.ensures c.is_nothing.ensures (ap not c.if-not-is_nothing.true)
 
-wrong-length-requires : tie.Need-wrong-length-requires
-wrong-length-requires c κs = tt
+wrong_length-requires : tie.Need-wrong_length-requires
+wrong_length-requires c κs = tt
 
-returns-2 : tie.Need-returns-2
-returns-2 c =
+returns-then-wrong_length : tie.Need-returns-then-wrong_length
+returns-then-wrong_length c =
     let l = c.before in
     let s = l.before.before.before.before in
-    further l.before (refused_here WrongLength (pick s ++ state s) (wrong s) (wrong-is l c.if2.true))
+    further l.before (refused_here WrongLength (pick s ++ state s) (wrong s) (wrong-is l c.if-wrong_length.true))
 
 -- 6 has passed: the level is as long as the grid
-module _ (c : tie.Else2) where
+module _ (c : tie.Else-wrong_length) where
   abbrev t : tie.Start
   t = c.before.before.before.before.before
 
   right : wrong t ≡ false
-  right = wrong-is c.before c.if2.false
+  right = wrong-is c.before c.if-wrong_length.false
 
   long : length t.args.newer.now ≡ points t.args.g
   long = right-length t.args.g (length t.args.newer.now) right
@@ -90,33 +90,33 @@ module _ (c : tie.Else2) where
   later : {r : Refusal} → r ≡ lowest (pick t ++ state t) → r ≡ reading_refusal t.args.g t.args.newer.now t.args.pick
   later e = further c.before.before (passed_here WrongLength (pick t ++ state t) (wrong t) right e)
 
-returns-3 : tie.Need-returns-3
-returns-3 c =
+returns-then-newer-pick : tie.Need-returns-then-newer-pick
+returns-then-newer-pick c =
     let a = (t c.before).args in
     later c.before (refused_here PickUp (state (t c.before)) (not_grid_point a.g a.pick)
-    (point-test c.before (le-ltb _ _ c.if3.true)))
+    (point-test c.before (le-ltb _ _ c.if-newer-pick.true)))
 
-level-refusal-requires : tie.Need-level-refusal-requires
-level-refusal-requires c κs = tt
+level_refusal-requires : tie.Need-level_refusal-requires
+level_refusal-requires c κs = tt
 
-returns-4 : tie.Need-returns-4
-returns-4 c =
+returns : tie.Need-returns
+returns c =
     let e = c.before.before in
     let s = t e in
     let a = s.args in
-    later e (passed_here PickUp (state s) (not_grid_point a.g a.pick) (point-test e (lt-ltb _ _ c.before.if3.false))
-    (c.level-refusal.ensures ∙ ap (λ (x : Bool). lowest (state_checks (some_beyond a.newer.now) x))
+    later e (passed_here PickUp (state s) (not_grid_point a.g a.pick) (point-test e (lt-ltb _ _ c.if-newer-pick.false))
+    (c.level_refusal.ensures ∙ ap (λ (x : Bool). lowest (state_checks (some_beyond a.newer.now) x))
     (unfixed_is a.g a.newer.now (size e.before.before) (long e))))
 
-pub reading-refusal-spec : {M : Type 1} → statement M
-reading-refusal-spec =
+pub reading_refusal_spec : {M : Type 1} → statement M
+reading_refusal_spec =
     tie.close
     (tie.spec
-    grid-refusal-requires
-    is-nothing-requires
-    returns
-    wrong-length-requires
-    returns-2
-    returns-3
-    level-refusal-requires
-    returns-4)
+    grid_refusal-r-requires
+    is_nothing-requires
+    returns-then-not-is_nothing
+    wrong_length-requires
+    returns-then-wrong_length
+    returns-then-newer-pick
+    level_refusal-requires
+    returns)

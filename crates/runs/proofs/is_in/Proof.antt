@@ -5,11 +5,11 @@ use Rattle.scheme.proofs.Laws.Bools.{and_yes, and_no}
 use Rattle.runs.proofs.is_in.Statement.{statement}
 use Rattle.runs.proofs.is_in.Tie as tie
 
-returns : tie.Need-returns
-returns c = sym (and_yes (le-leb _ _ c.before.if1.true))
+returns-then-run-a : tie.Need-returns-then-run-a
+returns-then-run-a c = sym (and_yes (le-leb _ _ c.before.if-run-a.true))
 
-returns-2 : tie.Need-returns-2
-returns-2 c = sym (and_no _ (lt-leb _ _ c.if1.false))
+returns-else-run-a : tie.Need-returns-else-run-a
+returns-else-run-a c = sym (and_no _ (lt-leb _ _ c.if-run-a.false))
 
-pub is-in-spec : {M : Type 1} → statement M
-is-in-spec = tie.close (tie.spec returns returns-2)
+pub is_in_spec : {M : Type 1} → statement M
+is_in_spec = tie.close (tie.spec returns-then-run-a returns-else-run-a)

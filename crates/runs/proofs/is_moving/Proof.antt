@@ -1,6 +1,6 @@
 -- `is_moving` meets its contract: the run of a point's row has the point's column where it moves.
 use mathlib.Core.Path.{◌≡◌, sym, ap, ◌∙◌}
-use mathlib.Core.Bool.{true, ◌&&◌}
+use mathlib.Core.Bool.{not, true, ◌&&◌}
 use Prim.Native.Nat.{◌/◌, ◌%◌, ◌<◌}
 use native.Mathlib.Omega.{arith}
 use borrow.Author.Tests.{not-true, not-false}
@@ -14,12 +14,12 @@ use Rattle.runs.proofs.is_moving.Statement.{statement}
 use Rattle.runs.proofs.is_moving.Tie as tie
 
 -- the table has the grid's size, so it has a column
-module _ (c : tie.Else1) where
+module _ (c : tie.Else-not-has_size) where
   abbrev s : tie.Start
   s = c.before.before
 
   size : in_table s.args.g ≡ true
-  size = sym c.before.has-size.ensures ∙ not-false _ c.if1.false
+  size = sym c.before.has_size.ensures ∙ not-false _ (ap not c.if-not-has_size.false)
 
   some : 0 < s.args.g.columns
   some = omega (arith, (sized _ _ _ size).columns_low)
@@ -30,44 +30,44 @@ module _ (c : tie.Else1) where
   by-run e =
       sym (and_yes size ∙ moving-at _ _ size ∙ ap (λ (r : Run). in_run r (s.args.point % s.args.g.columns)) e)
 
-has-size-requires : tie.Need-has-size-requires
-has-size-requires c κs = tt
+has_size-requires : tie.Need-has_size-requires
+has_size-requires c κs = tt
+
+returns-then-not-has_size : tie.Need-returns-then-not-has_size
+returns-then-not-has_size c = sym (and_no _ (sym c.before.has_size.ensures ∙ not-true _ (ap not c.if-not-has_size.true)))
+
+nonzero_div-row : tie.Need-nonzero_div-row
+nonzero_div-row c = some c
+
+nonzero_rem-a : tie.Need-nonzero_rem-a
+nonzero_rem-a c = some c
+
+returns-then-g-row : tie.Need-returns-then-g-row
+returns-then-g-row c =
+    let e = c.before.before in
+    sym (none_in ((s e).args.point % (s e).args.g.columns)) ∙ by-run e (run_past _ _ c.if-g-row.true)
+
+row_run-requires : tie.Need-row_run-requires
+row_run-requires c κs = tt
+
+is_in-requires : tie.Need-is_in-requires
+is_in-requires c κs = tt
 
 returns : tie.Need-returns
-returns c = sym (and_no _ (sym c.before.has-size.ensures ∙ not-true _ c.if1.true))
-
-div_row : tie.Need-nonzero-div-row
-div_row c = some c
-
-rem-a : tie.Need-nonzero-rem-a
-rem-a c = some c
-
-returns-2 : tie.Need-returns-2
-returns-2 c =
-    let e = c.before.before in
-    sym (none_in ((s e).args.point % (s e).args.g.columns)) ∙ by-run e (run_past _ _ c.if2.true)
-
-row-run-requires : tie.Need-row-run-requires
-row-run-requires c κs = tt
-
-is-in-requires : tie.Need-is-in-requires
-is-in-requires c κs = tt
-
-returns-3 : tie.Need-returns-3
-returns-3 c =
+returns c =
     let r = c.before in
     let e = r.before.before.before in
-    c.is-in.ensures ∙ by-run e (sym (r.row-run.ensures ∙ row_is _ _ (size e) r.before.if2.false))
+    c.is_in.ensures ∙ by-run e (sym (r.row_run.ensures ∙ row_is _ _ (size e) r.before.if-g-row.false))
 
-pub is-moving-spec : {M : Type 1} → statement M
-is-moving-spec =
+pub is_moving_spec : {M : Type 1} → statement M
+is_moving_spec =
     tie.close
     (tie.spec
-    has-size-requires
-    returns
-    div_row
-    rem-a
-    returns-2
-    row-run-requires
-    is-in-requires
-    returns-3)
+    has_size-requires
+    returns-then-not-has_size
+    nonzero_div-row
+    nonzero_rem-a
+    returns-then-g-row
+    row_run-requires
+    is_in-requires
+    returns)

@@ -21,34 +21,34 @@ module _ (kind c r b : ℕ) where
   straight : (kind ≡ 6 → ⊥) → straight_run kind c r b ≡ row_run kind c r b
   straight other = sym (ap by_kind (ne_eqb kind 6 other))
 
-returns : tie.Need-returns
-returns c =
+returns-then-c-gt64 : tie.Need-returns-then-c-gt64
+returns-then-c-gt64 c =
     let a = c.before.before.args in
-    round a.kind a.c a.r a.b c.before.match.keys1 (off-square a.c 0 a.b (λ l. absurd (omega (arith, c.if1.true))))
+    round a.kind a.c a.r a.b c.before.in-6.is (off-square a.c 0 a.b (λ l. absurd (omega (arith, c.if-c-gt64.true))))
 
-returns-2 : tie.Need-returns-2
-returns-2 c =
+returns-then-c-b : tie.Need-returns-then-c-b
+returns-then-c-b c =
     let a = c.before.before.before.args in
-    round a.kind a.c a.r a.b c.before.before.match.keys1 (off-square _ _ _ (λ l. c.if2.true))
+    round a.kind a.c a.r a.b c.before.before.in-6.is (off-square _ _ _ (λ l. c.if-c-b.true))
 
-round-run-requires : tie.Need-round-run-requires
-round-run-requires c κs = (c.before.if1.false, c.if2.false)
+round_run-requires : tie.Need-round_run-requires
+round_run-requires c κs = (c.before.if-c-gt64.false, c.if-c-b.false)
 
-straight-run-requires : tie.Need-straight-run-requires
-straight-run-requires c κs = tt
+straight_run-requires : tie.Need-straight_run-requires
+straight_run-requires c κs = tt
 
-returns-3 : tie.Need-returns-3
-returns-3 c =
+returns-else-c-b : tie.Need-returns-else-c-b
+returns-else-c-b c =
     let e = c.before in
     let a = e.before.before.before.args in
-    c.round-run.ensures
-    ∙ round a.kind a.c a.r a.b e.before.before.match.keys1
-    (on_square_lem _ _ _ e.before.if1.false (omega (arith, e.if2.false)) e.if2.false)
+    c.round_run.ensures
+    ∙ round a.kind a.c a.r a.b e.before.before.in-6.is
+    (on_square_lem _ _ _ e.before.if-c-gt64.false (omega (arith, e.if-c-b.false)) e.if-c-b.false)
 
-returns-4 : tie.Need-returns-4
-returns-4 c = c.straight-run.ensures ∙ straight _ _ _ _ c.before.match.rest.1
+returns-in_default : tie.Need-returns-in_default
+returns-in_default c = c.straight_run.ensures ∙ straight _ _ _ _ c.before.in_default.in_default-own.rest.1
 
-pub row-run-spec : {M : Type 1} → statement M
-row-run-spec =
+pub row_run_spec : {M : Type 1} → statement M
+row_run_spec =
     tie.close
-    (tie.spec returns returns-2 round-run-requires straight-run-requires returns-3 returns-4)
+    (tie.spec returns-then-c-gt64 returns-then-c-b round_run-requires straight_run-requires returns-else-c-b returns-in_default)

@@ -8,7 +8,7 @@ new-requires : tie.Need-new-requires
 new-requires c κs = search rules
 
 returns : tie.Need-returns
-returns c = ap (λ z. record { settings = z; refusal = c.before.args.refusal }) c.new.ensures
+returns c = ap (λ z. record { settings = z; refusal = c.args.refusal }) c.new.ensures
 
-pub refused-spec : {M : Type 1} → statement M
-refused-spec = tie.close (tie.spec new-requires returns)
+pub refused_spec : {M : Type 1} → statement M
+refused_spec = tie.close (tie.spec new-requires returns)

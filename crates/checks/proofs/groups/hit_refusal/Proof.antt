@@ -13,62 +13,62 @@ use Rattle.checks.proofs.groups.hit_refusal.Statement.{statement}
 use Rattle.checks.proofs.groups.hit_refusal.Tie as tie
 
 -- what was said of the point, and of the force
-point-test : (c : tie.After-is-moving) {b : Bool} → not c.is-moving.result ≡ b →
-    let a = c.before.before.before.before.args in not_moving a.g a.h ≡ b
+point-test : (c : tie.After-is_moving) {b : Bool} → not c.is_moving.result ≡ b →
+    let a = c.args in not_moving a.g a.h ≡ b
 point-test c e =
-    let s = c.before.before.before.before in
-    ap (not_moving s.args.g) c.before.before.h.given.1 ∙ sym (ap not (c.is-moving.ensures ∙ and_yes s.requires)) ∙ e
+    let s = c.before.before in
+    ap (not_moving s.args.g) c.in-At.is ∙ sym (ap not (c.is_moving.ensures ∙ and_yes s.requires)) ∙ e
 
-force-test : (c : tie.After-is-beyond) {b : Bool} → c.is-beyond.result ≡ b →
-    too_strong c.before.before.before.before.before.before.args.h ≡ b
+force-test : (c : tie.After-is_beyond) {b : Bool} → c.is_beyond.result ≡ b →
+    too_strong c.args.h ≡ b
 force-test c e =
     let m = c.before.before in
-    ap too_strong m.before.before.h.given.1 ∙ sym (c.is-beyond.ensures ∙
-    ap beyond (to_z-of_z w64 m.before.before.h.given.0.1.0 (search rules))) ∙ e
+    ap too_strong m.in-At.is ∙ sym (c.is_beyond.ensures ∙
+    ap beyond (to_z-of_z w64 m.in-At.force (search rules))) ∙ e
 
-enum-known-h : tie.Need-enum-known-h
-enum-known-h c = search rules
+enum_known-h : tie.Need-enum_known-h
+enum_known-h c = search rules
 
-enum_told : tie.Need-enum-told
-enum_told c = search rules
+enum_told-1 : tie.Need-enum_told-1
+enum_told-1 c = search rules
 
-returns : tie.Need-returns
-returns c = search rules
+returns-in_default : tie.Need-returns-in_default
+returns-in_default c = search rules
 
-is-moving-requires : tie.Need-is-moving-requires
-is-moving-requires c κs = tt
+is_moving-requires : tie.Need-is_moving-requires
+is_moving-requires c κs = tt
 
-returns-2 : tie.Need-returns-2
-returns-2 c =
-    let a = c.before.before.before.before.before.args in
-    refused-first NotMoving TooStrong (not_moving a.g a.h) (too_strong a.h) (point-test c.before c.if1.true)
+returns-then-not-is_moving : tie.Need-returns-then-not-is_moving
+returns-then-not-is_moving c =
+    let a = c.args in
+    refused-first NotMoving TooStrong (not_moving a.g a.h) (too_strong a.h) (point-test c.before (ap not c.if-not-is_moving.true))
 
-is-beyond-requires : tie.Need-is-beyond-requires
-is-beyond-requires c κs = tt
+is_beyond-requires : tie.Need-is_beyond-requires
+is_beyond-requires c κs = tt
 
-returns-3 : tie.Need-returns-3
-returns-3 c =
+returns-then-is_beyond : tie.Need-returns-then-is_beyond
+returns-then-is_beyond c =
     let e = c.before.before in
-    let a = e.before.before.before.before.before.args in
-    refused_second NotMoving TooStrong (not_moving a.g a.h) (too_strong a.h) (point-test e.before e.if1.false)
-    (force-test c.before c.if2.true)
+    let a = e.args in
+    refused_second NotMoving TooStrong (not_moving a.g a.h) (too_strong a.h) (point-test e.before (ap not e.if-not-is_moving.false))
+    (force-test c.before c.if-is_beyond.true)
 
-returns-4 : tie.Need-returns-4
-returns-4 c =
+returns-else-is_beyond : tie.Need-returns-else-is_beyond
+returns-else-is_beyond c =
     let e = c.before.before in
-    let a = e.before.before.before.before.before.args in
-    refused_neither NotMoving TooStrong (not_moving a.g a.h) (too_strong a.h) (point-test e.before e.if1.false)
-    (force-test c.before c.if2.false)
+    let a = e.args in
+    refused_neither NotMoving TooStrong (not_moving a.g a.h) (too_strong a.h) (point-test e.before (ap not e.if-not-is_moving.false))
+    (force-test c.before c.if-is_beyond.false)
 
-pub hit-refusal-spec : {M : Type 1} → statement M
-hit-refusal-spec =
+pub hit_refusal_spec : {M : Type 1} → statement M
+hit_refusal_spec =
     tie.close
     (tie.spec
-    enum-known-h
-    enum_told
-    returns
-    is-moving-requires
-    returns-2
-    is-beyond-requires
-    returns-3
-    returns-4)
+    enum_known-h
+    enum_told-1
+    returns-in_default
+    is_moving-requires
+    returns-then-not-is_moving
+    is_beyond-requires
+    returns-then-is_beyond
+    returns-else-is_beyond)

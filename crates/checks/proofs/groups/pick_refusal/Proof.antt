@@ -11,25 +11,25 @@ use Rattle.instruments.proofs.RefusalLaws.{refused_here, passed_here}
 use Rattle.checks.proofs.groups.pick_refusal.Statement.{statement}
 use Rattle.checks.proofs.groups.pick_refusal.Tie as tie
 
-test-is : (c : tie.After-points-of) {b : Bool} → ltb c.before.args.pick c.points-of.result ≡ b →
-    not_grid_point c.before.args.g c.before.args.pick ≡ not b
+test-is : (c : tie.After-points_of) {b : Bool} → ltb c.args.pick c.points_of.result ≡ b →
+    not_grid_point c.args.g c.args.pick ≡ not b
 test-is c e =
-    let a = c.before.args in
-    let n : c.points-of.result ≡ points a.g = c.points-of.ensures ∙ ap (λ (t : Bool). cond t (points a.g) 0) c.before.requires in
+    let a = c.args in
+    let n : c.points_of.result ≡ points a.g = c.points_of.ensures ∙ ap (λ (t : Bool). cond t (points a.g) 0) c.requires in
     ap not (ap (ltb a.pick) (sym n) ∙ e)
 
-points-of-requires : tie.Need-points-of-requires
-points-of-requires c κs = tt
+points_of-requires : tie.Need-points_of-requires
+points_of-requires c κs = tt
 
-returns : tie.Need-returns
-returns c =
-    let a = c.before.before.args in
-    passed_here PickUp [] (not_grid_point a.g a.pick) (test-is c.before (lt-ltb _ _ c.if1.true)) refl
+returns-then-pick-points_of : tie.Need-returns-then-pick-points_of
+returns-then-pick-points_of c =
+    let a = c.args in
+    passed_here PickUp [] (not_grid_point a.g a.pick) (test-is c.before (lt-ltb _ _ c.if-pick-points_of.true)) refl
 
-returns-2 : tie.Need-returns-2
-returns-2 c =
-    let a = c.before.before.args in
-    refused_here PickUp [] (not_grid_point a.g a.pick) (test-is c.before (le-ltb _ _ c.if1.false))
+returns-else-pick-points_of : tie.Need-returns-else-pick-points_of
+returns-else-pick-points_of c =
+    let a = c.args in
+    refused_here PickUp [] (not_grid_point a.g a.pick) (test-is c.before (le-ltb _ _ c.if-pick-points_of.false))
 
-pub pick-refusal-spec : {M : Type 1} → statement M
-pick-refusal-spec = tie.close (tie.spec points-of-requires returns returns-2)
+pub pick_refusal_spec : {M : Type 1} → statement M
+pick_refusal_spec = tie.close (tie.spec points_of-requires returns-then-pick-points_of returns-else-pick-points_of)

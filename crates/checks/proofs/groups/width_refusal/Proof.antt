@@ -10,21 +10,21 @@ use Rattle.instruments.proofs.RefusalLaws.{refused_here, passed_here}
 use Rattle.checks.proofs.groups.width_refusal.Statement.{statement}
 use Rattle.checks.proofs.groups.width_refusal.Tie as tie
 
-sub-is-within : tie.Need-overflow-sub-is-within
-sub-is-within c = omega (arith, (sized _ _ _ c.before.requires).columns_low)
+overflow_sub-g : tie.Need-overflow_sub-g
+overflow_sub-g c = omega (arith, (sized _ _ _ c.requires).columns_low)
 
-is-within-requires : tie.Need-is-within-requires
-is-within-requires c κs = tt
+is_within-requires : tie.Need-is_within-requires
+is_within-requires c κs = tt
 
-returns : tie.Need-returns
-returns c =
-    let a = c.before.before.before.args in
-    passed_here HalfWidth [] (wrong_width a.g a.half-width) (ap not (sym c.before.is_within.ensures ∙ c.if1.true)) refl
+returns-then-is_within : tie.Need-returns-then-is_within
+returns-then-is_within c =
+    let a = c.args in
+    passed_here HalfWidth [] (wrong_width a.g a.half_width) (ap not (sym c.is_within.ensures ∙ c.if-is_within.true)) refl
 
-returns-2 : tie.Need-returns-2
-returns-2 c =
-    let a = c.before.before.before.args in
-    refused_here HalfWidth [] (wrong_width a.g a.half-width) (ap not (sym c.before.is_within.ensures ∙ c.if1.false))
+returns-else-is_within : tie.Need-returns-else-is_within
+returns-else-is_within c =
+    let a = c.args in
+    refused_here HalfWidth [] (wrong_width a.g a.half_width) (ap not (sym c.is_within.ensures ∙ c.if-is_within.false))
 
-pub width-refusal-spec : {M : Type 1} → statement M
-width-refusal-spec = tie.close (tie.spec sub-is-within is-within-requires returns returns-2)
+pub width_refusal_spec : {M : Type 1} → statement M
+width_refusal_spec = tie.close (tie.spec overflow_sub-g is_within-requires returns-then-is_within returns-else-is_within)

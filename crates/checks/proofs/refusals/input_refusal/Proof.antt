@@ -21,74 +21,74 @@ abbrev after : tie.Start → List Check
 after s = length_checks s.args.wrong ++ (hit s ++ pick s)
 
 -- 1, 2, 4 and 5 have passed
-module _ (c : tie.Else1) where
+module _ (c : tie.Else-not-is_nothing) where
   abbrev s : tie.Start
   s = c.before.before.before
 
   size : in_table s.args.i.grid ≡ true
   unfolding instrument_refusal
-  size = instrument_in s.args.i (passed (instrument_checks s.args.i) (after s) tt c.before.before.instrument-refusal.ensures
-      c.before.is-nothing.ensures c.if1.false)
+  size = instrument_in s.args.i (passed (instrument_checks s.args.i) (after s) tt c.instrument_refusal-r.ensures
+      c.is_nothing.ensures (ap not c.if-not-is_nothing.false))
 
   further : {r : Refusal} → r ≡ lowest (after s) → r ≡ lowest (instrument_checks s.args.i ++ after s)
   unfolding instrument_refusal
-  further e = goes_on_lem (instrument_checks s.args.i) (after s) tt c.before.before.instrument-refusal.ensures
-      c.before.is-nothing.ensures c.if1.false e
+  further e = goes_on_lem (instrument_checks s.args.i) (after s) tt c.instrument_refusal-r.ensures
+      c.is_nothing.ensures (ap not c.if-not-is_nothing.false) e
 
-instrument-refusal-requires : tie.Need-instrument-refusal-requires
-instrument-refusal-requires c κs = tt
+instrument_refusal-r-requires : tie.Need-instrument_refusal-r-requires
+instrument_refusal-r-requires c κs = tt
 
-is-nothing-requires : tie.Need-is-nothing-requires
-is-nothing-requires c κs = tt
+is_nothing-requires : tie.Need-is_nothing-requires
+is_nothing-requires c κs = tt
 
-returns : tie.Need-returns
+returns-then-not-is_nothing : tie.Need-returns-then-not-is_nothing
 unfolding instrument_refusal
-returns c =
+returns-then-not-is_nothing c =
     let s = c.before.before.before in
-    refused_by_lem (instrument_checks s.args.i) (after s) tt c.before.before.instrument-refusal.ensures
-    c.before.is-nothing.ensures c.if1.true
+    refused_by_lem (instrument_checks s.args.i) (after s) tt c.instrument_refusal-r.ensures
+    c.is_nothing.ensures (ap not c.if-not-is_nothing.true)
 
-returns-2 : tie.Need-returns-2
-returns-2 c =
+returns-then-wrong : tie.Need-returns-then-wrong
+returns-then-wrong c =
     let s = c.before.before.before.before in
-    further c.before (refused_here WrongLength (hit s ++ pick s) s.args.wrong c.if2.true)
+    further c.before (refused_here WrongLength (hit s ++ pick s) s.args.wrong c.if-wrong.true)
 
-hit-refusal-requires : tie.Need-hit-refusal-requires
-hit-refusal-requires c κs = size c.before
+hit_refusal-r-requires : tie.Need-hit_refusal-r-requires
+hit_refusal-r-requires c κs = size c.before.before
 
-is-nothing-requires-2 : tie.Need-is-nothing-requires-2
-is-nothing-requires-2 c κs = tt
+is_nothing-requires-2 : tie.Need-is_nothing-requires-2
+is_nothing-requires-2 c κs = tt
 
-pick-refusal-requires : tie.Need-pick-refusal-requires
-pick-refusal-requires c κs = size c.before.before.before.before
+pick_refusal-requires : tie.Need-pick_refusal-requires
+pick_refusal-requires c κs = size c.before.before.before.before.before.before
 
-returns-3 : tie.Need-returns-3
-returns-3 c =
-    let n = c.before.before in
-    let e = n.before.before in
+returns-then-is_nothing : tie.Need-returns-then-is_nothing
+returns-then-is_nothing c =
+    let n = c.before.before.before in
+    let e = n.before.before.before in
     let s = e.before.before.before.before in
-    further e.before (passed_here WrongLength (hit s ++ pick s) s.args.wrong e.if2.false
-    (goes_on_lem (hit s) (pick s) tt n.before.hit-refusal.ensures n.is-nothing2.ensures (ap not c.before.if3.true)
-    c.pick-refusal.ensures))
+    further e.before (passed_here WrongLength (hit s ++ pick s) s.args.wrong e.if-wrong.false
+    (goes_on_lem (hit s) (pick s) tt n.hit_refusal-r.ensures n.is_nothing-2.ensures (ap not c.if-is_nothing.true)
+    c.pick_refusal.ensures))
 
-returns-4 : tie.Need-returns-4
-returns-4 c =
+returns-else-is_nothing : tie.Need-returns-else-is_nothing
+returns-else-is_nothing c =
     let n = c.before in
-    let e = n.before.before in
+    let e = n.before.before.before in
     let s = e.before.before.before.before in
-    further e.before (passed_here WrongLength (hit s ++ pick s) s.args.wrong e.if2.false
-    (refused_by_lem (hit s) (pick s) tt n.before.hit-refusal.ensures n.is-nothing2.ensures (ap not c.if3.false)))
+    further e.before (passed_here WrongLength (hit s ++ pick s) s.args.wrong e.if-wrong.false
+    (refused_by_lem (hit s) (pick s) tt n.hit_refusal-r.ensures n.is_nothing-2.ensures (ap not c.if-is_nothing.false)))
 
-pub input-refusal-spec : {M : Type 1} → statement M
-input-refusal-spec =
+pub input_refusal_spec : {M : Type 1} → statement M
+input_refusal_spec =
     tie.close
     (tie.spec
-    instrument-refusal-requires
-    is-nothing-requires
-    returns
-    returns-2
-    hit-refusal-requires
-    is-nothing-requires-2
-    pick-refusal-requires
-    returns-3
-    returns-4)
+    instrument_refusal-r-requires
+    is_nothing-requires
+    returns-then-not-is_nothing
+    returns-then-wrong
+    hit_refusal-r-requires
+    is_nothing-requires-2
+    pick_refusal-requires
+    returns-then-is_nothing
+    returns-else-is_nothing)

@@ -21,82 +21,82 @@ abbrev hit : tie.Start → List Check
 hit s = hit_checks s.args.g (At s.args.centre s.args.height)
 
 abbrev width : tie.Start → List Check
-width s = width_checks s.args.g s.args.half-width
+width s = width_checks s.args.g s.args.half_width
 
 abbrev after : tie.Start → List Check
 after s = length_checks s.args.wrong ++ (hit s ++ width s)
 
 -- 1 and 2 have passed
-module _ (c : tie.Else1) where
+module _ (c : tie.Else-not-is_nothing) where
   abbrev s : tie.Start
   s = c.before.before.before
 
   size : in_table s.args.g ≡ true
-  size = grid_in last_plucked s.args.g (passed (grid s) (after s) tt c.before.before.grid-refusal.ensures
-      c.before.is-nothing.ensures c.if1.false)
+  size = grid_in last_plucked s.args.g (passed (grid s) (after s) tt c.grid_refusal-r.ensures
+      c.is_nothing.ensures (ap not c.if-not-is_nothing.false))
 
   further : {r : Refusal} → r ≡ lowest (after s) → r ≡ lowest (grid s ++ after s)
-  further e = goes_on_lem (grid s) (after s) tt c.before.before.grid-refusal.ensures c.before.is-nothing.ensures c.if1.false e
+  further e = goes_on_lem (grid s) (after s) tt c.grid_refusal-r.ensures c.is_nothing.ensures (ap not c.if-not-is_nothing.false) e
 
 -- 7 and 8 of the height as it was stored
-hit-is : (c : tie.After-hit-refusal) → c.hit-refusal.result ≡ lowest (hit c.before.before.before.before.before)
+hit-is : (c : tie.After-hit_refusal-r) → c.hit_refusal-r.result ≡ lowest (hit c.before.before.before.before.before)
 hit-is c =
     let s = c.before.before.before.before.before in
-    c.hit-refusal.ensures ∙ ap (λ (z : ℤ). lowest (hit_checks s.args.g (At s.args.centre z)))
+    c.hit_refusal-r.ensures ∙ ap (λ (z : ℤ). lowest (hit_checks s.args.g (At s.args.centre z)))
     (back s.args.height s.ranges.height.sfits)
 
-grid-refusal-requires : tie.Need-grid-refusal-requires
-grid-refusal-requires c κs = tt
+grid_refusal-r-requires : tie.Need-grid_refusal-r-requires
+grid_refusal-r-requires c κs = tt
 
-is-nothing-requires : tie.Need-is-nothing-requires
-is-nothing-requires c κs = tt
+is_nothing-requires : tie.Need-is_nothing-requires
+is_nothing-requires c κs = tt
 
-returns : tie.Need-returns
-returns c =
+returns-then-not-is_nothing : tie.Need-returns-then-not-is_nothing
+returns-then-not-is_nothing c =
     let s = c.before.before.before in
-    refused_by_lem (grid s) (after s) tt c.before.before.grid-refusal.ensures c.before.is-nothing.ensures c.if1.true
+    refused_by_lem (grid s) (after s) tt c.grid_refusal-r.ensures c.is_nothing.ensures (ap not c.if-not-is_nothing.true)
 
-returns-2 : tie.Need-returns-2
-returns-2 c =
+returns-then-wrong : tie.Need-returns-then-wrong
+returns-then-wrong c =
     let s = c.before.before.before.before in
-    further c.before (refused_here WrongLength (hit s ++ width s) s.args.wrong c.if2.true)
+    further c.before (refused_here WrongLength (hit s ++ width s) s.args.wrong c.if-wrong.true)
 
-hit-refusal-requires : tie.Need-hit-refusal-requires
-hit-refusal-requires c κs = size c.before
+hit_refusal-r-requires : tie.Need-hit_refusal-r-requires
+hit_refusal-r-requires c κs = size c.before
 
-is-nothing-requires-2 : tie.Need-is-nothing-requires-2
-is-nothing-requires-2 c κs = tt
+is_nothing-requires-2 : tie.Need-is_nothing-requires-2
+is_nothing-requires-2 c κs = tt
 
-width-refusal-requires : tie.Need-width-refusal-requires
-width-refusal-requires c κs = size c.before.before.before.before
+width_refusal-requires : tie.Need-width_refusal-requires
+width_refusal-requires c κs = size c.before.before.before.before
 
-returns-3 : tie.Need-returns-3
-returns-3 c =
+returns-then-is_nothing : tie.Need-returns-then-is_nothing
+returns-then-is_nothing c =
     let n = c.before.before in
     let e = n.before.before in
     let s = e.before.before.before.before in
-    further e.before (passed_here WrongLength (hit s ++ width s) s.args.wrong e.if2.false
-    (goes_on_lem (hit s) (width s) tt (hit-is n.before) n.is-nothing2.ensures (ap not c.before.if3.true)
-    c.width-refusal.ensures))
+    further e.before (passed_here WrongLength (hit s ++ width s) s.args.wrong e.if-wrong.false
+    (goes_on_lem (hit s) (width s) tt (hit-is n.before) n.is_nothing-2.ensures (ap not c.if-is_nothing.true)
+    c.width_refusal.ensures))
 
-returns-4 : tie.Need-returns-4
-returns-4 c =
+returns-else-is_nothing : tie.Need-returns-else-is_nothing
+returns-else-is_nothing c =
     let n = c.before in
     let e = n.before.before in
     let s = e.before.before.before.before in
-    further e.before (passed_here WrongLength (hit s ++ width s) s.args.wrong e.if2.false
-    (refused_by_lem (hit s) (width s) tt (hit-is n.before) n.is-nothing2.ensures (ap not c.if3.false)))
+    further e.before (passed_here WrongLength (hit s ++ width s) s.args.wrong e.if-wrong.false
+    (refused_by_lem (hit s) (width s) tt (hit-is n.before) n.is_nothing-2.ensures (ap not c.if-is_nothing.false)))
 
-pub pluck-refusal-spec : {M : Type 1} → statement M
-pluck-refusal-spec =
+pub pluck_refusal_spec : {M : Type 1} → statement M
+pluck_refusal_spec =
     tie.close
     (tie.spec
-    grid-refusal-requires
-    is-nothing-requires
-    returns
-    returns-2
-    hit-refusal-requires
-    is-nothing-requires-2
-    width-refusal-requires
-    returns-3
-    returns-4)
+    grid_refusal-r-requires
+    is_nothing-requires
+    returns-then-not-is_nothing
+    returns-then-wrong
+    hit_refusal-r-requires
+    is_nothing-requires-2
+    width_refusal-requires
+    returns-then-is_nothing
+    returns-else-is_nothing)

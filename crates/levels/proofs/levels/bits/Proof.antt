@@ -17,38 +17,38 @@ same c = back c.args.v (range c)
 below : (c : tie.Start) {b : Bool} → lt_z (to_z w64 (of_z w64 c.args.v)) (pos 0) ≡ b → lt_z c.args.v (pos 0) ≡ b
 below c t = ap (λ (z : ℤ). lt_z z (pos 0)) (sym (same c)) ∙ t
 
-down-at : (c : tie.Then1) → down c.before.args.v ≡ pos (mag c.before.args.v)
-down-at c = down_is c.before.args.v (range c.before) (below c.before c.if1.true)
+down-at : (c : tie.Then-v-lt0) → down c.args.v ≡ pos (mag c.args.v)
+down-at c = down_is c.args.v (range c.before) (below c.before c.if-v-lt0.true)
 
 -- −1 − v as it was stored
-stored : (c : tie.Then1) → to_z w64 (of_z w64 (down c.before.args.v)) ≡ pos (mag c.before.args.v)
-stored c = ap (λ (z : ℤ). to_z w64 (of_z w64 z)) (down-at c) ∙ back (pos (mag c.before.args.v)) (range c.before)
+stored : (c : tie.Then-v-lt0) → to_z w64 (of_z w64 (down c.args.v)) ≡ pos (mag c.args.v)
+stored c = ap (λ (z : ℤ). to_z w64 (of_z w64 z)) (down-at c) ∙ back (pos (mag c.args.v)) (range c.before)
 
-up_at : (c : tie.Else1) → to_z w64 (of_z w64 c.before.args.v) ≡ pos (mag c.before.args.v)
-up_at c = same c.before ∙ not-below c.before.args.v (below c.before c.if1.false)
+up_at : (c : tie.Else-v-lt0) → to_z w64 (of_z w64 c.args.v) ≡ pos (mag c.args.v)
+up_at c = same c.before ∙ not-below c.args.v (below c.before c.if-v-lt0.false)
 
 -- a number that is not negative is cast as it is
 cast-at : {z : ℤ} {n : _} → z ≡ pos n → n < 2 ^ 63 → T (non_neg z) × Fits w64 (nat_abs z)
 cast-at e h = subst (λ (x : ℤ). T (non_neg x) × Fits w64 (nat_abs x)) (sym e) (tt, record { fits = omega arith })
 
-sub-result : tie.Need-overflow-sub-result
-sub-result c = subst (SFits w64) (sym (down-at c)) (record { sfits = range c.before })
+overflow_sub-result : tie.Need-overflow_sub-result
+overflow_sub-result c = subst (SFits w64) (sym (down-at c)) (record { sfits = range c.before })
 
-cast-result : tie.Need-overflow-cast-result
-cast-result c = cast-at (stored c) (range c.before)
+overflow_cast-result : tie.Need-overflow_cast-result
+overflow_cast-result c = cast-at (stored c) (range c.before)
 
-sub-result-2 : tie.Need-overflow-sub-result-2
-sub-result-2 c = subst (λ (z : ℤ). nat_abs z ≤ 2 ^ 64 - 1) (sym (stored c)) (omega (arith, range c.before))
+overflow_sub-result-then-v-lt0 : tie.Need-overflow_sub-result-then-v-lt0
+overflow_sub-result-then-v-lt0 c = subst (λ (z : ℤ). nat_abs z ≤ 2 ^ 64 - 1) (sym (stored c)) (omega (arith, range c.before))
+
+returns-then-v-lt0 : tie.Need-returns-then-v-lt0
+returns-then-v-lt0 c = ap (λ (z : ℤ). 2 ^ 64 - 1 - nat_abs z) (stored c) ∙ bits_below c.args.v (below c.before c.if-v-lt0.true)
+
+overflow_cast-result-2 : tie.Need-overflow_cast-result-2
+overflow_cast-result-2 c = cast-at (up_at c) (range c.before)
 
 returns : tie.Need-returns
-returns c = ap (λ (z : ℤ). 2 ^ 64 - 1 - nat_abs z) (stored c) ∙ bits_below c.before.args.v (below c.before c.if1.true)
+returns c = ap nat_abs (up_at c) ∙ ap bits_of (sym (not-below c.args.v (below c.before c.if-v-lt0.false)))
 
-cast-result-2 : tie.Need-overflow-cast-result-2
-cast-result-2 c = cast-at (up_at c) (range c.before)
-
-returns-2 : tie.Need-returns-2
-returns-2 c = ap nat_abs (up_at c) ∙ ap bits_of (sym (not-below c.before.args.v (below c.before c.if1.false)))
-
-pub bits-spec : {M : Type 1} → statement M
-bits-spec =
-    tie.close (tie.spec sub-result cast-result sub-result-2 returns cast-result-2 returns-2)
+pub bits_spec : {M : Type 1} → statement M
+bits_spec =
+    tie.close (tie.spec overflow_sub-result overflow_cast-result overflow_sub-result-then-v-lt0 returns-then-v-lt0 overflow_cast-result-2 returns)

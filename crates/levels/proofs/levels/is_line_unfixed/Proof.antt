@@ -17,13 +17,13 @@ module _ (s : tie.Start) where
   some = (sized _ _ _ s.requires.0).columns_low
 
   long : length s.args.xs.now ≡ s.args.g.columns
-  long = s.pre.2 ∙ line-points s.args.g s.pre.0 s.pre.1
+  long = s.requires.2 ∙ line-points s.args.g s.requires.0 s.requires.1
 
   -- by the kind K
   by-ends : {K : Kind} → kind s.args.g ≡ K
       → fixed_not_zero s.args.g s.args.xs.now ≡ ends_not_zero K s.args.xs.now (s.args.g.columns - 1)
   by-ends e =
-      line_test s.args.xs.now s.args.g s.pre.0 s.pre.1 s.pre.2
+      line_test s.args.xs.now s.args.g s.requires.0 s.requires.1 s.requires.2
       ∙ ap (λ (K : Kind). ends_not_zero K s.args.xs.now (s.args.g.columns - 1)) e
 
   -- a point as it was handed on
@@ -31,60 +31,60 @@ module _ (s : tie.Start) where
       → ltb 0 (nat_abs (to_z w64 (of_z w64 (point s.args.xs.now k)))) ≡ not_zero s.args.xs.now k
   read k h = ap (λ (z : ℤ). ltb 0 (nat_abs z)) (back (point s.args.xs.now k) h)
 
-sub-last : tie.Need-overflow-sub-last
-sub-last c = omega (arith, some c.before)
+overflow_sub-last : tie.Need-overflow_sub-last
+overflow_sub-last c = omega (arith, some c.before)
 
-shared-slice-copy-out-is-not-zero : tie.Need-shared-slice-copy-out-is-not-zero
-shared-slice-copy-out-is-not-zero c = let s = c.before.before in omega (arith, some s, long s)
+bounds-xs-0 : tie.Need-bounds-xs-0
+bounds-xs-0 c = let s = c.before.before in omega (arith, some s, long s)
 
-is-not-zero-requires : tie.Need-is-not-zero-requires
-is-not-zero-requires c κs = search rules
+is_not_zero-requires : tie.Need-is_not_zero-requires
+is_not_zero-requires c κs = search rules
 
-shared-slice-copy-out-is-not-zero-2 : tie.Need-shared-slice-copy-out-is-not-zero-2
-shared-slice-copy-out-is-not-zero-2 c = let s = c.before.before in omega (arith, some s, long s)
+bounds-xs-0-in_default : tie.Need-bounds-xs-0-in_default
+bounds-xs-0-in_default c = let s = c.before.before in omega (arith, some s, long s)
 
-is-not-zero-requires-2 : tie.Need-is-not-zero-requires-2
-is-not-zero-requires-2 c κs = search rules
+is_not_zero-requires-in_default : tie.Need-is_not_zero-requires-in_default
+is_not_zero-requires-in_default c κs = search rules
 
-mul-is-not-zero : tie.Need-overflow-mul-is-not-zero
-mul-is-not-zero c = let s = c.before.before.before.before in omega (arith, (sized _ _ _ s.requires.0).columns_high)
+offset_bounds-xs-last : tie.Need-offset_bounds-xs-last
+offset_bounds-xs-last c = let s = c.before.before.before.before in omega (arith, (sized _ _ _ s.requires.0).columns_high)
 
-shared-slice-copy-out-is-not-zero-3 : tie.Need-shared-slice-copy-out-is-not-zero-3
-shared-slice-copy-out-is-not-zero-3 c = let s = c.before.before.before.before in omega (arith, some s, long s)
+bounds-xs-last : tie.Need-bounds-xs-last
+bounds-xs-last c = let s = c.before.before.before.before in omega (arith, some s, long s)
 
-is-not-zero-requires-3 : tie.Need-is-not-zero-requires-3
-is-not-zero-requires-3 c κs = search rules
+is_not_zero-requires-in_default-2 : tie.Need-is_not_zero-requires-in_default-2
+is_not_zero-requires-in_default-2 c κs = search rules
 
-returns : tie.Need-returns
-returns c = sym (by-ends c.before.before (kind_is freeString c.match.keys1))
+returns-in-3 : tie.Need-returns-in-3
+returns-in-3 c = sym (by-ends c.before.before (kind_is freeString c.in-3.is))
 
-returns-2 : tie.Need-returns-2
-returns-2 c =
+returns-in-2 : tie.Need-returns-in-2
+returns-in-2 c =
     let m = c.before.before in
     let s = m.before.before in
-    c.is-not-zero.ensures ∙ read s 0 c.before.is-not-zero-arg.given ∙ sym (by-ends s (kind_is halfFreeString m.match.keys2))
+    c.is_not_zero.ensures ∙ read s 0 c.is_not_zero-arg-1.given ∙ sym (by-ends s (kind_is halfFreeString m.in-2.is))
 
-returns-3 : tie.Need-returns-3
-returns-3 c =
+returns-in_default : tie.Need-returns-in_default
+returns-in_default c =
     let m = c.before.before.before.before in
     let s = m.before.before in
     let a = s.args in
-    ap₂ ◌||◌ (c.before.before.is-not-zero2.ensures ∙ read s 0 c.before.before.before.is-not-zero-arg2.given)
-    (c.is-not-zero3.ensures ∙ read s (s.args.g.columns - 1) c.before.is-not-zero-arg3.given)
-    ∙ sym (by-ends s refl ∙ both_ends_lem a.xs.now _ _ _ a.g.kind s.requires.1 m.match.rest.0.1 m.match.rest.1 s.requires.0)
+    ap₂ ◌||◌ (c.is_not_zero-in_default.ensures ∙ read s 0 c.is_not_zero-arg-in_default-1.given)
+    (c.is_not_zero-in_default-2.ensures ∙ read s (s.args.g.columns - 1) c.is_not_zero-arg-in_default-2-1.given)
+    ∙ sym (by-ends s refl ∙ both_ends_lem a.xs.now _ _ _ a.g.kind s.requires.1 m.in_default.in_default-own.rest.0.1 m.in_default.in_default-own.rest.1 s.requires.0)
 
-pub is-line-unfixed-spec : {M : Type 1} → statement M
-is-line-unfixed-spec =
+pub is_line_unfixed_spec : {M : Type 1} → statement M
+is_line_unfixed_spec =
     tie.close
     (tie.spec
-    sub-last
-    shared-slice-copy-out-is-not-zero
-    is-not-zero-requires
-    shared-slice-copy-out-is-not-zero-2
-    is-not-zero-requires-2
-    mul-is-not-zero
-    shared-slice-copy-out-is-not-zero-3
-    is-not-zero-requires-3
-    returns
-    returns-2
-    returns-3)
+    overflow_sub-last
+    bounds-xs-0
+    is_not_zero-requires
+    bounds-xs-0-in_default
+    is_not_zero-requires-in_default
+    offset_bounds-xs-last
+    bounds-xs-last
+    is_not_zero-requires-in_default-2
+    returns-in-3
+    returns-in-2
+    returns-in_default)

@@ -6,5 +6,5 @@ use Rattle.levels.proofs.levels.is_not_zero.Tie as tie
 returns : tie.Need-returns
 returns c = bits_test c.args.v c.ranges.v.sfits
 
-pub is-not-zero-spec : {M : Type 1} → statement M
-is-not-zero-spec = tie.close (tie.spec returns)
+pub is_not_zero_spec : {M : Type 1} → statement M
+is_not_zero_spec = tie.close (tie.spec returns)

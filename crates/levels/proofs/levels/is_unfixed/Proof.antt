@@ -1,4 +1,6 @@
 -- `is_unfixed` meets its contract: it looks only at a level as long as a grid of the table.
+use mathlib.Core.Bool.{not}
+use mathlib.Core.Path.{ap}
 use Rattle.std.proofs.Common.{◌≡◌, Bool, true, cond, List, length, ℤ, sym, ap, ◌∙◌, rules, ne_eqb}
 use borrow.Author.Tests.{not-true, not-false}
 use Rattle.types.specs.declared.Grid.{Grid}
@@ -10,60 +12,60 @@ use Rattle.levels.proofs.LevelLaws.{unfixed_is}
 use Rattle.levels.proofs.levels.is_unfixed.Statement.{statement}
 use Rattle.levels.proofs.levels.is_unfixed.Tie as tie
 
-size : (c : tie.Else1) → in_table c.before.before.args.g ≡ true
-size c = sym c.before.has-size.ensures ∙ not-false _ c.if1.false
+size : (c : tie.Else-not-has_size) → in_table c.args.g ≡ true
+size c = sym c.has_size.ensures ∙ not-false _ (ap not c.if-not-has_size.false)
 
-points-is : (c : tie.After-points-of) → c.points-of.result ≡ points c.before.before.before.args.g
-points-is c = c.points-of.ensures ∙ ap (λ (t : Bool). cond t (points c.before.before.before.args.g) 0) (size c.before)
+points-is : (c : tie.After-points_of) → c.points_of.result ≡ points c.args.g
+points-is c = c.points_of.ensures ∙ ap (λ (t : Bool). cond t (points c.args.g) 0) (size c.before)
 
-has-size-requires : tie.Need-has-size-requires
-has-size-requires c κs = tt
+has_size-requires : tie.Need-has_size-requires
+has_size-requires c κs = tt
 
-returns : tie.Need-returns
+returns-then-not-has_size : tie.Need-returns-then-not-has_size
 unfolding unfixed
-returns c = sym (and_no _ (sym c.before.has-size.ensures ∙ not-true _ c.if1.true))
+returns-then-not-has_size c = sym (and_no _ (sym c.has_size.ensures ∙ not-true _ (ap not c.if-not-has_size.true)))
 
-points-of-requires : tie.Need-points-of-requires
-points-of-requires c κs = tt
+points_of-requires : tie.Need-points_of-requires
+points_of-requires c κs = tt
 
-returns-2 : tie.Need-returns-2
+returns-then-xs-points_of : tie.Need-returns-then-xs-points_of
 unfolding unfixed
-returns-2 c = sym (and_yes (size c.before.before) ∙ and_no _ (ne_eqb _ _ (λ e. c.if2.true (e ∙ sym (points-is c.before)))))
+returns-then-xs-points_of c = sym (and_yes (size c.before.before) ∙ and_no _ (ne_eqb _ _ (λ e. c.if-xs-points_of.true (e ∙ sym (points-is c.before)))))
 
-module _ (c : tie.Else2) where
+module _ (c : tie.Else-xs-points_of) where
   abbrev g : Grid
-  g = c.before.before.before.before.args.g
+  g = c.args.g
 
   abbrev xs : List ℤ
-  xs = c.before.before.before.before.args.xs.now
+  xs = c.args.xs.now
 
   sound : (in_table g ≡ true) × (length xs ≡ points g)
-  sound = (size c.before.before, c.if2.false ∙ points-is c.before)
+  sound = (size c.before.before, c.if-xs-points_of.false ∙ points-is c.before)
 
   in_table_lem : {t : Bool} → t ≡ fixed_not_zero g xs → t ≡ unfixed g xs
   in_table_lem e = e ∙ sym (unfixed_is _ _ sound.0 sound.1)
 
-is-line-unfixed-requires : tie.Need-is-line-unfixed-requires
-is-line-unfixed-requires c κs = ((sound c.before.before).0, search rules, (sound c.before.before).1)
+is_line_unfixed-requires : tie.Need-is_line_unfixed-requires
+is_line_unfixed-requires c κs = ((sound c.before.before).0, search rules, (sound c.before.before).1)
 
-returns-3 : tie.Need-returns-3
-returns-3 c = in_table_lem c.before.before.before c.is-line-unfixed.ensures
+returns-then-g-le-BAR : tie.Need-returns-then-g-le-BAR
+returns-then-g-le-BAR c = in_table_lem c.before.before.before c.is_line_unfixed.ensures
 
-rows-not-zero-requires : tie.Need-rows-not-zero-requires
-rows-not-zero-requires c κs = sound c.before.before
+rows_not_zero-requires : tie.Need-rows_not_zero-requires
+rows_not_zero-requires c κs = sound c.before.before
 
-returns-4 : tie.Need-returns-4
-returns-4 c = in_table_lem c.before.before.before c.rows-not-zero.ensures
+returns : tie.Need-returns
+returns c = in_table_lem c.before.before.before c.rows_not_zero.ensures
 
-pub is-unfixed-spec : {M : Type 1} → statement M
-is-unfixed-spec =
+pub is_unfixed_spec : {M : Type 1} → statement M
+is_unfixed_spec =
     tie.close
     (tie.spec
-    has-size-requires
-    returns
-    points-of-requires
-    returns-2
-    is-line-unfixed-requires
-    returns-3
-    rows-not-zero-requires
-    returns-4)
+    has_size-requires
+    returns-then-not-has_size
+    points_of-requires
+    returns-then-xs-points_of
+    is_line_unfixed-requires
+    returns-then-g-le-BAR
+    rows_not_zero-requires
+    returns)

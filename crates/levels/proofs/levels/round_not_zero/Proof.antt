@@ -1,4 +1,6 @@
 -- `round_not_zero` meets its contract: the columns passed are at the edge, and 0 from both ends.
+use mathlib.Core.Bool.{not}
+use mathlib.Core.Path.{ap}
 use Rattle.std.proofs.Common.{◌≡◌, ℕ, ◌+◌, ◌-◌, Bool, true, List, ℤ, sym, ◌∙◌, arith, rules, lt-ltb, le-leb}
 use borrow.Author.Tests.{not-true, not-false}
 use Rattle.scheme.specs.Lists.{point}
@@ -12,123 +14,123 @@ use Rattle.levels.proofs.RoundRowLaws.{both_zero, one_not_zero, clear, clear_is,
 use Rattle.levels.proofs.levels.round_not_zero.Statement.{statement}
 use Rattle.levels.proofs.levels.round_not_zero.Tie as tie
 
-abbrev invariant-loop : tie.invariant-loop
-invariant-loop xs start c b a₀ a = Passed c (clear xs start c b) a
+abbrev invariant-loop-a : tie.invariant-loop-a
+invariant-loop-a xs start c b a₀ a = Passed c (clear xs start c b) a
 
-abbrev decreases-loop : tie.decreases-loop
-decreases-loop xs start c b a₀ a = c - a
+abbrev decreases-loop-a : tie.decreases-loop-a
+decreases-loop-a xs start c b a₀ a = c - a
 
 -- a turn of the loop: its column, and what is_round_fixed answered of it
-module _ (t : tie.After-is-round-fixed invariant-loop decreases-loop) where
+module _ (t : tie.After-is_round_fixed invariant-loop-a decreases-loop-a) where
   abbrev xs : List ℤ
-  xs = t.before.before.before.args.xs.now
+  xs = t.args.xs.now
 
   abbrev s : ℕ
-  s = t.before.before.before.args.start
+  s = t.args.start
 
   abbrev c : ℕ
-  c = t.before.before.before.args.c
+  c = t.args.c
 
   abbrev b : ℕ
-  b = t.before.before.before.args.b
+  b = t.args.b
 
   abbrev a : ℕ
-  a = t.before.before.loop.a
+  a = t.loop-a.a
 
   on : on_square c a b ≡ true
   on = and_yes (le-leb c 64 (search rules)) ∙ and_yes (lt-ltb a c (search rules)) ∙ lt-ltb b c (search rules)
 
-  edge : {x : Bool} → t.is-round-fixed.result ≡ x → round_edge c a b ≡ x
-  edge e = sym (and_yes on) ∙ sym t.is-round-fixed.ensures ∙ e
+  edge : {x : Bool} → t.is_round_fixed.result ≡ x → round_edge c a b ≡ x
+  edge e = sym (and_yes on) ∙ sym t.is_round_fixed.ensures ∙ e
 
-loop-holds : tie.Need-loop-init invariant-loop decreases-loop
-loop-holds c = passed_none _ _
+loop-a-init : tie.Need-loop-a-init invariant-loop-a decreases-loop-a
+loop-a-init c = passed_none _ _
 
-is-round-fixed-requires : tie.Need-is-round-fixed-requires invariant-loop decreases-loop
-is-round-fixed-requires c κs = tt
+is_round_fixed-requires : tie.Need-is_round_fixed-requires invariant-loop-a decreases-loop-a
+is_round_fixed-requires c κs = tt
 
-returns : tie.Need-returns invariant-loop decreases-loop
-returns k = let t = k.before in
-    sym (none_found (xs t) (s t) (c t) (b t) (a t) t.before.before.loop.invariant (λ h. edge t (not-true _ k.if1.true)))
+returns-then-not-is_round_fixed : tie.Need-returns-then-not-is_round_fixed invariant-loop-a decreases-loop-a
+returns-then-not-is_round_fixed k = let t = k.before in
+    sym (none_found (xs t) (s t) (c t) (b t) (a t) t.loop-a.invariant (λ h. edge t (not-true _ (ap not k.if-not-is_round_fixed.true))))
 
-add-if2 : tie.Need-overflow-add-if2 invariant-loop decreases-loop
-add-if2 c = search rules
+overflow_add-start : tie.Need-overflow_add-start invariant-loop-a decreases-loop-a
+overflow_add-start c = search rules
 
-mul-if2 : tie.Need-overflow-mul-if2 invariant-loop decreases-loop
-mul-if2 c = search rules
+offset_bounds-xs-start : tie.Need-offset_bounds-xs-start invariant-loop-a decreases-loop-a
+offset_bounds-xs-start c = search rules
 
-shared-slice-copy-out-if2 : tie.Need-shared-slice-copy-out-if2 invariant-loop decreases-loop
-shared-slice-copy-out-if2 c = search rules
+bounds-xs-start : tie.Need-bounds-xs-start invariant-loop-a decreases-loop-a
+bounds-xs-start c = search rules
 
-sub-if2 : tie.Need-overflow-sub-if2 invariant-loop decreases-loop
-sub-if2 c = search rules
+overflow_sub-c : tie.Need-overflow_sub-c invariant-loop-a decreases-loop-a
+overflow_sub-c c = search rules
 
-sub-if2-2 : tie.Need-overflow-sub-if2-2 invariant-loop decreases-loop
-sub-if2-2 c = search rules
+overflow_sub-c-in-loop-a : tie.Need-overflow_sub-c-in-loop-a invariant-loop-a decreases-loop-a
+overflow_sub-c-in-loop-a c = search rules
 
-add-if2-2 : tie.Need-overflow-add-if2-2 invariant-loop decreases-loop
-add-if2-2 c = search rules
+overflow_add-start-in-loop-a : tie.Need-overflow_add-start-in-loop-a invariant-loop-a decreases-loop-a
+overflow_add-start-in-loop-a c = search rules
 
-mul-if2-2 : tie.Need-overflow-mul-if2-2 invariant-loop decreases-loop
-mul-if2-2 c = search rules
+offset_bounds-xs-start-in-loop-a : tie.Need-offset_bounds-xs-start-in-loop-a invariant-loop-a decreases-loop-a
+offset_bounds-xs-start-in-loop-a c = search rules
 
-shared-slice-copy-out-if2-2 : tie.Need-shared-slice-copy-out-if2-2 invariant-loop decreases-loop
-shared-slice-copy-out-if2-2 c = search rules
+bounds-xs-start-in-loop-a : tie.Need-bounds-xs-start-in-loop-a invariant-loop-a decreases-loop-a
+bounds-xs-start-in-loop-a c = search rules
 
 -- the two points that were read
-abbrev left : tie.After-is-round-fixed invariant-loop decreases-loop → ℤ
+abbrev left : tie.After-is_round_fixed invariant-loop-a decreases-loop-a → ℤ
 left t = point (xs t) (s t + a t)
 
-abbrev right : tie.After-is-round-fixed invariant-loop decreases-loop → ℤ
+abbrev right : tie.After-is_round_fixed invariant-loop-a decreases-loop-a → ℤ
 right t = point (xs t) (s t + (c t - 1 - a t))
 
-returns-2 : tie.Need-returns-2 invariant-loop decreases-loop
-returns-2 k =
+returns-then-xs-start-ne0 : tie.Need-returns-then-xs-start-ne0 invariant-loop-a decreases-loop-a
+returns-then-xs-start-ne0 k =
     let o = k.before.before.before in
     let t = o.before in
-    let e = edge t (not-false _ o.if1.false) in
+    let e = edge t (not-false _ (ap not o.if-not-is_round_fixed.false)) in
     sym (one_not_zero (left t) (right t) (round_not_zero (xs t) (s t) (c t) (b t) ≡ true)
     (left_found (xs t) (s t) (c t) (b t) (a t) (search rules) e) (right_found (xs t) (s t) (c t) (b t) (a t) (search rules) e)
-    k.if2.true)
+    k.if-xs-start-ne0.true)
 
-add_a : tie.Need-overflow-add-a invariant-loop decreases-loop
-add_a c = search rules
+overflow_add-a : tie.Need-overflow_add-a invariant-loop-a decreases-loop-a
+overflow_add-a c = search rules
 
-loop-less : tie.Need-loop-smaller invariant-loop decreases-loop
-loop-less c = search rules
+loop-a-smaller : tie.Need-loop-a-smaller invariant-loop-a decreases-loop-a
+loop-a-smaller c = search rules
 
-loop-again : tie.Need-loop-preserved invariant-loop decreases-loop
-loop-again k =
+loop-a-preserved : tie.Need-loop-a-preserved invariant-loop-a decreases-loop-a
+loop-a-preserved k =
     let o = k.before.before.before in
     let t = o.before in
-    passed-more _ _ (search rules) t.before.before.loop.invariant
-    (clear_is (xs t) (s t) (c t) (b t) (a t) (edge t (not-false _ o.if1.false))
-    (both_zero (left t) (right t) k.before.before.if22.given k.before.if23.given k.if2.false))
+    passed-more _ _ (search rules) t.loop-a.invariant
+    (clear_is (xs t) (s t) (c t) (b t) (a t) (edge t (not-false _ (ap not o.if-not-is_round_fixed.false)))
+    (both_zero (left t) (right t) k.t11-1.given k.t17-1.given k.if-xs-start-ne0.false))
 
-returns-3 : tie.Need-returns-3 invariant-loop decreases-loop
-returns-3 k =
-    let r = k.before.before.args in
-    sym (none_found r.xs.now r.start r.c r.b k.before.loop.a k.before.loop.invariant (λ h. absurd (omega arith)))
+returns : tie.Need-returns invariant-loop-a decreases-loop-a
+returns k =
+    let r = k.args in
+    sym (none_found r.xs.now r.start r.c r.b k.loop-a.a k.loop-a.invariant (λ h. absurd (omega arith)))
 
-pub round-not-zero-spec : {M : Type 1} → statement M
-round-not-zero-spec =
+pub round_not_zero_spec : {M : Type 1} → statement M
+round_not_zero_spec =
     tie.close
     (tie.spec
-    invariant-loop
-    decreases-loop
-    loop-holds
-    is-round-fixed-requires
-    returns
-    add-if2
-    mul-if2
-    shared-slice-copy-out-if2
-    sub-if2
-    sub-if2-2
-    add-if2-2
-    mul-if2-2
-    shared-slice-copy-out-if2-2
-    returns-2
-    add_a
-    loop-less
-    loop-again
-    returns-3)
+    invariant-loop-a
+    decreases-loop-a
+    loop-a-init
+    is_round_fixed-requires
+    returns-then-not-is_round_fixed
+    overflow_add-start
+    offset_bounds-xs-start
+    bounds-xs-start
+    overflow_sub-c
+    overflow_sub-c-in-loop-a
+    overflow_add-start-in-loop-a
+    offset_bounds-xs-start-in-loop-a
+    bounds-xs-start-in-loop-a
+    returns-then-xs-start-ne0
+    overflow_add-a
+    loop-a-smaller
+    loop-a-preserved
+    returns)

@@ -5,36 +5,36 @@ use Rattle.levels.specs.Levels.{some_not_zero}
 use Rattle.levels.proofs.levels.row_not_zero.Statement.{statement}
 use Rattle.levels.proofs.levels.row_not_zero.Tie as tie
 
-some-not-zero-requires : tie.Need-some-not-zero-requires
-some-not-zero-requires c κs = omega arith
+some_not_zero-requires : tie.Need-some_not_zero-requires
+some_not_zero-requires c κs = omega arith
 
-returns : tie.Need-returns
-returns c = sym (or_yes _ (sym c.before.some-not-zero.ensures ∙ c.if1.true))
+returns-then-some_not_zero : tie.Need-returns-then-some_not_zero
+returns-then-some_not_zero c = sym (or_yes _ (sym c.some_not_zero.ensures ∙ c.if-some_not_zero.true))
 
-add-some-not-zero : tie.Need-overflow-add-some-not-zero
-add-some-not-zero c = omega arith
+overflow_add-start : tie.Need-overflow_add-start
+overflow_add-start c = omega arith
 
-sub-some-not-zero : tie.Need-overflow-sub-some-not-zero
-sub-some-not-zero c = search rules
+overflow_sub-columns : tie.Need-overflow_sub-columns
+overflow_sub-columns c = search rules
 
-some-not-zero-requires-2 : tie.Need-some-not-zero-requires-2
-some-not-zero-requires-2 c κs = omega arith
+some_not_zero-requires-2 : tie.Need-some_not_zero-requires-2
+some_not_zero-requires-2 c κs = omega arith
 
 -- the columns after the run begin at start and run.to, in either order
-returns-2 : tie.Need-returns-2
-returns-2 c =
+returns : tie.Need-returns
+returns c =
     let e = c.before.before.before in
-    let a = e.before.before.args in
-    c.some-not-zero2.ensures ∙ ap (λ (n : ℕ). some_not_zero a.xs.now n (a.columns - a.run.to)) (search add_comm) ∙ sym
-    (or_no (sym e.before.some-not-zero.ensures ∙ e.if1.false))
+    let a = e.args in
+    c.some_not_zero-2.ensures ∙ ap (λ (n : ℕ). some_not_zero a.xs.now n (a.columns - a.run.to)) (search add_comm) ∙ sym
+    (or_no (sym e.some_not_zero.ensures ∙ e.if-some_not_zero.false))
 
-pub row-not-zero-spec : {M : Type 1} → statement M
-row-not-zero-spec =
+pub row_not_zero_spec : {M : Type 1} → statement M
+row_not_zero_spec =
     tie.close
     (tie.spec
-    some-not-zero-requires
-    returns
-    add-some-not-zero
-    sub-some-not-zero
-    some-not-zero-requires-2
-    returns-2)
+    some_not_zero-requires
+    returns-then-some_not_zero
+    overflow_add-start
+    overflow_sub-columns
+    some_not_zero-requires-2
+    returns)

@@ -12,74 +12,74 @@ use Rattle.levels.proofs.levels.rows_not_zero.Statement.{statement}
 use Rattle.levels.proofs.levels.rows_not_zero.Tie as tie
 
 -- the fixed points of the rows passed are 0, and the row begins at start
-abbrev invariant-loop : tie.invariant-loop
-invariant-loop g xs columns rows row₀ start₀ row start = (start ≡ row * g.columns) × Passed g.rows (λ b. not (row_unfixed g xs b)) row
+abbrev invariant-loop-row : tie.invariant-loop-row
+invariant-loop-row g xs columns rows row₀ start₀ row start = (start ≡ row * g.columns) × Passed g.rows (λ b. not (row_unfixed g xs b)) row
 
-abbrev decreases-loop : tie.decreases-loop
-decreases-loop g xs columns rows row₀ start₀ row start = g.rows - row
+abbrev decreases-loop-row : tie.decreases-loop-row
+decreases-loop-row g xs columns rows row₀ start₀ row start = g.rows - row
 
 -- a turn of the loop: its grid, its level, its row
-module _ (c : tie.In-loop invariant-loop decreases-loop) where
+module _ (c : tie.In-loop-row invariant-loop-row decreases-loop-row) where
   abbrev g : Grid
-  g = c.before.before.args.g
+  g = c.args.g
 
   abbrev xs : List ℤ
-  xs = c.before.before.args.xs.now
+  xs = c.args.xs.now
 
   abbrev b : ℕ
-  b = c.before.loop.row
+  b = c.loop-row.row
 
   sound : (in_table g ≡ true) × (length xs ≡ points g)
-  sound = c.before.before.requires
+  sound = c.requires
 
-  start_is : c.before.loop.start ≡ b * g.columns
-  start_is = c.before.loop.invariant.0
+  start_is : c.loop-row.start ≡ b * g.columns
+  start_is = c.loop-row.invariant.0
 
   -- the row lies in the level
-  room : c.before.loop.start + g.columns ≤ length xs
-  room = omega (arith, start_is, sound.1, row_inside b g.rows g.columns c.loop-test.true)
+  room : c.loop-row.start + g.columns ≤ length xs
+  room = omega (arith, start_is, sound.1, row_inside b g.rows g.columns c.loop-row-test.true)
 
-loop-holds : tie.Need-loop-init invariant-loop decreases-loop
-loop-holds c = (omega arith, passed_none _ _)
+loop-row-init : tie.Need-loop-row-init invariant-loop-row decreases-loop-row
+loop-row-init c = (omega arith, passed_none _ _)
 
-is-row-unfixed-requires : tie.Need-is-row-unfixed-requires invariant-loop decreases-loop
-is-row-unfixed-requires c κs = ((sound c).0, c.loop-test.true, start_is c, room c)
+is_row_unfixed-requires : tie.Need-is_row_unfixed-requires invariant-loop-row decreases-loop-row
+is_row_unfixed-requires c κs = ((sound c).0, c.loop-row-test.true, start_is c, room c)
 
-returns : tie.Need-returns invariant-loop decreases-loop
-returns c =
+returns-then-is_row_unfixed : tie.Need-returns-then-is_row_unfixed invariant-loop-row decreases-loop-row
+returns-then-is_row_unfixed c =
     let t = c.before.before in
-    sym (rows_test (g t) (xs t) (sound t).1 ∙ some_at _ _ (b t) (omega arith) (sym c.before.is-row-unfixed.ensures ∙ c.if1.true))
+    sym (rows_test (g t) (xs t) (sound t).1 ∙ some_at _ _ (b t) (omega arith) (sym c.is_row_unfixed.ensures ∙ c.if-is_row_unfixed.true))
 
-add_row : tie.Need-overflow-add-row invariant-loop decreases-loop
-add_row c = omega (arith, (sized _ _ _ (sound c.before.before).0).rows_high)
+overflow_add-row : tie.Need-overflow_add-row invariant-loop-row decreases-loop-row
+overflow_add-row c = omega (arith, (sized _ _ _ (sound c.before.before).0).rows_high)
 
-add_start : tie.Need-overflow-add-start invariant-loop decreases-loop
-add_start c = omega (arith, room c.before.before)
+overflow_add-start : tie.Need-overflow_add-start invariant-loop-row decreases-loop-row
+overflow_add-start c = omega (arith, room c.before.before)
 
-loop-less : tie.Need-loop-smaller invariant-loop decreases-loop
-loop-less c = search rules
+loop-row-smaller : tie.Need-loop-row-smaller invariant-loop-row decreases-loop-row
+loop-row-smaller c = search rules
 
-loop-again : tie.Need-loop-preserved invariant-loop decreases-loop
-loop-again c =
+loop-row-preserved : tie.Need-loop-row-preserved invariant-loop-row decreases-loop-row
+loop-row-preserved c =
     let t = c.before.before in (
       ap (λ (n : ℕ). n + (g t).columns) (start_is t) ∙ next_row (b t) (g t).columns,
-      passed-more _ _ (omega arith) t.before.loop.invariant.1 (ap not (sym c.before.is-row-unfixed.ensures ∙ c.if1.false)),
+      passed-more _ _ (omega arith) t.loop-row.invariant.1 (ap not (sym c.is_row_unfixed.ensures ∙ c.if-is_row_unfixed.false)),
     )
 
-returns-2 : tie.Need-returns-2 invariant-loop decreases-loop
-returns-2 c = sym (rows_test _ _ c.before.before.requires.1 ∙ some_none _ _ c.before.loop.invariant.1 (omega arith))
+returns : tie.Need-returns invariant-loop-row decreases-loop-row
+returns c = sym (rows_test _ _ c.requires.1 ∙ some_none _ _ c.loop-row.invariant.1 (omega arith))
 
-pub rows-not-zero-spec : {M : Type 1} → statement M
-rows-not-zero-spec =
+pub rows_not_zero_spec : {M : Type 1} → statement M
+rows_not_zero_spec =
     tie.close
     (tie.spec
-    invariant-loop
-    decreases-loop
-    loop-holds
-    is-row-unfixed-requires
-    returns
-    add_row
-    add_start
-    loop-less
-    loop-again
-    returns-2)
+    invariant-loop-row
+    decreases-loop-row
+    loop-row-init
+    is_row_unfixed-requires
+    returns-then-is_row_unfixed
+    overflow_add-row
+    overflow_add-start
+    loop-row-smaller
+    loop-row-preserved
+    returns)

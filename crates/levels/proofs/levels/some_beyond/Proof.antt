@@ -10,57 +10,57 @@ use Rattle.levels.proofs.levels.some_beyond.Statement.{statement}
 use Rattle.levels.proofs.levels.some_beyond.Tie as tie
 
 -- the signs of the points passed
-abbrev invariant-loop : tie.invariant-loop
-invariant-loop xs signs₀ k₀ signs k = (k ≤ length xs) × (signed signs ≡ some_below k (λ i. beyond (point xs i)))
+abbrev invariant-loop-point : tie.invariant-loop-point
+invariant-loop-point xs signs₀ k₀ signs k = (k ≤ length xs) × (signed signs ≡ some_below k (λ i. beyond (point xs i)))
 
-abbrev decreases-loop : tie.decreases-loop
-decreases-loop xs signs₀ k₀ signs k = length xs - k
+abbrev decreases-loop-point : tie.decreases-loop-point
+decreases-loop-point xs signs₀ k₀ signs k = length xs - k
 
-loop-holds : tie.Need-loop-init invariant-loop decreases-loop
+loop-point-init : tie.Need-loop-point-init invariant-loop-point decreases-loop-point
 unfolding some_below
-loop-holds c = (omega arith, refl)
+loop-point-init c = (omega arith, refl)
 
-mul-excess : tie.Need-overflow-mul-excess invariant-loop decreases-loop
-mul-excess c = search rules
+offset_bounds-xs-point : tie.Need-offset_bounds-xs-point invariant-loop-point decreases-loop-point
+offset_bounds-xs-point c = search rules
 
-shared-slice-copy-out-excess : tie.Need-shared-slice-copy-out-excess invariant-loop decreases-loop
-shared-slice-copy-out-excess c = search rules
+bounds-xs-point : tie.Need-bounds-xs-point invariant-loop-point decreases-loop-point
+bounds-xs-point c = search rules
 
-excess-requires : tie.Need-excess-requires invariant-loop decreases-loop
-excess-requires c κs = tt
+excess-signs-requires : tie.Need-excess-signs-requires invariant-loop-point decreases-loop-point
+excess-signs-requires c κs = tt
 
-add-point : tie.Need-overflow-add-point invariant-loop decreases-loop
-add-point c = search rules
+overflow_add-point : tie.Need-overflow_add-point invariant-loop-point decreases-loop-point
+overflow_add-point c = search rules
 
-loop-less : tie.Need-loop-smaller invariant-loop decreases-loop
-loop-less c = search rules
+loop-point-smaller : tie.Need-loop-point-smaller invariant-loop-point decreases-loop-point
+loop-point-smaller c = search rules
 
-loop-again : tie.Need-loop-preserved invariant-loop decreases-loop
+loop-point-preserved : tie.Need-loop-point-preserved invariant-loop-point decreases-loop-point
 unfolding some_below
-loop-again c =
-    let l = c.before.before.before.loop in
-    let xs = c.before.before.before.before.args.xs.now in
-    let found = c.excess.ensures ∙ ap beyond (back (point xs l.point) c.before.excess-arg.given) in (
+loop-point-preserved c =
+    let l = c.loop-point in
+    let xs = c.args.xs.now in
+    let found = c.excess-signs.ensures ∙ ap beyond (back (point xs l.point) c.excess-arg-1.given) in (
       omega arith,
-      signed_or l.signs c.excess.result ∙ ap₂ ◌||◌ l.invariant.1 found
+      signed_or l.signs c.excess-signs.result ∙ ap₂ ◌||◌ l.invariant.1 found
           ∙ ap (λ (n : ℕ). some_below n (λ i. beyond (point xs i))) (sym (add-one l.point)),
     )
 
-returns : tie.Need-returns invariant-loop decreases-loop
+returns : tie.Need-returns invariant-loop-point decreases-loop-point
 unfolding some_beyond
-returns c = c.before.loop.invariant.1 ∙ ap (λ (n : ℕ). some_below n (λ i. beyond (point c.before.before.args.xs.now i))) (omega arith)
+returns c = c.loop-point.invariant.1 ∙ ap (λ (n : ℕ). some_below n (λ i. beyond (point c.args.xs.now i))) (omega arith)
 
-pub some-beyond-spec : {M : Type 1} → statement M
-some-beyond-spec =
+pub some_beyond_spec : {M : Type 1} → statement M
+some_beyond_spec =
     tie.close
     (tie.spec
-    invariant-loop
-    decreases-loop
-    loop-holds
-    mul-excess
-    shared-slice-copy-out-excess
-    excess-requires
-    add-point
-    loop-less
-    loop-again
+    invariant-loop-point
+    decreases-loop-point
+    loop-point-init
+    offset_bounds-xs-point
+    bounds-xs-point
+    excess-signs-requires
+    overflow_add-point
+    loop-point-smaller
+    loop-point-preserved
     returns)

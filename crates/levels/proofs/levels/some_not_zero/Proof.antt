@@ -10,58 +10,58 @@ use Rattle.levels.proofs.levels.some_not_zero.Statement.{statement}
 use Rattle.levels.proofs.levels.some_not_zero.Tie as tie
 
 -- the points passed are 0
-abbrev invariant-loop : tie.invariant-loop
-invariant-loop xs start n k₀ k = Passed n (λ i. not (not_zero xs (start + i))) k
+abbrev invariant-loop-k : tie.invariant-loop-k
+invariant-loop-k xs start n k₀ k = Passed n (λ i. not (not_zero xs (start + i))) k
 
-abbrev decreases-loop : tie.decreases-loop
-decreases-loop xs start n k₀ k = n - k
+abbrev decreases-loop-k : tie.decreases-loop-k
+decreases-loop-k xs start n k₀ k = n - k
 
 -- the point that was read
-abbrev read : tie.After-if12 invariant-loop decreases-loop → ℤ
-read c = let a = c.before.before.before.args in point a.xs.now (a.start + c.before.before.loop.k)
+abbrev read : tie.After-t9-1 invariant-loop-k decreases-loop-k → ℤ
+read c = let a = c.args in point a.xs.now (a.start + c.loop-k.k)
 
-loop-holds : tie.Need-loop-init invariant-loop decreases-loop
-loop-holds c = passed_none _ _
+loop-k-init : tie.Need-loop-k-init invariant-loop-k decreases-loop-k
+loop-k-init c = passed_none _ _
 
-add-if1 : tie.Need-overflow-add-if1 invariant-loop decreases-loop
-add-if1 c = search rules
+overflow_add-start : tie.Need-overflow_add-start invariant-loop-k decreases-loop-k
+overflow_add-start c = search rules
 
-mul-if1 : tie.Need-overflow-mul-if1 invariant-loop decreases-loop
-mul-if1 c = search rules
+offset_bounds-xs-start : tie.Need-offset_bounds-xs-start invariant-loop-k decreases-loop-k
+offset_bounds-xs-start c = search rules
 
-shared-slice-copy-out-if1 : tie.Need-shared-slice-copy-out-if1 invariant-loop decreases-loop
-shared-slice-copy-out-if1 c = search rules
+bounds-xs-start : tie.Need-bounds-xs-start invariant-loop-k decreases-loop-k
+bounds-xs-start c = search rules
 
-returns : tie.Need-returns invariant-loop decreases-loop
+returns-then-xs-start-ne0 : tie.Need-returns-then-xs-start-ne0 invariant-loop-k decreases-loop-k
 unfolding some_not_zero
-returns c = sym (some_at _ _ c.before.before.before.loop.k (omega arith) (bits_not_zero (read c.before) c.if1.true))
+returns-then-xs-start-ne0 c = sym (some_at _ _ c.loop-k.k (omega arith) (bits_not_zero (read c.before) c.if-xs-start-ne0.true))
 
-add-k : tie.Need-overflow-add-k invariant-loop decreases-loop
-add-k c = search rules
+overflow_add-k : tie.Need-overflow_add-k invariant-loop-k decreases-loop-k
+overflow_add-k c = search rules
 
-loop-less : tie.Need-loop-smaller invariant-loop decreases-loop
-loop-less c = search rules
+loop-k-smaller : tie.Need-loop-k-smaller invariant-loop-k decreases-loop-k
+loop-k-smaller c = search rules
 
-loop-again : tie.Need-loop-preserved invariant-loop decreases-loop
-loop-again c = passed-more _ _ (omega arith) c.before.before.before.loop.invariant
-    (ap not (bits_zero (read c.before) c.before.if12.given c.if1.false))
+loop-k-preserved : tie.Need-loop-k-preserved invariant-loop-k decreases-loop-k
+loop-k-preserved c = passed-more _ _ (omega arith) c.loop-k.invariant
+    (ap not (bits_zero (read c.before) c.t9-1.given c.if-xs-start-ne0.false))
 
-returns-2 : tie.Need-returns-2 invariant-loop decreases-loop
+returns : tie.Need-returns invariant-loop-k decreases-loop-k
 unfolding some_not_zero
-returns-2 c = sym (some_none _ _ c.before.loop.invariant (omega arith))
+returns c = sym (some_none _ _ c.loop-k.invariant (omega arith))
 
-pub some-not-zero-spec : {M : Type 1} → statement M
-some-not-zero-spec =
+pub some_not_zero_spec : {M : Type 1} → statement M
+some_not_zero_spec =
     tie.close
     (tie.spec
-    invariant-loop
-    decreases-loop
-    loop-holds
-    add-if1
-    mul-if1
-    shared-slice-copy-out-if1
-    returns
-    add-k
-    loop-less
-    loop-again
-    returns-2)
+    invariant-loop-k
+    decreases-loop-k
+    loop-k-init
+    overflow_add-start
+    offset_bounds-xs-start
+    bounds-xs-start
+    returns-then-xs-start-ne0
+    overflow_add-k
+    loop-k-smaller
+    loop-k-preserved
+    returns)

@@ -20,27 +20,27 @@ use Rattle.pluck.proofs.CallLaws.{shape_of, shaped, line-run, run_in_lem, as_lon
 use Rattle.pluck.proofs.call.carry_out.Statement.{statement}
 use Rattle.pluck.proofs.call.carry_out.Tie as tie
 
-module _ (c : tie.After-straight-run) where
+module _ (c : tie.After-straight_run-run) where
   abbrev s : tie.Start
   s = c.before.before
 
   -- the height as it was passed on
   height-is : to_z w64 (of_z w64 s.args.height) ≡ s.args.height
-  height-is = back s.args.height s.fits.height.sfits
+  height-is = back s.args.height s.ranges.height.sfits
 
-  run_at : c.straight-run.result ≡ run_of s.args.g 0
-  run_at = c.straight-run.ensures ∙ line-run _ _ _ _ _ _ s.pre.2
+  run_at : c.straight_run-run.result ≡ run_of s.args.g 0
+  run_at = c.straight_run-run.ensures ∙ line-run _ _ _ _ _ _ s.requires.2
 
   -- the shape as the code makes it
   abbrev made : Run → ℤ → Shape
-  made r z = record { run = r; centre = s.args.centre; width = s.args.half-width; height = z }
+  made r z = record { run = r; centre = s.args.centre; width = s.args.half_width; height = z }
 
-  made-is : made c.straight-run.result (to_z w64 (of_z w64 s.args.height))
-      ≡ shape_of s.args.g s.args.centre s.args.half-width s.args.height
+  made-is : made c.straight_run-run.result (to_z w64 (of_z w64 s.args.height))
+      ≡ shape_of s.args.g s.args.centre s.args.half_width s.args.height
   made-is = ap₂ made run_at height-is
 
 module _ (c : tie.After-fill) where
-  abbrev m : tie.After-straight-run
+  abbrev m : tie.After-straight_run-run
   m = c.before.before
 
   abbrev older : List ℤ
@@ -50,42 +50,42 @@ module _ (c : tie.After-fill) where
   filled = c.fill.new.1.1.1.0
 
   filled_is : filled ≡ tabulate (length older) (shape_at (s m).args.table.now
-      (shape_of (s m).args.g (s m).args.centre (s m).args.half-width (s m).args.height))
+      (shape_of (s m).args.g (s m).args.centre (s m).args.half_width (s m).args.height))
   filled_is = c.fill.ensures ∙ ap (λ (x : Shape). tabulate (length older) (shape_at (s m).args.table.now x)) (made-is m)
 
-  older_is : filled ≡ pluck_level (s m).args.table.now (s m).args.g (s m).args.centre (s m).args.half-width (s m).args.height
-  older_is = filled_is ∙ level_is _ _ _ _ _ _ (s m).pre.2 _
+  older_is : filled ≡ pluck_level (s m).args.table.now (s m).args.g (s m).args.centre (s m).args.half_width (s m).args.height
+  older_is = filled_is ∙ level_is _ _ _ _ _ _ (s m).requires.2 _
 
-straight-run-requires : tie.Need-straight-run-requires
-straight-run-requires c κs = search rules
+straight_run-run-requires : tie.Need-straight_run-run-requires
+straight_run-run-requires c κs = search rules
 
 fill-requires : tie.Need-fill-requires
 fill-requires c κs =
     let a = (s c.before).args in
-    let none = (s c.before).pre.2 in (
+    let none = (s c.before).requires.2 in (
       subst (λ (x : Shape). Shaped x) (sym (made-is c.before)) (shaped _ _ _ _ _ _ none),
-      (s c.before).pre.0,
-      (s c.before).pre.1,
+      (s c.before).requires.0,
+      (s c.before).requires.1,
       subst (λ (r : Run). r.to ≤ length a.older.now) (sym (run_at c.before)) (run_in_lem _ _ _ _ _ _ none),
     )
 
 copy-requires : tie.Need-copy-requires
 copy-requires c κs = search rules
 
-same_length : tie.Need-same-length
-same_length c = search rules
+shape_of-older : tie.Need-shape_of-older
+shape_of-older c = search rules
 
-same-length-2 : tie.Need-same-length-2
-same-length-2 c = search rules
+shape_of-newer : tie.Need-shape_of-newer
+shape_of-newer c = search rules
 
 returns : tie.Need-returns
 returns c =
     let f = c.before.before.before.before.before in
     let l : length (filled f) ≡ length (s (m f)).args.newer.now =
-    ap length (filled_is f) ∙ length-tabulate _ _ ∙ as_long _ _ _ _ _ _ (s (m f)).pre.2 in
-    (older_is f, c.before.copy.ensures ∙ copied-whole _ _ l ∙ older_is f)
+    ap length (filled_is f) ∙ length-tabulate _ _ ∙ as_long _ _ _ _ _ _ (s (m f)).requires.2 in
+    (older_is f, c.copy.ensures ∙ copied-whole _ _ l ∙ older_is f)
 
-pub carry-out-spec : {M : Type 1} → statement M
-carry-out-spec =
+pub carry_out_spec : {M : Type 1} → statement M
+carry_out_spec =
     tie.close
-    (tie.spec straight-run-requires fill-requires copy-requires same_length same-length-2 returns)
+    (tie.spec straight_run-run-requires fill-requires copy-requires shape_of-older shape_of-newer returns)

@@ -17,77 +17,77 @@ use Rattle.pluck.proofs.shape.put_both.Statement.{statement}
 use Rattle.pluck.proofs.shape.put_both.Tie as tie
 
 -- after the left point
-module _ (c : tie.Joined1) where
+module _ (c : tie.Joined-d-shape) where
   abbrev s : tie.Start
   s = c.before.before
 
   value-is : to_z w64 (of_z w64 s.args.v) ≡ s.args.v
-  value-is = back s.args.v s.fits.v.sfits
+  value-is = back s.args.v s.ranges.v.sfits
 
-  left_is : c.if1.level ≡ put_left s.args.shape s.args.d s.args.v s.args.level.now
+  left_is : c.if-d-shape.level ≡ put_left s.args.shape s.args.d s.args.v s.args.level.now
   left_is =
       let a = s.args in
       ⊎_elim
       (λ w. w.2 ∙ ap (set a.level.now (a.shape.centre - a.d)) value-is ∙ put_yes _ _ _ _ (le-leb _ _ w.0.taken))
       (λ w. w.1 ∙ put_no _ _ _ _ (lt-leb _ _ w.0.left))
-      c.if1.branch
+      c.if-d-shape.branch
 
-  as_long : length c.if1.level ≡ length s.args.level.now
+  as_long : length c.if-d-shape.level ≡ length s.args.level.now
   as_long = ap length left_is ∙ length_put _ _ _ _
 
-sub-if1 : tie.Need-overflow-sub-if1
-sub-if1 c = search rules
+overflow_sub-shape : tie.Need-overflow_sub-shape
+overflow_sub-shape c = search rules
 
-sub-v : tie.Need-overflow-sub-v
-sub-v c = search rules
+overflow_sub-v : tie.Need-overflow_sub-v
+overflow_sub-v c = search rules
 
-mul-v : tie.Need-overflow-mul-v
-mul-v c = search rules
+offset_bounds-level-shape : tie.Need-offset_bounds-level-shape
+offset_bounds-level-shape c = search rules
 
-slice-set-from-v : tie.Need-slice-set-from-v
-slice-set-from-v c = search rules
+bounds-level-shape : tie.Need-bounds-level-shape
+bounds-level-shape c = search rules
 
-sub-if2 : tie.Need-overflow-sub-if2
-sub-if2 c = search rules
+overflow_sub-shape-2 : tie.Need-overflow_sub-shape-2
+overflow_sub-shape-2 c = search rules
 
-add-v : tie.Need-overflow-add-v
-add-v c = search rules
+overflow_add-v : tie.Need-overflow_add-v
+overflow_add-v c = search rules
 
-mul-v-2 : tie.Need-overflow-mul-v-2
-mul-v-2 c = search rules
+offset_bounds-level-shape-then-d-shape-2 : tie.Need-offset_bounds-level-shape-then-d-shape-2
+offset_bounds-level-shape-then-d-shape-2 c = search rules
 
-slice-set-from-v-2 : tie.Need-slice-set-from-v-2
-slice-set-from-v-2 c = omega (arith, as_long c.before.before.before)
+bounds-level-shape-then-d-shape-2 : tie.Need-bounds-level-shape-then-d-shape-2
+bounds-level-shape-then-d-shape-2 c = omega (arith, as_long c.before.before.before)
 
-same_length : tie.Need-same-length
-same_length c = let l = as_long c.before.before.before in search rules
+shape_of-level-then-d-shape-2 : tie.Need-shape_of-level-then-d-shape-2
+shape_of-level-then-d-shape-2 c = let l = as_long c.before.before.before in search rules
 
-returns : tie.Need-returns
-returns c =
+returns-then-d-shape-2 : tie.Need-returns-then-d-shape-2
+returns-then-d-shape-2 c =
     let j = c.before.before.before in
     let a = (s j).args in
     ap₂ (λ (xs : List ℤ) (z : ℤ). set xs (a.shape.centre + a.d) z) (left_is j) (value-is j) ∙
-    put_yes _ _ _ _ (lt-ltb _ _ c.before.if2.true)
+    put_yes _ _ _ _ (lt-ltb _ _ c.if-d-shape-2.true)
 
-same-length-2 : tie.Need-same-length-2
-same-length-2 c = as_long c.before.before
+shape_of-level-else-d-shape-2 : tie.Need-shape_of-level-else-d-shape-2
+shape_of-level-else-d-shape-2 c = as_long c.before.before
 
-returns-2 : tie.Need-returns-2
-returns-2 c = left_is c.before.before ∙ put_no _ _ _ _ (le-ltb _ _ c.if2.false)
+returns-else-d-shape-2 : tie.Need-returns-else-d-shape-2
+returns-else-d-shape-2 c = left_is c.before.before ∙ put_no _ _ _ _ (le-ltb _ _ c.if-d-shape-2.false)
 
-pub put-both-spec : {M : Type 1} → statement M
-put-both-spec =
+pub put_both_spec : {M : Type 1} → statement M
+put_both_spec =
     tie.close
     (tie.spec
-    sub-if1
-    sub-v
-    mul-v
-    slice-set-from-v
-    sub-if2
-    add-v
-    mul-v-2
-    slice-set-from-v-2
-    same_length
-    returns
-    same-length-2
-    returns-2)
+    overflow_sub-shape
+    overflow_sub-v
+    offset_bounds-level-shape
+    bounds-level-shape
+    overflow_sub-shape-2
+    overflow_add-v
+    offset_bounds-level-shape-then-d-shape-2
+    bounds-level-shape-then-d-shape-2
+    shape_of-level-then-d-shape-2
+    returns-then-d-shape-2
+    shape_of-level-else-d-shape-2
+    returns-else-d-shape-2)

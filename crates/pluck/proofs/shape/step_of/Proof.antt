@@ -14,17 +14,17 @@ use Rattle.pluck.proofs.shape.step_of.Tie as tie
 step_is : (c : tie.Start) → c.args.last * (4294967296 / c.args.width + 1) ≡ step_of c.args.width
 step_is c = ap (λ (n : ℕ). n * (4294967296 / c.args.width + 1)) c.requires.1
 
-div-result : tie.Need-nonzero-div-result
-div-result c = search rules
+nonzero_div-result : tie.Need-nonzero_div-result
+nonzero_div-result c = search rules
 
-add-result : tie.Need-overflow-add-result
-add-result c = omega (arith, div-le_self 4294967296 c.args.width)
+overflow_add-result : tie.Need-overflow_add-result
+overflow_add-result c = omega (arith, div-le_self 4294967296 c.args.width)
 
-mul-result : tie.Need-overflow-mul-result
-mul-result c = subst (Fits w64) (sym (step_is c)) (record { fits = omega (arith, div-le_self 4294967296 c.args.width) })
+overflow_mul-result : tie.Need-overflow_mul-result
+overflow_mul-result c = subst (Fits w64) (sym (step_is c)) (record { fits = omega (arith, div-le_self 4294967296 c.args.width) })
 
 returns : tie.Need-returns
 returns c = step_is c
 
-pub step-of-spec : {M : Type 1} → statement M
-step-of-spec = tie.close (tie.spec div-result add-result mul-result returns)
+pub step_of_spec : {M : Type 1} → statement M
+step_of_spec = tie.close (tie.spec nonzero_div-result overflow_add-result overflow_mul-result returns)

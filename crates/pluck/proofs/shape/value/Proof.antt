@@ -22,8 +22,8 @@ module _ (s : tie.Start) where
   -- the steps fit
   short : left * s.args.step ≤ 1024 * 4398046512128
   short =
-      let l : left ≤ 1024 = omega (arith, s.pre.0.narrow) in
-      let h : s.args.step ≤ 4398046512128 = omega (arith, s.pre.2, div-le_self 4294967296 s.args.shape.width) in
+      let l : left ≤ 1024 = omega (arith, s.requires.0.narrow) in
+      let h : s.args.step ≤ 4398046512128 = omega (arith, s.requires.2, div-le_self 4294967296 s.args.shape.width) in
       mul-le-mul l h
 
   abbrev place : ℕ
@@ -31,52 +31,52 @@ module _ (s : tie.Start) where
 
   place_same : place ≡ 1024 * left / s.args.shape.width
   place_same =
-      ap (λ (n : ℕ). left * n / 4294967296) s.pre.2 ∙
-      place_is 4294967296 s.args.shape.width left s.pre.0.some s.pre.0.narrow (omega arith)
-      (omega (arith, s.pre.0.narrow))
+      ap (λ (n : ℕ). left * n / 4294967296) s.requires.2 ∙
+      place_is 4294967296 s.args.shape.width left s.requires.0.some s.requires.0.narrow (omega arith)
+      (omega (arith, s.requires.0.narrow))
 
   inside : place < 1025
-  inside = omega (arith, place_same, place_inside s.args.shape.width s.args.d s.pre.0.some)
+  inside = omega (arith, place_same, place_inside s.args.shape.width s.args.d s.requires.0.some)
 
   -- it is in the table, and so are its bytes
   in_table_lem : place < length s.args.table.now
-  in_table_lem = omega (arith, inside, s.pre.1.long)
+  in_table_lem = omega (arith, inside, s.requires.1.long)
 
   in_bytes : place * 4 < 2 ^ 64
   in_bytes = omega (arith, inside)
 
   small : get_or s.args.table.now place 0 ≤ 65536
-  small = entry_high _ s.pre.1 place inside
+  small = entry_high _ s.requires.1 place inside
 
   abbrev entry# : E
   entry# = at (pos (get_or s.args.table.now place 0)) 65536 small
 
   abbrev product# : E
-  product# = at s.args.shape.height ceiling s.pre.0.low ⊠ entry#
+  product# = at s.args.shape.height ceiling s.requires.0.low ⊠ entry#
 
   abbrev value# : E
   value# = product# ÷ num 65536
 
-sub-j : tie.Need-overflow-sub-j
-sub-j c = search rules
+overflow_sub-j : tie.Need-overflow_sub-j
+overflow_sub-j c = search rules
 
-mul-j : tie.Need-overflow-mul-j
-mul-j c = record { fits = omega (arith, short c.before) }
+overflow_mul-j : tie.Need-overflow_mul-j
+overflow_mul-j c = record { fits = omega (arith, short c.before) }
 
-mul-t : tie.Need-overflow-mul-t
-mul-t c = record { fits = in_bytes c.before }
+offset_bounds-table-j : tie.Need-offset_bounds-table-j
+offset_bounds-table-j c = record { fits = in_bytes c.before }
 
-shared-slice-read-t : tie.Need-shared-slice-read-t
-shared-slice-read-t c = in_table_lem c.before.before
+bounds-table-j : tie.Need-bounds-table-j
+bounds-table-j c = in_table_lem c.before.before
 
-cast_t : tie.Need-overflow-cast-t
-cast_t c = fits (entry# c.before.before) tt
+overflow_cast-t : tie.Need-overflow_cast-t
+overflow_cast-t c = fits (entry# c.before.before) tt
 
-mul-result : tie.Need-overflow-mul-result
-mul-result c = fits (product# c.before.before.before.before) tt
+overflow_mul-result : tie.Need-overflow_mul-result
+overflow_mul-result c = fits (product# c.before.before.before.before) tt
 
-div-result : tie.Need-nonzero-div-result
-div-result c = (omega arith, fits (value# c.before.before.before.before) tt)
+nonzero_div-result : tie.Need-nonzero_div-result
+nonzero_div-result c = (omega arith, fits (value# c.before.before.before.before) tt)
 
 returns : tie.Need-returns
 returns c =
@@ -87,4 +87,4 @@ returns c =
 pub value_spec : {M : Type 1} → statement M
 value_spec =
     tie.close
-    (tie.spec sub-j mul-j mul-t shared-slice-read-t cast_t mul-result div-result returns)
+    (tie.spec overflow_sub-j overflow_mul-j offset_bounds-table-j bounds-table-j overflow_cast-t overflow_mul-result nonzero_div-result returns)

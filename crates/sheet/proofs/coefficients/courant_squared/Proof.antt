@@ -6,17 +6,17 @@ use Rattle.sheet.proofs.NumberLaws.{hertz_is}
 use Rattle.sheet.proofs.coefficients.courant_squared.Statement.{statement}
 use Rattle.sheet.proofs.coefficients.courant_squared.Tie as tie
 
-enum-known-speed : tie.Need-enum-known-speed
-enum-known-speed c = search rules
+enum_known-speed : tie.Need-enum_known-speed
+enum_known-speed c = search rules
 
-enum-known-speed-2 : tie.Need-enum-known-speed-2
-enum-known-speed-2 c = search rules
+enum_known-speed-in-Tension-1 : tie.Need-enum_known-speed-in-Tension-1
+enum_known-speed-in-Tension-1 c = search rules
 
-returns : tie.Need-returns
-returns c = hertz_is _ c.before.before.before.args.h _ _ ∙ sym (ap (courant_squared _ _ _) c.before.speed.given.1)
+returns-in-Hertz : tie.Need-returns-in-Hertz
+returns-in-Hertz c = hertz_is _ c.args.h _ _ ∙ sym (ap (courant_squared _ _ _) c.in-Hertz.is)
 
-returns-2 : tie.Need-returns-2
-returns-2 c = sym (ap (courant_squared _ _ _) c.before.speed2.given.1)
+returns-in-Tension : tie.Need-returns-in-Tension
+returns-in-Tension c = sym (ap (courant_squared _ _ _) c.in-Tension.is)
 
-pub courant-squared-spec : {M : Type 1} → statement M
-courant-squared-spec = tie.close (tie.spec enum-known-speed enum-known-speed-2 returns returns-2)
+pub courant_squared_spec : {M : Type 1} → statement M
+courant_squared_spec = tie.close (tie.spec enum_known-speed enum_known-speed-in-Tension-1 returns-in-Hertz returns-in-Tension)

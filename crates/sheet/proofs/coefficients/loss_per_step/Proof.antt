@@ -6,17 +6,17 @@ use Rattle.sheet.proofs.NumberLaws.{seconds_is}
 use Rattle.sheet.proofs.coefficients.loss_per_step.Statement.{statement}
 use Rattle.sheet.proofs.coefficients.loss_per_step.Tie as tie
 
-enum-known-loss : tie.Need-enum-known-loss
-enum-known-loss c = search rules
+enum_known-loss : tie.Need-enum_known-loss
+enum_known-loss c = search rules
 
-enum-known-loss-2 : tie.Need-enum-known-loss-2
-enum-known-loss-2 c = search rules
+enum_known-loss-in-Seconds-1 : tie.Need-enum_known-loss-in-Seconds-1
+enum_known-loss-in-Seconds-1 c = search rules
 
-returns : tie.Need-returns
-returns c = sym (ap (loss_per_step _) c.before.loss.given.1)
+returns-in-PerSecond : tie.Need-returns-in-PerSecond
+returns-in-PerSecond c = sym (ap (loss_per_step _) c.in-PerSecond.is)
 
-returns-2 : tie.Need-returns-2
-returns-2 c = seconds_is _ _ ∙ sym (ap (loss_per_step _) c.before.loss2.given.1)
+returns-in-Seconds : tie.Need-returns-in-Seconds
+returns-in-Seconds c = seconds_is _ _ ∙ sym (ap (loss_per_step _) c.in-Seconds.is)
 
-pub loss-per-step-spec : {M : Type 1} → statement M
-loss-per-step-spec = tie.close (tie.spec enum-known-loss enum-known-loss-2 returns returns-2)
+pub loss_per_step_spec : {M : Type 1} → statement M
+loss_per_step_spec = tie.close (tie.spec enum_known-loss enum_known-loss-in-Seconds-1 returns-in-PerSecond returns-in-Seconds)

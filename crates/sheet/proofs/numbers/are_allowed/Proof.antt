@@ -6,20 +6,20 @@ use Rattle.sheet.specs.Numbers.{numbers_allowed}
 use Rattle.sheet.proofs.numbers.are_allowed.Statement.{statement}
 use Rattle.sheet.proofs.numbers.are_allowed.Tie as tie
 
-is-positive-requires : tie.Need-is-positive-requires
-is-positive-requires c κs = search rules
+is_positive-requires : tie.Need-is_positive-requires
+is_positive-requires c κs = search rules
 
-is-positive-requires-2 : tie.Need-is-positive-requires-2
-is-positive-requires-2 c κs = search rules
+is_positive-requires-2 : tie.Need-is_positive-requires-2
+is_positive-requires-2 c κs = search rules
 
-is-non-negative-requires : tie.Need-is-non-negative-requires
-is-non-negative-requires c κs = search rules
+is_non_negative-requires : tie.Need-is_non_negative-requires
+is_non_negative-requires c κs = search rules
 
-speed-allowed-requires : tie.Need-speed-allowed-requires
-speed-allowed-requires c κs = search rules
+speed_allowed-requires : tie.Need-speed_allowed-requires
+speed_allowed-requires c κs = search rules
 
-loss-allowed-requires : tie.Need-loss-allowed-requires
-loss-allowed-requires c κs = search rules
+loss_allowed-requires : tie.Need-loss_allowed-requires
+loss_allowed-requires c κs = search rules
 
 returns : tie.Need-returns
 unfolding numbers_allowed
@@ -28,16 +28,16 @@ returns c =
     let bending = speed.before in
     let length = bending.before in
     let rate = length.before in
-    let places = ap₂ ◌&&◌ (ap₂ ◌&&◌ rate.is_positive.ensures length.is-positive2.ensures) bending.is-non-negative.ensures in
-    ap₂ ◌&&◌ (ap₂ ◌&&◌ places speed.speed-allowed.ensures) c.loss-allowed.ensures
+    let places = ap₂ ◌&&◌ (ap₂ ◌&&◌ rate.is_positive.ensures length.is_positive-2.ensures) bending.is_non_negative.ensures in
+    ap₂ ◌&&◌ (ap₂ ◌&&◌ places speed.speed_allowed.ensures) c.loss_allowed.ensures
 
-pub are-allowed-spec : {M : Type 1} → statement M
-are-allowed-spec =
+pub are_allowed_spec : {M : Type 1} → statement M
+are_allowed_spec =
     tie.close
     (tie.spec
-    is-positive-requires
-    is-positive-requires-2
-    is-non-negative-requires
-    speed-allowed-requires
-    loss-allowed-requires
+    is_positive-requires
+    is_positive-requires-2
+    is_non_negative-requires
+    speed_allowed-requires
+    loss_allowed-requires
     returns)

@@ -6,7 +6,7 @@ use Rattle.sheet.proofs.numbers.is_non_negative.Statement.{statement}
 use Rattle.sheet.proofs.numbers.is_non_negative.Tie as tie
 
 returns : tie.Need-returns
-returns c = non_negative_is c.args.x (subst T (sym c.well-formed.0.1) tt)
+returns c = non_negative_is c.args.x (subst T (sym c.well_formed.0.1) tt)
 
-pub is-non-negative-spec : {M : Type 1} → statement M
-is-non-negative-spec = tie.close (tie.spec returns)
+pub is_non_negative_spec : {M : Type 1} → statement M
+is_non_negative_spec = tie.close (tie.spec returns)

@@ -6,5 +6,5 @@ use Rattle.sheet.proofs.numbers.is_pitched.Tie as tie
 returns : tie.Need-returns
 returns c = pitched_is c.args.kind
 
-pub is-pitched-spec : {M : Type 1} → statement M
-is-pitched-spec = tie.close (tie.spec returns)
+pub is_pitched_spec : {M : Type 1} → statement M
+is_pitched_spec = tie.close (tie.spec returns)

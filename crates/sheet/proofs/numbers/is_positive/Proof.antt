@@ -6,7 +6,7 @@ use Rattle.sheet.proofs.numbers.is_positive.Statement.{statement}
 use Rattle.sheet.proofs.numbers.is_positive.Tie as tie
 
 returns : tie.Need-returns
-returns c = positive_is c.args.x (subst T (sym c.well-formed.0.1) tt)
+returns c = positive_is c.args.x (subst T (sym c.well_formed.0.1) tt)
 
-pub is-positive-spec : {M : Type 1} → statement M
-is-positive-spec = tie.close (tie.spec returns)
+pub is_positive_spec : {M : Type 1} → statement M
+is_positive_spec = tie.close (tie.spec returns)

@@ -5,31 +5,31 @@ use Rattle.sheet.specs.Numbers.{loss_allowed}
 use Rattle.sheet.proofs.numbers.loss_allowed.Statement.{statement}
 use Rattle.sheet.proofs.numbers.loss_allowed.Tie as tie
 
-enum-known-loss : tie.Need-enum-known-loss
-enum-known-loss c = search rules
+enum_known-loss : tie.Need-enum_known-loss
+enum_known-loss c = search rules
 
-is-non-negative-requires : tie.Need-is-non-negative-requires
-is-non-negative-requires c κs = search rules
+is_non_negative-requires : tie.Need-is_non_negative-requires
+is_non_negative-requires c κs = search rules
 
-enum-known-loss-2 : tie.Need-enum-known-loss-2
-enum-known-loss-2 c = search rules
+enum_known-loss-in-Seconds-1 : tie.Need-enum_known-loss-in-Seconds-1
+enum_known-loss-in-Seconds-1 c = search rules
 
-is-positive-requires : tie.Need-is-positive-requires
-is-positive-requires c κs = search rules
+is_positive-requires : tie.Need-is_positive-requires
+is_positive-requires c κs = search rules
 
-returns : tie.Need-returns
-returns c = c.is-non-negative.ensures ∙ sym (ap loss_allowed c.before.before.loss.given.1)
+returns-in-PerSecond : tie.Need-returns-in-PerSecond
+returns-in-PerSecond c = c.is_non_negative.ensures ∙ sym (ap loss_allowed c.in-PerSecond.is)
 
-returns-2 : tie.Need-returns-2
-returns-2 c = c.is_positive.ensures ∙ sym (ap loss_allowed c.before.before.loss2.given.1)
+returns-in-Seconds : tie.Need-returns-in-Seconds
+returns-in-Seconds c = c.is_positive.ensures ∙ sym (ap loss_allowed c.in-Seconds.is)
 
-pub loss-allowed-spec : {M : Type 1} → statement M
-loss-allowed-spec =
+pub loss_allowed_spec : {M : Type 1} → statement M
+loss_allowed_spec =
     tie.close
     (tie.spec
-    enum-known-loss
-    is-non-negative-requires
-    enum-known-loss-2
-    is-positive-requires
-    returns
-    returns-2)
+    enum_known-loss
+    is_non_negative-requires
+    enum_known-loss-in-Seconds-1
+    is_positive-requires
+    returns-in-PerSecond
+    returns-in-Seconds)

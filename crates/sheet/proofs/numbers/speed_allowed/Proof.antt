@@ -6,41 +6,41 @@ use Rattle.sheet.specs.Numbers.{speed_allowed}
 use Rattle.sheet.proofs.numbers.speed_allowed.Statement.{statement}
 use Rattle.sheet.proofs.numbers.speed_allowed.Tie as tie
 
-enum-known-speed : tie.Need-enum-known-speed
-enum-known-speed c = search rules
+enum_known-speed : tie.Need-enum_known-speed
+enum_known-speed c = search rules
 
-is-pitched-requires : tie.Need-is-pitched-requires
-is-pitched-requires c κs = search rules
+is_pitched-requires : tie.Need-is_pitched-requires
+is_pitched-requires c κs = search rules
 
-is-non-negative-requires : tie.Need-is-non-negative-requires
-is-non-negative-requires c κs = search rules
+is_non_negative-requires : tie.Need-is_non_negative-requires
+is_non_negative-requires c κs = search rules
 
-enum-known-speed-2 : tie.Need-enum-known-speed-2
-enum-known-speed-2 c = search rules
+enum_known-speed-in-Tension-1 : tie.Need-enum_known-speed-in-Tension-1
+enum_known-speed-in-Tension-1 c = search rules
 
-is-non-negative-requires-2 : tie.Need-is-non-negative-requires-2
-is-non-negative-requires-2 c κs = search rules
+is_non_negative-requires-in-Tension : tie.Need-is_non_negative-requires-in-Tension
+is_non_negative-requires-in-Tension c κs = search rules
 
-is-positive-requires : tie.Need-is-positive-requires
-is-positive-requires c κs = search rules
+is_positive-requires : tie.Need-is_positive-requires
+is_positive-requires c κs = search rules
 
-returns : tie.Need-returns
-returns c = ap₂ ◌&&◌ c.before.is-pitched.ensures c.is-non-negative.ensures
-    ∙ sym (ap (speed_allowed _) c.before.before.before.speed.given.1)
+returns-in-Hertz : tie.Need-returns-in-Hertz
+returns-in-Hertz c = ap₂ ◌&&◌ c.is_pitched.ensures c.is_non_negative.ensures
+    ∙ sym (ap (speed_allowed _) c.in-Hertz.is)
 
-returns-2 : tie.Need-returns-2
-returns-2 c = ap₂ ◌&&◌ c.before.is-non-negative2.ensures c.is_positive.ensures
-    ∙ sym (ap (speed_allowed _) c.before.before.before.speed2.given.1)
+returns-in-Tension : tie.Need-returns-in-Tension
+returns-in-Tension c = ap₂ ◌&&◌ c.is_non_negative-in-Tension.ensures c.is_positive.ensures
+    ∙ sym (ap (speed_allowed _) c.in-Tension.is)
 
-pub speed-allowed-spec : {M : Type 1} → statement M
-speed-allowed-spec =
+pub speed_allowed_spec : {M : Type 1} → statement M
+speed_allowed_spec =
     tie.close
     (tie.spec
-    enum-known-speed
-    is-pitched-requires
-    is-non-negative-requires
-    enum-known-speed-2
-    is-non-negative-requires-2
-    is-positive-requires
-    returns
-    returns-2)
+    enum_known-speed
+    is_pitched-requires
+    is_non_negative-requires
+    enum_known-speed-in-Tension-1
+    is_non_negative-requires-in-Tension
+    is_positive-requires
+    returns-in-Hertz
+    returns-in-Tension)

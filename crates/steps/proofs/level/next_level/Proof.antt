@@ -1,4 +1,4 @@
--- `next_level_lem` meets its contract: off a line only a plate is stiff.
+-- `next_level` meets its contract: off a line only a plate is stiff.
 use mathlib.Core.Path.{◌≡◌}
 use mathlib.Core.Logic.{⊎_elim}
 use borrow.Author.Rules.{rules}
@@ -6,8 +6,8 @@ use Rattle.scheme.specs.Instruments.{plate, kind}
 use Rattle.steps.proofs.KindLaws.{grid-stiff}
 use Rattle.steps.proofs.PlanLaws.{m_none, m_some}
 use Rattle.steps.proofs.StepLaws.{given_as, stepped_as}
-use Rattle.steps.proofs.level.next_level_lem.Statement.{statement}
-use Rattle.steps.proofs.level.next_level_lem.Tie as tie
+use Rattle.steps.proofs.level.next_level.Statement.{statement}
+use Rattle.steps.proofs.level.next_level.Tie as tie
 
 -- a grid with stiffness
 is-plate : (c : tie.Then2) → kind c.before.before.before.before.before.args.plan.instrument.grid ≡ plate

@@ -35,7 +35,7 @@ returns : tie.Need-returns
 returns c =
     let k = c.before in
     let t = k.before.before.before in
-    let p = (passed t.before).next_level_lem.ensures in
+    let p = (passed t.before).next_level.ensures in
     let s = start t.before in
     small_copied p t.if1.true
     (k.copy2.ensures ∙ copied-whole _ _ (p.stepped.long ∙ sym s.pre.0.0.older_passes.long ∙ sym p.passing.older_long))
@@ -48,7 +48,7 @@ same-length-4 c = search rules
 
 returns-2 : tie.Need-returns-2
 returns-2 c =
-    let r = c.before in small_not (passed r).next_level_lem.ensures (start r).requires.0.0.older_passes.long c.if1.false
+    let r = c.before in small_not (passed r).next_level.ensures (start r).requires.0.0.older_passes.long c.if1.false
 
 pub small-step-spec : {M : Type 1} → statement M
 small-step-spec =

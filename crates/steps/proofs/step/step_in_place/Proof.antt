@@ -48,13 +48,13 @@ next-level-requires : tie.Need-next-level-requires
 next-level-requires c κs = let s = c.before.before.before in (in_place_given s.requires.0.0 s.requires.0.1, s.requires.1)
 
 same-length-3 : tie.Need-same-length-3
-same-length-3 c = c.before.before.before.before.next_level_lem.ensures.passing.older_long
+same-length-3 c = c.before.before.before.before.next_level.ensures.passing.older_long
 
 same-length-4 : tie.Need-same-length-4
-same-length-4 c = c.before.before.before.before.next_level_lem.ensures.passing.out_long
+same-length-4 c = c.before.before.before.before.next_level.ensures.passing.out_long
 
 returns-2 : tie.Need-returns-2
-returns-2 c = tested_not c.before.before.before.before.next_level_lem.ensures (not-true _ c.if2.true)
+returns-2 c = tested_not c.before.before.before.before.next_level.ensures (not-true _ c.if2.true)
 
 -- the first pass
 abbrev tested : tie.Else2 → tie.After-next-level
@@ -64,8 +64,8 @@ next-level-requires-2 : tie.Need-next-level-requires-2
 next-level-requires-2 c κs =
     let t = tested c.before.before in
     let s = t.before.before.before.before in
-    let p = t.next_level_lem.ensures in (
-      subst (λ (xs : List ℤ). Passable s.args.plan s.args.hit true xs s.args.newer.now t.next_level_lem.last.1.1.1.1.0)
+    let p = t.next_level.ensures in (
+      subst (λ (xs : List ℤ). Passable s.args.plan s.args.hit true xs s.args.newer.now t.next_level.last.1.1.1.1.0)
           (sym (p.passing.kept refl)) (in_place_given s.pre.0.0 (omega (arith, s.pre.0.1, p.passing.out_long))),
       s.pre.1,
     )
@@ -73,18 +73,18 @@ next-level-requires-2 c κs =
 same-length-5 : tie.Need-same-length-5
 same-length-5 c =
     let n = c.before.before in
-    n.next-level2.ensures.passing.older_long ∙ (tested n.before.before.before).next_level_lem.ensures.passing.older_long
+    n.next-level2.ensures.passing.older_long ∙ (tested n.before.before.before).next_level.ensures.passing.older_long
 
 same-length-6 : tie.Need-same-length-6
 same-length-6 c =
     let n = c.before.before in
-    n.next-level2.ensures.passing.out_long ∙ (tested n.before.before.before).next_level_lem.ensures.passing.out_long
+    n.next-level2.ensures.passing.out_long ∙ (tested n.before.before.before).next_level.ensures.passing.out_long
 
 returns-3 : tie.Need-returns-3
 returns-3 c =
     let n = c.before.before in
     let e = n.before.before.before in
-    tested_written (tested e).next_level_lem.ensures (not-false _ e.if2.false) n.next-level2.ensures
+    tested_written (tested e).next_level.ensures (not-false _ e.if2.false) n.next-level2.ensures
 
 pub step-in-place-spec : {M : Type 1} → statement M
 step-in-place-spec =

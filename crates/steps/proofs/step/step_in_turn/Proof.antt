@@ -63,7 +63,7 @@ same-length-3 c = search rules
 
 returns : tie.Need-returns
 returns c = let m = c.before.before.before.before.before.before in
-    stepped_in (first m _ _ _) (first m _ _ _) c.before.before.next_level_lem.ensures
+    stepped_in (first m _ _ _) (first m _ _ _) c.before.before.next_level.ensures
 
 same-length-4 : tie.Need-same-length-4
 same-length-4 c = search rules

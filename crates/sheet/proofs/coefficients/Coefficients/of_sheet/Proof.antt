@@ -8,30 +8,30 @@ use Rattle.sheet.specs.Coefficients.{coefficients}
 use Rattle.sheet.proofs.coefficients.Coefficients.of_sheet.Statement.{statement}
 use Rattle.sheet.proofs.coefficients.Coefficients.of_sheet.Tie as tie
 
-sub-g : tie.Need-overflow-sub-g
-sub-g c = search rules
+overflow_sub-g : tie.Need-overflow_sub-g
+overflow_sub-g c = search rules
 
-int-to-float-g : tie.Need-int-to-float-g
+int_to_float-g : tie.Need-int_to_float-g
 unfolding in_float
-int-to-float-g c = le→leb (c.before.args.columns - 1) (2 ^ 53) (omega arith)
+int_to_float-g c = le→leb (c.args.columns - 1) (2 ^ 53) (omega arith)
 
-courant-squared-requires : tie.Need-courant-squared-requires
-courant-squared-requires c κs = search rules
+courant_squared-requires : tie.Need-courant_squared-requires
+courant_squared-requires c κs = search rules
 
-nearest-whole-requires : tie.Need-nearest-whole-requires
-nearest-whole-requires c κs = search rules
+nearest_whole-requires : tie.Need-nearest_whole-requires
+nearest_whole-requires c κs = search rules
 
 stiffness-requires : tie.Need-stiffness-requires
 stiffness-requires c κs = search rules
 
-nearest-whole-requires-2 : tie.Need-nearest-whole-requires-2
-nearest-whole-requires-2 c κs = search rules
+nearest_whole-requires-2 : tie.Need-nearest_whole-requires-2
+nearest_whole-requires-2 c κs = search rules
 
-loss-per-step-requires : tie.Need-loss-per-step-requires
-loss-per-step-requires c κs = search rules
+loss_per_step-requires : tie.Need-loss_per_step-requires
+loss_per_step-requires c κs = search rules
 
-nearest-whole-requires-3 : tie.Need-nearest-whole-requires-3
-nearest-whole-requires-3 c κs = search rules
+nearest_whole-requires-3 : tie.Need-nearest_whole-requires-3
+nearest_whole-requires-3 c κs = search rules
 
 returns : tie.Need-returns
 unfolding coefficients
@@ -42,24 +42,24 @@ returns c =
     let q = bending.before in
     let courant = q.before in
     simp (
-      q.nearest-whole.ensures,
-      courant.courant-squared.ensures,
-      m.nearest-whole2.ensures,
+      q.nearest_whole.ensures,
+      courant.courant_squared.ensures,
+      m.nearest_whole-2.ensures,
       bending.stiffness.ensures,
-      c.nearest-whole3.ensures,
-      loss.loss-per-step.ensures,
+      c.nearest_whole-3.ensures,
+      loss.loss_per_step.ensures,
     )
 
-pub of-sheet-spec : {M : Type 1} → statement M
-of-sheet-spec =
+pub of_sheet_spec : {M : Type 1} → statement M
+of_sheet_spec =
     tie.close
     (tie.spec
-    sub-g
-    int-to-float-g
-    courant-squared-requires
-    nearest-whole-requires
+    overflow_sub-g
+    int_to_float-g
+    courant_squared-requires
+    nearest_whole-requires
     stiffness-requires
-    nearest-whole-requires-2
-    loss-per-step-requires
-    nearest-whole-requires-3
+    nearest_whole-requires-2
+    loss_per_step-requires
+    nearest_whole-requires-3
     returns)

@@ -21,8 +21,8 @@ returns c =
     let s = c.before in
     let m = s.before in
     let q = m.before in
-    c.new.ensures ∙ simp (q.value.ensures, m.value2.ensures, s.value3.ensures)
+    c.new.ensures ∙ simp (q.value.ensures, m.value-2.ensures, s.value-3.ensures)
 
-pub settings-spec : {M : Type 1} → statement M
-settings-spec =
+pub settings_spec : {M : Type 1} → statement M
+settings_spec =
     tie.close (tie.spec value-requires value-requires-2 value-requires-3 new-requires returns)

@@ -5,21 +5,21 @@ use borrow.Author.Rules.{rules}
 use Rattle.sheet.proofs.coefficients.Coefficients.some_outside.Statement.{statement}
 use Rattle.sheet.proofs.coefficients.Coefficients.some_outside.Tie as tie
 
-is-outside-requires : tie.Need-is-outside-requires
-is-outside-requires c κs = search rules
+is_outside-requires : tie.Need-is_outside-requires
+is_outside-requires c κs = search rules
 
-is-outside-requires-2 : tie.Need-is-outside-requires-2
-is-outside-requires-2 c κs = search rules
+is_outside-requires-2 : tie.Need-is_outside-requires-2
+is_outside-requires-2 c κs = search rules
 
-is-outside-requires-3 : tie.Need-is-outside-requires-3
-is-outside-requires-3 c κs = search rules
+is_outside-requires-3 : tie.Need-is_outside-requires-3
+is_outside-requires-3 c κs = search rules
 
 returns : tie.Need-returns
 returns c =
     let m = c.before in
     let q = m.before in
-    ap₂ ◌||◌ (ap₂ ◌||◌ q.is-outside.ensures m.is-outside2.ensures) c.is-outside3.ensures
+    ap₂ ◌||◌ (ap₂ ◌||◌ q.is_outside.ensures m.is_outside-2.ensures) c.is_outside-3.ensures
 
-pub some-outside-spec : {M : Type 1} → statement M
-some-outside-spec =
-    tie.close (tie.spec is-outside-requires is-outside-requires-2 is-outside-requires-3 returns)
+pub some_outside_spec : {M : Type 1} → statement M
+some_outside_spec =
+    tie.close (tie.spec is_outside-requires is_outside-requires-2 is_outside-requires-3 returns)
