@@ -47,7 +47,7 @@ module _ (c : tie.After-fill) where
   older = (s m).args.older.now
 
   abbrev filled : List ℤ
-  filled = c.fill.new.1.1.1.0
+  filled = c.fill.new.level
 
   filled_is : filled ≡ tabulate (length older) (shape_at (s m).args.table.now
       (shape_of (s m).args.g (s m).args.centre (s m).args.half_width (s m).args.height))
@@ -80,7 +80,7 @@ shape_of-newer c = search rules
 
 returns : tie.Need-returns
 returns c =
-    let f = c.before.before.before.before.before in
+    let f = c.before.before.before.before in
     let l : length (filled f) ≡ length (s (m f)).args.newer.now =
     ap length (filled_is f) ∙ length-tabulate _ _ ∙ as_long _ _ _ _ _ _ (s (m f)).requires.2 in
     (older_is f, c.copy.ensures ∙ copied-whole _ _ l ∙ older_is f)

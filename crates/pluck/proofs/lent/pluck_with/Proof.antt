@@ -62,7 +62,7 @@ nothing_is c =
     accepted_is _ (ap accepted (sym (answer-is m)) ∙ sym c.is_nothing.ensures ∙ not-false _ (ap not c.if-not-is_nothing.false))
 
 -- a table that was loaded
-module _ (c : tie.In-Sound-2) where
+module _ (c : tie.In-Sound) where
   abbrev e : tie.Else-not-is_nothing
   e = c.before.before
 

@@ -25,7 +25,7 @@ module _ (c : tie.At-loop-d invariant-loop-d decreases-loop-d) where
   s = c.before.before.before.before.before.before
 
   abbrev cleared : List ℤ
-  cleared = c.clear.new.0
+  cleared = c.clear.new.xs
 
   as_long : length cleared ≡ length s.args.level.now
   as_long = ap length c.clear.ensures ∙ length-replicate _ _

@@ -26,8 +26,8 @@ returns c =
     let s = c.before.before in
     let h = s.requires in
     let d = divisor s.args.plan.instrument.settings in
-    (λ j. ltb ((c.before.raised.ensures ∙ (λ k. nat_abs (n_is s k) + half_is h k)) j) (limit_is h j)) ∙
+    (λ j. ltb ((c.raised.ensures ∙ (λ k. nat_abs (n_is s k) + half_is h k)) j) (limit_is h j)) ∙
     round_limit s.args.n d ceiling (divisor_some h)
 
-pub is-below-limit-spec : {M : Type 1} → statement M
-is-below-limit-spec = tie.close (tie.spec raised-requires returns)
+pub is_below_limit_spec : {M : Type 1} → statement M
+is_below_limit_spec = tie.close (tie.spec raised-requires returns)

@@ -8,49 +8,49 @@ use Rattle.steps.proofs.arithmetic.numerator.Statement.{statement}
 use Rattle.steps.proofs.arithmetic.numerator.Tie as tie
 
 -- where near and D − s are read
-abbrev at-near : tie.After-struct-told2 → tie.Start
+abbrev at-near : tie.After-struct_told-2-1 → tie.Start
 at-near c = c.before.before.before.before
 
-abbrev at-kept : tie.After-struct-told3 → tie.Start
+abbrev at-kept : tie.After-struct_told-3-1 → tie.Start
 at-kept c = at-near c.before.before
 
-mul-own-last : tie.Need-overflow-mul-own-last
-mul-own-last c = let s = c.before.before in fits (N.own_last# s.requires.0 s.requires.1) tt
+overflow_mul-own_last : tie.Need-overflow_mul-own_last
+overflow_mul-own_last c = let s = c.before.before in fits (N.own_last# s.requires.0 s.requires.1) tt
 
-mul-neighbours : tie.Need-overflow-mul-neighbours
-mul-neighbours c = let s = at-near c in Num.fits (N.neighbours s.pre.0 s.pre.1) tt
+overflow_mul-neighbours : tie.Need-overflow_mul-neighbours
+overflow_mul-neighbours c = let s = at-near c in Num.fits (N.neighbours s.requires.0 s.requires.1) tt
 
-mul-before-last : tie.Need-overflow-mul-before-last
-mul-before-last c = let s = at-kept c in fits (N.before_last# s.pre.0 s.pre.1) tt
+overflow_mul-before_last : tie.Need-overflow_mul-before_last
+overflow_mul-before_last c = let s = at-kept c in fits (N.before_last# s.requires.0 s.requires.1) tt
 
-mul-force : tie.Need-overflow-mul-force
-mul-force c = let s = at-kept c in fits (N.force# s.pre.0 s.pre.1) tt
+overflow_mul-force : tie.Need-overflow_mul-force
+overflow_mul-force c = let s = at-kept c in fits (N.force# s.requires.0 s.requires.1) tt
 
-add-result : tie.Need-overflow-add-result
-add-result c = let s = at-kept c in fits (N.two# s.pre.0 s.pre.1) tt
+overflow_add-result : tie.Need-overflow_add-result
+overflow_add-result c = let s = at-kept c in fits (N.two# s.requires.0 s.requires.1) tt
 
-sub-result : tie.Need-overflow-sub-result
-sub-result c = let s = at-kept c in fits (N.three# s.pre.0 s.pre.1) tt
+overflow_sub-result : tie.Need-overflow_sub-result
+overflow_sub-result c = let s = at-kept c in fits (N.three# s.requires.0 s.requires.1) tt
 
-add-result-2 : tie.Need-overflow-add-result-2
-add-result-2 c = let s = at-kept c in fits (N.with_force# s.pre.0 s.pre.1) tt
+overflow_add-result-2 : tie.Need-overflow_add-result-2
+overflow_add-result-2 c = let s = at-kept c in fits (N.with_force# s.requires.0 s.requires.1) tt
 
-sub-result-2 : tie.Need-overflow-sub-result-2
-sub-result-2 c = let s = at-kept c in fits (N.n# s.pre.0 s.pre.1) tt
+overflow_sub-result-2 : tie.Need-overflow_sub-result-2
+overflow_sub-result-2 c = let s = at-kept c in fits (N.n# s.requires.0 s.requires.1) tt
 
 returns : tie.Need-returns
-returns c = let s = at-kept c in is (N.n# s.pre.0 s.pre.1) tt ∙ N.numerator_is s.pre.0 s.pre.1
+returns c = let s = at-kept c in is (N.n# s.requires.0 s.requires.1) tt ∙ N.numerator_is s.requires.0 s.requires.1
 
-pub numerator-spec : {M : Type 1} → statement M
-numerator-spec =
+pub numerator_spec : {M : Type 1} → statement M
+numerator_spec =
     tie.close
     (tie.spec
-    mul-own-last
-    mul-neighbours
-    mul-before-last
-    mul-force
-    add-result
-    sub-result
-    add-result-2
-    sub-result-2
+    overflow_mul-own_last
+    overflow_mul-neighbours
+    overflow_mul-before_last
+    overflow_mul-force
+    overflow_add-result
+    overflow_sub-result
+    overflow_add-result-2
+    overflow_sub-result-2
     returns)

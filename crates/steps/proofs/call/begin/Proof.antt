@@ -14,38 +14,38 @@ use Rattle.steps.proofs.call.begin.Statement.{statement}
 use Rattle.steps.proofs.call.begin.Tie as tie
 
 -- the plan is the instrument's
-told : (c : tie.After-make-plan) → (c.make-plan.result.instrument ≡ c.before.args.i) × Planned c.make-plan.result
+told : (c : tie.After-make_plan-plan) → (c.make_plan-plan.result.instrument ≡ c.args.i) × Planned c.make_plan-plan.result
 told c =
-    let a = c.before.args in
+    let a = c.args in
     made a.i
     (instrument_passes a.i
-    (block_passes a.i a.older.now a.newer.now false a.pick a.hit c.before.requires.0).instrument)
-    c.make-plan.result c.make-plan.ensures
+    (block_passes a.i a.older.now a.newer.now false a.pick a.hit c.requires.0).instrument)
+    c.make_plan-plan.result c.make_plan-plan.ensures
 
 -- where the steps begin: how the call began, and the plan
-module _ (c : tie.After-play-arg4) where
-  abbrev edged : tie.After-row-edges
+module _ (c : tie.After-play-arg-4-1) where
+  abbrev edged : tie.After-row_edges
   edged = c.before.before.before.before.before.before.before.before
 
-  abbrev planned : tie.After-make-plan
-  planned = edged.before.before
+  abbrev planned : tie.After-make_plan-plan
+  planned = edged.before.before.before
 
   abbrev start : tie.Start
   start = planned.before
 
   abbrev plan : Plan
-  plan = planned.make-plan.result
+  plan = planned.make_plan-plan.result
 
   -- no refusal applies
   passes : block_refusal start.args.i start.args.older.now start.args.newer.now false start.args.pick start.args.hit
       ≡ Nothing
-  passes = start.pre.0
+  passes = start.requires.0
 
-make-plan-requires : tie.Need-make-plan-requires
-make-plan-requires c κs = search rules
+make_plan-plan-requires : tie.Need-make_plan-plan-requires
+make_plan-plan-requires c κs = search rules
 
-row-edges-requires : tie.Need-row-edges-requires
-row-edges-requires c κs = tt
+row_edges-requires : tie.Need-row_edges-requires
+row_edges-requires c κs = tt
 
 clear-requires : tie.Need-clear-requires
 clear-requires c κs = search rules
@@ -57,23 +57,23 @@ play-requires c κs =
       (
         first_steppable a.i a.older.now a.newer.now a.pick a.hit (passes c) (plan c) m.0
             m.1 a.work.now _
-            c.before.before.before.before.before.before.clear.ensures (start c).requires.1,
+            c.clear.ensures (start c).requires.1,
         pick_inside a.i a.older.now a.newer.now a.pick a.hit (passes c) (plan c) m.0,
       ),
-      edges_there _ m.1.passes.size refl (edged c).row-edges.ensures,
+      edges_there _ m.1.passes.size refl (edged c).row_edges.ensures,
     )
 
-same_length : tie.Need-same-length
-same_length c = search rules
+shape_of-older : tie.Need-shape_of-older
+shape_of-older c = search rules
 
-same-length-2 : tie.Need-same-length-2
-same-length-2 c = search rules
+shape_of-newer : tie.Need-shape_of-newer
+shape_of-newer c = search rules
 
-same-length-3 : tie.Need-same-length-3
-same-length-3 c = search rules
+shape_of-work : tie.Need-shape_of-work
+shape_of-work c = search rules
 
-same-length-4 : tie.Need-same-length-4
-same-length-4 c = search rules
+shape_of-samples : tie.Need-shape_of-samples
+shape_of-samples c = search rules
 
 returns : tie.Need-returns
 returns c =
@@ -86,16 +86,16 @@ returns c =
       p.1,
     )
 
-pub begin-spec : {M : Type 1} → statement M
-begin-spec =
+pub begin_spec : {M : Type 1} → statement M
+begin_spec =
     tie.close
     (tie.spec
-    make-plan-requires
-    row-edges-requires
+    make_plan-plan-requires
+    row_edges-requires
     clear-requires
     play-requires
-    same_length
-    same-length-2
-    same-length-3
-    same-length-4
+    shape_of-older
+    shape_of-newer
+    shape_of-work
+    shape_of-samples
     returns)

@@ -1,4 +1,5 @@
 -- `steps_from` meets its contract: what the checks answer is the paper's refusal, and what they let pass is carried out.
+use mathlib.Core.Bool.{not}
 use mathlib.Core.Path.{◌≡◌, sym, ap, ◌∙◌}
 use borrow.Author.Rules.{rules}
 use borrow.Author.Tests.{not-true, not-false}
@@ -11,75 +12,75 @@ use Rattle.steps.proofs.CallLaws.{rest_right}
 use Rattle.steps.proofs.call.steps_from.Statement.{statement}
 use Rattle.steps.proofs.call.steps_from.Tie as tie
 
-abbrev start : tie.After-block-refusal → tie.Start
-start c = c.before.before.before
+abbrev start : tie.After-block_refusal-refusal → tie.Start
+start c = c.before
 
-block-refusal-requires : tie.Need-block-refusal-requires
-block-refusal-requires c κs = search rules
+block_refusal-refusal-requires : tie.Need-block_refusal-refusal-requires
+block_refusal-refusal-requires c κs = search rules
 
-is-nothing-requires : tie.Need-is-nothing-requires
-is-nothing-requires c κs = search rules
+is_nothing-requires : tie.Need-is_nothing-requires
+is_nothing-requires c κs = search rules
 
-same_length : tie.Need-same-length
-same_length c = search rules
+shape_of-older-then-not-is_nothing : tie.Need-shape_of-older-then-not-is_nothing
+shape_of-older-then-not-is_nothing c = search rules
 
-same-length-2 : tie.Need-same-length-2
-same-length-2 c = search rules
+shape_of-newer-then-not-is_nothing : tie.Need-shape_of-newer-then-not-is_nothing
+shape_of-newer-then-not-is_nothing c = search rules
 
-returns : tie.Need-returns
-returns c =
-    let told = c.before.before.block-refusal.ensures in
-    refused _ told (ap accepted (sym told) ∙ sym c.before.is-nothing.ensures ∙ not-true _ c.if1.true)
+returns-then-not-is_nothing : tie.Need-returns-then-not-is_nothing
+returns-then-not-is_nothing c =
+    let told = c.block_refusal-refusal.ensures in
+    refused _ told (ap accepted (sym told) ∙ sym c.is_nothing.ensures ∙ not-true _ (ap not c.if-not-is_nothing.true))
 
 -- nothing refuses it
-passes : (e : tie.Else1) → let a = (start e.before.before).args in
+passes : (e : tie.Else-not-is_nothing) → let a = (start e.before.before).args in
     block_refusal a.i a.older.now a.newer.now a.wrong a.pick a.hit ≡ Nothing
 passes e =
     let r = e.before.before in
-    sym r.block-refusal.ensures ∙
-    accepted_is r.block-refusal.result (sym e.before.is-nothing.ensures ∙ not-false _ e.if1.false)
+    sym r.block_refusal-refusal.ensures ∙
+    accepted_is r.block_refusal-refusal.result (sym e.is_nothing.ensures ∙ not-false _ (ap not e.if-not-is_nothing.false))
 
-begin-requires : tie.Need-begin-requires
-begin-requires c κs =
+begin-steps-requires : tie.Need-begin-steps-requires
+begin-steps-requires c κs =
     let e = c.before.before.before.before in
     let s = start e.before.before in
     let a = s.args in
-    (rest_right a.i a.older.now a.newer.now a.wrong a.pick a.hit (passes e), s.pre (passes e))
+    (rest_right a.i a.older.now a.newer.now a.wrong a.pick a.hit (passes e), s.requires (passes e))
 
 ending-requires : tie.Need-ending-requires
 ending-requires c κs = search rules
 
-same-length-3 : tie.Need-same-length-3
-same-length-3 c = search rules
+shape_of-older : tie.Need-shape_of-older
+shape_of-older c = search rules
 
-same-length-4 : tie.Need-same-length-4
-same-length-4 c = search rules
+shape_of-newer : tie.Need-shape_of-newer
+shape_of-newer c = search rules
 
-same-length-5 : tie.Need-same-length-5
-same-length-5 c = search rules
+shape_of-work : tie.Need-shape_of-work
+shape_of-work c = search rules
 
-same-length-6 : tie.Need-same-length-6
-same-length-6 c = search rules
+shape_of-samples : tie.Need-shape_of-samples
+shape_of-samples c = search rules
 
-returns-2 : tie.Need-returns-2
-returns-2 c =
+returns : tie.Need-returns
+returns c =
     let q = c.before.before.before.before.before in
     let e = q.before.before.before.before.before in
-    carried _ _ _ _ _ _ (passes e) q.begin.ensures.1 q.begin.ensures.0 c.ending.ensures
+    carried _ _ _ _ _ _ (passes e) q.begin-steps.ensures.1 q.begin-steps.ensures.0 c.ending.ensures
 
-pub steps-from-spec : {M : Type 1} → statement M
-steps-from-spec =
+pub steps_from_spec : {M : Type 1} → statement M
+steps_from_spec =
     tie.close
     (tie.spec
-    block-refusal-requires
-    is-nothing-requires
-    same_length
-    same-length-2
-    returns
-    begin-requires
+    block_refusal-refusal-requires
+    is_nothing-requires
+    shape_of-older-then-not-is_nothing
+    shape_of-newer-then-not-is_nothing
+    returns-then-not-is_nothing
+    begin-steps-requires
     ending-requires
-    same-length-3
-    same-length-4
-    same-length-5
-    same-length-6
-    returns-2)
+    shape_of-older
+    shape_of-newer
+    shape_of-work
+    shape_of-samples
+    returns)

@@ -7,28 +7,28 @@ use Rattle.steps.proofs.CallLaws.{left_in_place}
 use Rattle.steps.proofs.call.steps_in_place.Statement.{statement}
 use Rattle.steps.proofs.call.steps_in_place.Tie as tie
 
-slice-aggregate-steps-from : tie.Need-slice-aggregate-steps-from
-slice-aggregate-steps-from c = refl
+slice_bounds-steps_from-end : tie.Need-slice_bounds-steps_from-end
+slice_bounds-steps_from-end c = refl
 
-steps-from-requires : tie.Need-steps-from-requires
-steps-from-requires c κs none = two (omega arith)
+steps_from-left-requires : tie.Need-steps_from-left-requires
+steps_from-left-requires c κs none = two (omega arith)
 
-same_length : tie.Need-same-length
-same_length c = search rules
+shape_of-older : tie.Need-shape_of-older
+shape_of-older c = search rules
 
-same-length-2 : tie.Need-same-length-2
-same-length-2 c = search rules
+shape_of-newer : tie.Need-shape_of-newer
+shape_of-newer c = search rules
 
-same-length-3 : tie.Need-same-length-3
-same-length-3 c = search rules
+shape_of-samples : tie.Need-shape_of-samples
+shape_of-samples c = search rules
 
 returns : tie.Need-returns
 returns c =
     let q = c.before.before.before.before.before in
-    let a = q.before.before.before.before.before.args in
+    let a = q.args in
     left_in_place a.i a.older.now a.newer.now a.samples.now a.pick a.hit (search rules) (search rules)
-    q.steps-from.ensures
+    q.steps_from-left.ensures
 
-pub steps-in-place-spec : {M : Type 1} → statement M
-steps-in-place-spec =
-    tie.close (tie.spec slice-aggregate-steps-from steps-from-requires same_length same-length-2 same-length-3 returns)
+pub steps_in_place_spec : {M : Type 1} → statement M
+steps_in_place_spec =
+    tie.close (tie.spec slice_bounds-steps_from-end steps_from-left-requires shape_of-older shape_of-newer shape_of-samples returns)

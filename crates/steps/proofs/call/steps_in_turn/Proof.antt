@@ -24,23 +24,23 @@ module _ (s : tie.Start) where
       block_same a.i a.older.now a.newer.now wrong (wrong_length a.i.grid (length a.work.now)) a.pick a.hit
       (λ right. other_length a.i.grid (length a.older.now) (length a.work.now) right)
 
-steps-from-requires : tie.Need-steps-from-requires
-steps-from-requires c κs none =
+steps_from-requires : tie.Need-steps_from-requires
+steps_from-requires c κs none =
     let s = c.before.before.before.before in
     let a = s.args in
     three (work_right a.i _ _ a.work.now _ _ (sym (same s) ∙ none))
 
-same_length : tie.Need-same-length
-same_length c = search rules
+shape_of-older : tie.Need-shape_of-older
+shape_of-older c = search rules
 
-same-length-2 : tie.Need-same-length-2
-same-length-2 c = search rules
+shape_of-newer : tie.Need-shape_of-newer
+shape_of-newer c = search rules
 
-same-length-3 : tie.Need-same-length-3
-same-length-3 c = search rules
+shape_of-work : tie.Need-shape_of-work
+shape_of-work c = search rules
 
-same-length-4 : tie.Need-same-length-4
-same-length-4 c = search rules
+shape_of-samples : tie.Need-shape_of-samples
+shape_of-samples c = search rules
 
 returns : tie.Need-returns
 returns c =
@@ -48,7 +48,7 @@ returns c =
     let s = q.before.before.before.before.before in
     let a = s.args in
     left_in_turn a.i a.older.now a.newer.now a.work.now a.samples.now a.pick a.hit (same s)
-    (search rules) (search rules) (search rules) q.steps-from.ensures
+    (search rules) (search rules) (search rules) q.steps_from.ensures
 
-pub steps-in-turn-spec : {M : Type 1} → statement M
-steps-in-turn-spec = tie.close (tie.spec steps-from-requires same_length same-length-2 same-length-3 same-length-4 returns)
+pub steps_in_turn_spec : {M : Type 1} → statement M
+steps_in_turn_spec = tie.close (tie.spec steps_from-requires shape_of-older shape_of-newer shape_of-work shape_of-samples returns)

@@ -21,36 +21,36 @@ use Rattle.steps.proofs.level.level_run.Statement.{statement}
 use Rattle.steps.proofs.level.level_run.Tie as tie
 
 -- the rows passed have their next values
-abbrev invariant-loop : tie.invariant-loop
-invariant-loop plan edges older₀ newer out₀ hit write in_place rows inexact₀ row₀ older out inexact row =
+abbrev invariant-loop-row : tie.invariant-loop-row
+invariant-loop-row plan edges older₀ newer out₀ hit write in_place rows inexact₀ row₀ older out inexact row =
     Rows plan.instrument hit write in_place older₀ newer out₀ older out row (row * plan.instrument.grid.columns) inexact
 
-abbrev decreases-loop : tie.decreases-loop
-decreases-loop plan edges older₀ newer out₀ hit write in_place rows inexact₀ row₀ older out inexact row = rows - row
+abbrev decreases-loop-row : tie.decreases-loop-row
+decreases-loop-row plan edges older₀ newer out₀ hit write in_place rows inexact₀ row₀ older out inexact row = rows - row
 
 -- what the caller showed
-module _ (s : tie.Start invariant-loop decreases-loop) where
+module _ (s : tie.Start invariant-loop-row decreases-loop-row) where
   abbrev g : Grid
   g = s.args.plan.instrument.grid
 
   given : Passable s.args.plan s.args.hit s.args.in_place s.args.older.now s.args.newer.now s.args.out.now
-  given = s.pre.0
+  given = s.requires.0
 
 -- a row, and its run
-module _ (c : tie.In-loop invariant-loop decreases-loop) where
-  abbrev start : tie.Start invariant-loop decreases-loop
+module _ (c : tie.In-loop-row invariant-loop-row decreases-loop-row) where
+  abbrev start : tie.Start invariant-loop-row decreases-loop-row
   start = c.before.before
 
   abbrev row : ℕ
-  row = c.before.loop.row
+  row = c.loop-row.row
 
   abbrev inv : Rows start.args.plan.instrument start.args.hit start.args.write start.args.in_place
       start.args.older.now start.args.newer.now start.args.out.now
-      c.before.loop.older c.before.loop.out row (row * (g start).columns) c.before.loop.inexact
-  inv = c.before.loop.invariant
+      c.loop-row.older c.loop-row.out row (row * (g start).columns) c.loop-row.inexact
+  inv = c.loop-row.invariant
 
   below : row < (g start).rows
-  below = c.loop-test.true
+  below = c.loop-row-test.true
 
   abbrev here : Run
   here = run_of (g start) row
@@ -63,10 +63,10 @@ module _ (c : tie.In-loop invariant-loop decreases-loop) where
   to = get_or start.args.edges.now (64 + row) 0
 
   from_is : from ≡ row * (g start).columns + here.from
-  from_is = start.pre.1.0.from_is row below
+  from_is = start.requires.1.0.from_is row below
 
   to_is : to ≡ row * (g start).columns + here.to
-  to_is = start.pre.1.0.to_is row below
+  to_is = start.requires.1.0.to_is row below
 
   -- the row lies in the level
   inside : to ≤ points (g start)
@@ -82,33 +82,33 @@ module _ (c : tie.In-loop invariant-loop decreases-loop) where
   few : row < 64
   few = omega (arith, below, few_rows (given start).given.planned)
 
-loop-holds : tie.Need-loop-init invariant-loop decreases-loop
-loop-holds c = rows_at (sym (zero-mul (g c).columns)) (rows_start _ _)
+loop-row-init : tie.Need-loop-row-init invariant-loop-row decreases-loop-row
+loop-row-init c = rows_at (sym (zero-mul (g c).columns)) (rows_start _ _)
 
-mul-from : tie.Need-overflow-mul-from invariant-loop decreases-loop
-mul-from c = record { fits = omega (arith, few c) }
+offset_bounds-edges-row : tie.Need-offset_bounds-edges-row invariant-loop-row decreases-loop-row
+offset_bounds-edges-row c = record { fits = omega (arith, few c) }
 
-element-copy-out-from : tie.Need-element-copy-out-from invariant-loop decreases-loop
-element-copy-out-from c = omega (arith, few c)
+bounds-edges-row : tie.Need-bounds-edges-row invariant-loop-row decreases-loop-row
+bounds-edges-row c = omega (arith, few c.before)
 
-cast-from : tie.Need-overflow-cast-from invariant-loop decreases-loop
-cast-from c = let t = c.before in record { fits = omega (arith, (moves t).order, inside t, small t) }
+overflow_cast-from : tie.Need-overflow_cast-from invariant-loop-row decreases-loop-row
+overflow_cast-from c = let t = c.before.before in record { fits = omega (arith, (moves t).order, inside t, small t) }
 
-add-to : tie.Need-overflow-add-to invariant-loop decreases-loop
-add-to c = record { fits = omega (arith, few c.before) }
+overflow_add-to : tie.Need-overflow_add-to invariant-loop-row decreases-loop-row
+overflow_add-to c = record { fits = omega (arith, few c.before.before) }
 
-mul-to : tie.Need-overflow-mul-to invariant-loop decreases-loop
-mul-to c = record { fits = omega (arith, few c.before) }
+offset_bounds-edges-row-in-loop-row : tie.Need-offset_bounds-edges-row-in-loop-row invariant-loop-row decreases-loop-row
+offset_bounds-edges-row-in-loop-row c = record { fits = omega (arith, few c.before.before) }
 
-element-copy-out-to : tie.Need-element-copy-out-to invariant-loop decreases-loop
-element-copy-out-to c = omega (arith, few c.before)
+bounds-edges-row-in-loop-row : tie.Need-bounds-edges-row-in-loop-row invariant-loop-row decreases-loop-row
+bounds-edges-row-in-loop-row c = omega (arith, few c.before.before)
 
-cast-to : tie.Need-overflow-cast-to invariant-loop decreases-loop
-cast-to c = let t = c.before.before in record { fits = omega (arith, inside t, small t) }
+overflow_cast-to : tie.Need-overflow_cast-to invariant-loop-row decreases-loop-row
+overflow_cast-to c = let t = c.before.before.before in record { fits = omega (arith, inside t, small t) }
 
-row-pass-requires : tie.Need-row-pass-requires invariant-loop decreases-loop
-row-pass-requires c κs =
-    let t = c.before.before.before.before in
+row_pass-p-requires : tie.Need-row_pass-p-requires invariant-loop-row decreases-loop-row
+row_pass-p-requires c κs =
+    let t = c.before.before.before.before.before in
     let p = given (start t) in (
       (
         passing_ready (steppable_ready p.given) (inv t).done,
@@ -118,91 +118,91 @@ row-pass-requires c κs =
     )
 
 -- once the row is done
-abbrev at_row : tie.After-out invariant-loop decreases-loop → tie.In-loop invariant-loop decreases-loop
-at_row c = c.before.before.before.before.before.before.before
+abbrev at_row : tie.After-out-1 invariant-loop-row decreases-loop-row → tie.In-loop-row invariant-loop-row decreases-loop-row
+at_row c = c.before.before.before.before.before.before.before.before
 
 -- it is left so, by its run
-module _ (o : tie.After-out invariant-loop decreases-loop) where
+module _ (o : tie.After-out-1 invariant-loop-row decreases-loop-row) where
   abbrev Left : (from to : ℕ) → Progress → Type 0
   Left = let t = at_row o in let a = (start t).args in
-      Passing a.plan.instrument a.hit a.write a.in_place t.before.loop.older a.newer.now t.before.loop.out
-      o.before.before.row-pass.new.1.0 o.before.before.row-pass.new.1.1.1.1.1.1.0
+      Passing a.plan.instrument a.hit a.write a.in_place t.loop-row.older a.newer.now t.loop-row.out
+      o.row_pass-p.new.older o.row_pass-p.new.out
 
   left : let t = at_row o in Left (row t * (g (start t)).columns + (here t).from) (row t * (g (start t)).columns + (here t).to)
-      o.before.before.row-pass.result
+      o.row_pass-p.result
   left = let t = at_row o in
-      subst₂ (λ (from to : ℕ). Left from to o.before.before.row-pass.result) (from_is t) (to_is t)
-      o.before.before.row-pass.ensures
+      subst₂ (λ (from to : ℕ). Left from to o.row_pass-p.result) (from_is t) (to_is t)
+      o.row_pass-p.ensures
 
-same_length : tie.Need-same-length invariant-loop decreases-loop
-same_length c = let o = c.before.before in (left o).older_long ∙ (inv (at_row o)).done.older_long
+shape_of-older-then-not-p : tie.Need-shape_of-older-then-not-p invariant-loop-row decreases-loop-row
+shape_of-older-then-not-p c = let o = c.before.before in (left o).older_long ∙ (inv (at_row o)).done.older_long
 
-same-length-2 : tie.Need-same-length-2 invariant-loop decreases-loop
-same-length-2 c = let o = c.before.before in (left o).out_long ∙ (inv (at_row o)).done.out_long
+shape_of-out-then-not-p : tie.Need-shape_of-out-then-not-p invariant-loop-row decreases-loop-row
+shape_of-out-then-not-p c = let o = c.before.before in (left o).out_long ∙ (inv (at_row o)).done.out_long
 
-returns : tie.Need-returns invariant-loop decreases-loop
-returns c =
+returns-then-not-p : tie.Need-returns-then-not-p invariant-loop-row decreases-loop-row
+returns-then-not-p c =
     let o = c.before.before in
     let t = at_row o in
     let p = given (start t) in
-    let beyond = not-true _ c.if1.true in
+    let beyond = not-true _ c.if-not-p.true in
     stepped-not p (rows_stop p (inv t) (below t) (here t) refl (left o) beyond) beyond
 
 -- its answer, once it was looked at
-abbrev looked : tie.After-struct-known2 invariant-loop decreases-loop → tie.After-out invariant-loop decreases-loop
+abbrev looked : tie.After-struct_known-in-loop-row-1 invariant-loop-row decreases-loop-row → tie.After-out-1 invariant-loop-row decreases-loop-row
 looked c = c.before.before.before
 
-add-inexact : tie.Need-overflow-add-inexact invariant-loop decreases-loop
-add-inexact c =
+overflow_add-inexact : tie.Need-overflow_add-inexact invariant-loop-row decreases-loop-row
+overflow_add-inexact c =
     let o = looked c in
     let t = at_row o in
-    let most = rows_most (given (start t)) (inv t) (below t) (here t) refl (left o) (not-false _ c.before.if1.false) in
+    let most = rows_most (given (start t)) (inv t) (below t) (here t) refl (left o) (not-false _ c.if-not-p.false) in
     record { fits = omega (arith, most, small t) }
 
-add_row : tie.Need-overflow-add-row invariant-loop decreases-loop
-add_row c = record { fits = omega (arith, few (at_row (looked c))) }
+overflow_add-row : tie.Need-overflow_add-row invariant-loop-row decreases-loop-row
+overflow_add-row c = record { fits = omega (arith, few (at_row (looked c))) }
 
-loop-less : tie.Need-loop-smaller invariant-loop decreases-loop
-loop-less c = omega (arith, below (at_row (looked c)))
+loop-row-smaller : tie.Need-loop-row-smaller invariant-loop-row decreases-loop-row
+loop-row-smaller c = omega (arith, below (at_row (looked c)))
 
-loop-again : tie.Need-loop-preserved invariant-loop decreases-loop
-loop-again c =
+loop-row-preserved : tie.Need-loop-row-preserved invariant-loop-row decreases-loop-row
+loop-row-preserved c =
     let o = looked c in
     let t = at_row o in
     rows_at (next_row (row t) (g (start t)).columns)
-    (rows_more (given (start t)) (inv t) (below t) (here t) refl (left o) (not-false _ c.before.if1.false))
+    (rows_more (given (start t)) (inv t) (below t) (here t) refl (left o) (not-false _ c.if-not-p.false))
 
-same-length-3 : tie.Need-same-length-3 invariant-loop decreases-loop
-same-length-3 c = c.before.loop.invariant.done.older_long
+shape_of-older : tie.Need-shape_of-older invariant-loop-row decreases-loop-row
+shape_of-older c = c.loop-row.invariant.done.older_long
 
-same-length-4 : tie.Need-same-length-4 invariant-loop decreases-loop
-same-length-4 c = c.before.loop.invariant.done.out_long
+shape_of-out : tie.Need-shape_of-out invariant-loop-row decreases-loop-row
+shape_of-out c = c.loop-row.invariant.done.out_long
 
-returns-2 : tie.Need-returns-2 invariant-loop decreases-loop
-returns-2 c = let p = given c.before.before in stepped-all p (rows_done p c.before.loop.invariant c.loop-test.false)
+returns : tie.Need-returns invariant-loop-row decreases-loop-row
+returns c = let p = given c.before.before in stepped-all p (rows_done p c.loop-row.invariant c.loop-row-test.false)
 
-pub level-run-spec : {M : Type 1} → statement M
-level-run-spec =
+pub level_run_spec : {M : Type 1} → statement M
+level_run_spec =
     tie.close
     (tie.spec
-    invariant-loop
-    decreases-loop
-    loop-holds
-    mul-from
-    element-copy-out-from
-    cast-from
-    add-to
-    mul-to
-    element-copy-out-to
-    cast-to
-    row-pass-requires
-    same_length
-    same-length-2
-    returns
-    add-inexact
-    add_row
-    loop-less
-    loop-again
-    same-length-3
-    same-length-4
-    returns-2)
+    invariant-loop-row
+    decreases-loop-row
+    loop-row-init
+    offset_bounds-edges-row
+    bounds-edges-row
+    overflow_cast-from
+    overflow_add-to
+    offset_bounds-edges-row-in-loop-row
+    bounds-edges-row-in-loop-row
+    overflow_cast-to
+    row_pass-p-requires
+    shape_of-older-then-not-p
+    shape_of-out-then-not-p
+    returns-then-not-p
+    overflow_add-inexact
+    overflow_add-row
+    loop-row-smaller
+    loop-row-preserved
+    shape_of-older
+    shape_of-out
+    returns)

@@ -21,27 +21,27 @@ value : (c : tie.Start) {t : Bool} → at_edge (length c.args.xs.now) c.args.k �
     → cond t (pos 0) (two_beside c.args.xs.now c.args.k) ≡ bar_sum c.args.xs.now c.args.k
 value c e = sym (ap (λ (t : Bool). cond t (pos 0) (two_beside c.args.xs.now c.args.k)) e)
 
-returns : tie.Need-returns
-returns c = value c.before (at_edge_lem _ _ (inl c.if1.true))
+returns-then-k-eq0 : tie.Need-returns-then-k-eq0
+returns-then-k-eq0 c = value c.before (at_edge_lem _ _ (inl c.if-k-eq0.true))
 
-sub-if2 : tie.Need-overflow-sub-if2
-sub-if2 c = omega (arith, c.before.requires)
+overflow_sub-xs : tie.Need-overflow_sub-xs
+overflow_sub-xs c = omega (arith, c.requires)
 
-returns-2 : tie.Need-returns-2
-returns-2 c =
+returns-then-k-xs : tie.Need-returns-then-k-xs
+returns-then-k-xs c =
     let s = c.before.before in
-    let last : s.args.k + 1 ≡ length s.args.xs.now = omega (arith, c.if2.true, s.requires) in
+    let last : s.args.k + 1 ≡ length s.args.xs.now = omega (arith, c.if-k-xs.true, s.requires) in
     value s (at_edge_lem _ _ (inr last))
 
-sum-beside-requires : tie.Need-sum-beside-requires
-sum-beside-requires c κs = search rules
+sum_beside-requires : tie.Need-sum_beside-requires
+sum_beside-requires c κs = search rules
 
-returns-3 : tie.Need-returns-3
-returns-3 c =
+returns : tie.Need-returns
+returns c =
     let s = c.before.before.before in
-    let inner : s.args.k + 1 ≡ length s.args.xs.now → ⊥ = λ e. c.before.if2.false (omega (arith, e)) in
-    back c.sum-beside.result c.sum-beside.type-inv ∙ c.sum-beside.ensures ∙
-    value s (neither_or (ne_eqb _ 0 c.before.before.if1.false) (ne_eqb _ _ inner))
+    let inner : s.args.k + 1 ≡ length s.args.xs.now → ⊥ = λ e. c.if-k-xs.false (omega (arith, e)) in
+    back c.sum_beside.result c.sum_beside.type_inv ∙ c.sum_beside.ensures ∙
+    value s (neither_or (ne_eqb _ 0 c.if-k-eq0.false) (ne_eqb _ _ inner))
 
-pub sum-at-spec : {M : Type 1} → statement M
-sum-at-spec = tie.close (tie.spec returns sub-if2 returns-2 sum-beside-requires returns-3)
+pub sum_at_spec : {M : Type 1} → statement M
+sum_at_spec = tie.close (tie.spec returns-then-k-eq0 overflow_sub-xs returns-then-k-xs sum_beside-requires returns)

@@ -9,39 +9,39 @@ use Rattle.steps.proofs.neighbours.sum_beside.Tie as tie
 abbrev sum# : tie.Start → E
 sum# s = beside# s.args.xs.now s.requires.2 s.args.k
 
-sub-result : tie.Need-overflow-sub-result
-sub-result c = search rules
+overflow_sub-result : tie.Need-overflow_sub-result
+overflow_sub-result c = search rules
 
-mul-result : tie.Need-overflow-mul-result
-mul-result c = search rules
+offset_bounds-xs-k : tie.Need-offset_bounds-xs-k
+offset_bounds-xs-k c = search rules
 
-shared-slice-copy-out-result : tie.Need-shared-slice-copy-out-result
-shared-slice-copy-out-result c = search rules
+bounds-xs-k : tie.Need-bounds-xs-k
+bounds-xs-k c = search rules
 
-add-result : tie.Need-overflow-add-result
-add-result c = search rules
+overflow_add-result : tie.Need-overflow_add-result
+overflow_add-result c = search rules
 
-mul-result-2 : tie.Need-overflow-mul-result-2
-mul-result-2 c = search rules
+offset_bounds-xs-k-2 : tie.Need-offset_bounds-xs-k-2
+offset_bounds-xs-k-2 c = search rules
 
-shared-slice-copy-out-result-2 : tie.Need-shared-slice-copy-out-result-2
-shared-slice-copy-out-result-2 c = search rules
+bounds-xs-k-2 : tie.Need-bounds-xs-k-2
+bounds-xs-k-2 c = search rules
 
-add-result-2 : tie.Need-overflow-add-result-2
-add-result-2 c = fits (sum# c.before.before) tt
+overflow_add-result-2 : tie.Need-overflow_add-result-2
+overflow_add-result-2 c = fits (sum# c.before.before) tt
 
 returns : tie.Need-returns
 returns c = is (sum# c.before.before) tt
 
-pub sum-beside-spec : {M : Type 1} → statement M
-sum-beside-spec =
+pub sum_beside_spec : {M : Type 1} → statement M
+sum_beside_spec =
     tie.close
     (tie.spec
-    sub-result
-    mul-result
-    shared-slice-copy-out-result
-    add-result
-    mul-result-2
-    shared-slice-copy-out-result-2
-    add-result-2
+    overflow_sub-result
+    offset_bounds-xs-k
+    bounds-xs-k
+    overflow_add-result
+    offset_bounds-xs-k-2
+    bounds-xs-k-2
+    overflow_add-result-2
     returns)

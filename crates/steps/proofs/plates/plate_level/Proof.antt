@@ -22,129 +22,129 @@ use Rattle.steps.proofs.PlateRowLaws.{plate_most, plate_next, plate_done}
 use Rattle.steps.proofs.plates.plate_level.Statement.{statement}
 use Rattle.steps.proofs.plates.plate_level.Tie as tie
 
-abbrev invariant-loop : tie.invariant-loop
-invariant-loop plan older₀ newer out₀ write in_place columns ring sums₀ inexact₀ other₀ here₀ row₀ start₀ older out sums inexact other
+abbrev invariant-loop-row : tie.invariant-loop-row
+invariant-loop-row plan older₀ newer out₀ write in_place columns ring sums₀ inexact₀ other₀ here₀ row₀ start₀ older out sums inexact other
     here row start =
     PlateRows plan.instrument Absent write in_place older₀ newer out₀ older out sums other here row start inexact
 
-abbrev decreases-loop : tie.decreases-loop
-decreases-loop plan older₀ newer out₀ write in_place columns ring sums₀ inexact₀ other₀ here₀ row₀ start₀ older out sums inexact other
+abbrev decreases-loop-row : tie.decreases-loop-row
+decreases-loop-row plan older₀ newer out₀ write in_place columns ring sums₀ inexact₀ other₀ here₀ row₀ start₀ older out sums inexact other
     here row start = ring - row
 
 -- what the caller showed
-module _ (s : tie.Start invariant-loop decreases-loop) where
+module _ (s : tie.Start invariant-loop-row decreases-loop-row) where
   abbrev g : Grid
   g = s.args.plan.instrument.grid
 
   given : Passable s.args.plan Absent s.args.in_place s.args.older.now s.args.newer.now s.args.out.now
-  given = s.pre.0
+  given = s.requires.0
 
   is-plate : kind g ≡ plate
-  is-plate = s.pre.1
+  is-plate = s.requires.1
 
   small : points g ≤ 4096
   small = few_points given.given.planned
 
 -- a row
-module _ (c : tie.In-loop invariant-loop decreases-loop) where
-  abbrev loop : tie.At-loop invariant-loop decreases-loop
+module _ (c : tie.In-loop-row invariant-loop-row decreases-loop-row) where
+  abbrev loop : tie.At-loop-row invariant-loop-row decreases-loop-row
   loop = c.before
 
-  abbrev start : tie.Start invariant-loop decreases-loop
+  abbrev start : tie.Start invariant-loop-row decreases-loop-row
   start = loop.before.before.before.before.before
 
   abbrev inv : PlateRows start.args.plan.instrument Absent start.args.write start.args.in_place
-      start.args.older.now start.args.newer.now start.args.out.now loop.loop.older loop.loop.out
-      loop.loop.sums loop.loop.other loop.loop.here loop.loop.row
-      loop.loop.start loop.loop.inexact
-  inv = loop.loop.inv
+      start.args.older.now start.args.newer.now start.args.out.now loop.loop-row.older loop.loop-row.out
+      loop.loop-row.sums loop.loop-row.other loop.loop-row.here loop.loop-row.row
+      loop.loop-row.start loop.loop-row.inexact
+  inv = loop.loop-row.invariant
 
-  last : loop.loop.row + 1 < (g start).rows
-  last = omega (arith, c.loop-test.true)
+  last : loop.loop-row.row + 1 < (g start).rows
+  last = omega (arith, c.loop-row-test.true)
 
-  room : loop.loop.start + (g start).columns ≤ points (g start)
+  room : loop.loop-row.start + (g start).columns ≤ points (g start)
   room = in_level (given start) (is-plate start) inv last
 
-sub-ring : tie.Need-overflow-sub-ring invariant-loop decreases-loop
-sub-ring c = omega (arith, some_rows (given c.before) (is-plate c.before))
+overflow_sub-ring : tie.Need-overflow_sub-ring invariant-loop-row decreases-loop-row
+overflow_sub-ring c = omega (arith, some_rows (given c.before) (is-plate c.before))
 
-slice-aggregate-put-first : tie.Need-slice-aggregate-put-first invariant-loop decreases-loop
-slice-aggregate-put-first c = refl
+slice_bounds-put_first-end : tie.Need-slice_bounds-put_first-end invariant-loop-row decreases-loop-row
+slice_bounds-put_first-end c = refl
 
-put-first-requires : tie.Need-put-first-requires invariant-loop decreases-loop
-put-first-requires c κs =
+put_first-requires : tie.Need-put_first-requires invariant-loop-row decreases-loop-row
+put_first-requires c κs =
     let s = c.before.before in (
       (some_columns (given s) (is-plate s), three_rows (given s) (is-plate s), omega (arith, few_columns (given s) (is-plate s))),
       (steppable_ready (given s).given).newer_low,
     )
 
-loop-holds : tie.Need-loop-init invariant-loop decreases-loop
-loop-holds c =
+loop-row-init : tie.Need-loop-row-init invariant-loop-row decreases-loop-row
+loop-row-init c =
     let s = c.before.before.before.before in
-    plate_start (given s) (is-plate s) _ (zeros 128) refl c.before.put_first.ensures
+    plate_start (given s) (is-plate s) _ (zeros 128) refl c.put_first.ensures
 
-add-if1 : tie.Need-overflow-add-if1 invariant-loop decreases-loop
-add-if1 c = record { fits = omega (arith, last c, few_rows (given (start c)).given.planned) }
+overflow_add-rows : tie.Need-overflow_add-rows invariant-loop-row decreases-loop-row
+overflow_add-rows c = record { fits = omega (arith, last c, few_rows (given (start c)).given.planned) }
 
-moving-in-requires : tie.Need-moving-in-requires invariant-loop decreases-loop
-moving-in-requires c κs =
+moving_in-moving-requires : tie.Need-moving_in-moving-requires invariant-loop-row decreases-loop-row
+moving_in-moving-requires c κs =
     let s = start c in
     (some_columns (given s) (is-plate s), omega (arith, room c, small s))
 
-slice-aggregate-plate-row : tie.Need-slice-aggregate-plate-row invariant-loop decreases-loop
-slice-aggregate-plate-row c = sym (inv c.before.before.before).long
+slice_bounds-plate_row-end : tie.Need-slice_bounds-plate_row-end invariant-loop-row decreases-loop-row
+slice_bounds-plate_row-end c = sym (inv c.before.before).long
 
-plate-row-requires : tie.Need-plate-row-requires invariant-loop decreases-loop
-plate-row-requires c κs =
+plate_row-p-requires : tie.Need-plate_row-p-requires invariant-loop-row decreases-loop-row
+plate_row-p-requires c κs =
     let m = c.before.before.before in
-    let t = m.before in
+    let t = m in
     let s = start t in
-    let e = m.moving-in.ensures in (
+    let e = c.moving_in-moving.ensures in (
       (moving_ready (given s) (is-plate s) (inv t) (last t) e, moving_placed (given s) (is-plate s) (inv t) (last t) e),
       (moving_sums (given s) (is-plate s) (inv t) (last t) e, moving-row (given s) (is-plate s) (inv t) (last t) e),
     )
 
 -- once it is worked out
-module _ (o : tie.After-out invariant-loop decreases-loop) where
-  abbrev moving : tie.After-moving-in invariant-loop decreases-loop
-  moving = o.before.before.before.before.before.before
+module _ (o : tie.After-out-1 invariant-loop-row decreases-loop-row) where
+  abbrev moving : tie.After-moving_in-moving invariant-loop-row decreases-loop-row
+  moving = o.before.before.before.before.before
 
-  abbrev row : tie.In-loop invariant-loop decreases-loop
+  abbrev row : tie.In-loop-row invariant-loop-row decreases-loop-row
   row = moving.before
 
   -- no force is on its points
-  ran : Stepping (start row).args.plan.instrument Absent moving.moving-in.result.write moving.moving-in.result.base
-      (loop row).loop.older (start row).args.newer.now (loop row).loop.out o.before.before.plate-row.last.1.1.1.1.1.1.0
-      moving.moving-in.result.from moving.moving-in.result.to o.before.before.plate-row.result
+  ran : Stepping (start row).args.plan.instrument Absent moving.moving_in-moving.result.write moving.moving_in-moving.result.base
+      (loop row).loop-row.older (start row).args.newer.now (loop row).loop-row.out o.plate_row-p.new.out
+      moving.moving_in-moving.result.from moving.moving_in-moving.result.to o.plate_row-p.result
   ran =
       let s = start row in
-      let e = moving.moving-in.ensures in
-      no_force s.args.plan.instrument Absent (loop row).loop.older s.args.newer.now moving.moving-in.result.force
+      let e = moving.moving_in-moving.ensures in
+      no_force s.args.plan.instrument Absent (loop row).loop-row.older s.args.newer.now moving.moving_in-moving.result.force
       (moving-row (given s) (is-plate s) (inv row) (last row) e).moves (hit_nowhere _ _) (ap (λ (x : Stretch). x.force) e)
-      o.before.before.plate-row.ensures.0
+      o.plate_row-p.ensures.0
 
-same_length : tie.Need-same-length invariant-loop decreases-loop
-same_length c = (inv (row c.before.before)).rows.done.older_long
+shape_of-older-then-not-p : tie.Need-shape_of-older-then-not-p invariant-loop-row decreases-loop-row
+shape_of-older-then-not-p c = (inv (row c.before.before)).rows.done.older_long
 
-same-length-2 : tie.Need-same-length-2 invariant-loop decreases-loop
-same-length-2 c =
+shape_of-out-then-not-p : tie.Need-shape_of-out-then-not-p invariant-loop-row decreases-loop-row
+shape_of-out-then-not-p c =
     let o = c.before.before in
     (ran o).long ∙ (inv (row o)).rows.done.out_long
 
-returns : tie.Need-returns invariant-loop decreases-loop
-returns c =
+returns-then-not-p : tie.Need-returns-then-not-p invariant-loop-row decreases-loop-row
+returns-then-not-p c =
     let o = c.before.before in
     let t = row o in
     let s = start t in
-    plate_stops (given s) (is-plate s) (inv t) (last t) (moving o).moving-in.ensures (ran o)
-    (not-true _ c.if1.true)
+    plate_stops (given s) (is-plate s) (inv t) (last t) (moving o).moving_in-moving.ensures (ran o)
+    (not-true _ c.if-not-p.true)
 
-put-piece-requires : tie.Need-put-piece-requires invariant-loop decreases-loop
-put-piece-requires c κs =
-    let o = c.before.before.before.before in
+put_piece-requires : tie.Need-put_piece-requires invariant-loop-row decreases-loop-row
+put_piece-requires c κs =
+    let o = c.before.before.before in
     let t = row o in
     let s = start t in
-    let e = (moving o).moving-in.ensures in
+    let e = (moving o).moving_in-moving.ensures in
     let placed = moving_placed (given s) (is-plate s) (inv t) (last t) e in (
       record {
         order = placed.order;
@@ -155,82 +155,82 @@ put-piece-requires c κs =
     )
 
 -- and put in its place
-module _ (c : tie.After-struct-known3 invariant-loop decreases-loop) where
-  abbrev put : tie.After-put-piece invariant-loop decreases-loop
+module _ (c : tie.After-struct_known-in-loop-row-2-1 invariant-loop-row decreases-loop-row) where
+  abbrev put : tie.After-put_piece invariant-loop-row decreases-loop-row
   put = c.before.before
 
-  abbrev seen : tie.Else1 invariant-loop decreases-loop
-  seen = put.before.before.before
+  abbrev seen : tie.Else-not-p invariant-loop-row decreases-loop-row
+  seen = put.before.before
 
-  abbrev worked : tie.After-out invariant-loop decreases-loop
+  abbrev worked : tie.After-out-1 invariant-loop-row decreases-loop-row
   worked = seen.before.before
 
-  abbrev done : tie.In-loop invariant-loop decreases-loop
+  abbrev done : tie.In-loop-row invariant-loop-row decreases-loop-row
   done = row worked
 
-  abbrev within : worked.before.before.plate-row.result.within ≡ true
-  within = not-false _ seen.if1.left
+  abbrev within : worked.plate_row-p.result.within ≡ true
+  within = not-false _ seen.if-not-p.false
 
-add-inexact : tie.Need-overflow-add-inexact invariant-loop decreases-loop
-add-inexact c =
+overflow_add-inexact : tie.Need-overflow_add-inexact invariant-loop-row decreases-loop-row
+overflow_add-inexact c =
     let t = done c in
     let s = start t in
-    let most = plate_most (given s) (is-plate s) (inv t) (last t) (moving (worked c)).moving-in.ensures
-    (ran (worked c)) (within c) (put c).put-piece.ensures.0 (put c).put-piece.ensures.1 in
+    let most = plate_most (given s) (is-plate s) (inv t) (last t) (moving (worked c)).moving_in-moving.ensures
+    (ran (worked c)) (within c) (put c).put_piece.ensures.0 (put c).put_piece.ensures.1 in
     record { fits = omega (arith, most, small s) }
 
-add_row : tie.Need-overflow-add-row invariant-loop decreases-loop
-add_row c = let t = done c in record { fits = omega (arith, last t, few_rows (given (start t)).given.planned) }
+overflow_add-row : tie.Need-overflow_add-row invariant-loop-row decreases-loop-row
+overflow_add-row c = let t = done c in record { fits = omega (arith, last t, few_rows (given (start t)).given.planned) }
 
-add_start : tie.Need-overflow-add-start invariant-loop decreases-loop
-add_start c = let t = done c in record { fits = omega (arith, room t, small (start t)) }
+overflow_add-start : tie.Need-overflow_add-start invariant-loop-row decreases-loop-row
+overflow_add-start c = let t = done c in record { fits = omega (arith, room t, small (start t)) }
 
-loop-less : tie.Need-loop-smaller invariant-loop decreases-loop
-loop-less c = omega (arith, (done c).loop-test.true)
+loop-row-smaller : tie.Need-loop-row-smaller invariant-loop-row decreases-loop-row
+loop-row-smaller c = omega (arith, (done c).loop-row-test.true)
 
-loop-again : tie.Need-loop-preserved invariant-loop decreases-loop
-loop-again c =
+loop-row-preserved : tie.Need-loop-row-preserved invariant-loop-row decreases-loop-row
+loop-row-preserved c =
     let o = worked c in
     let t = row o in
     let s = start t in
-    plate_next (given s) (is-plate s) (inv t) (last t) (moving o).moving-in.ensures (ran o) (within c) (put c).put-piece.ensures.0
-    (put c).put-piece.ensures.1 (o.before.before.plate-row.ensures.1 (within c)) (search rules)
+    plate_next (given s) (is-plate s) (inv t) (last t) (moving o).moving_in-moving.ensures (ran o) (within c) (put c).put_piece.ensures.0
+    (put c).put_piece.ensures.1 (o.plate_row-p.ensures.1 (within c)) (search rules)
 
-same-length-3 : tie.Need-same-length-3 invariant-loop decreases-loop
-same-length-3 c = c.before.loop.invariant.rows.done.older_long
+shape_of-older : tie.Need-shape_of-older invariant-loop-row decreases-loop-row
+shape_of-older c = c.loop-row.invariant.rows.done.older_long
 
-same-length-4 : tie.Need-same-length-4 invariant-loop decreases-loop
-same-length-4 c = c.before.loop.invariant.rows.done.out_long
+shape_of-out : tie.Need-shape_of-out invariant-loop-row decreases-loop-row
+shape_of-out c = c.loop-row.invariant.rows.done.out_long
 
-returns-2 : tie.Need-returns-2 invariant-loop decreases-loop
-returns-2 c =
+returns : tie.Need-returns invariant-loop-row decreases-loop-row
+returns c =
     let l = c.before in
     let s = l.before.before.before.before.before in
-    plate_done (given s) (is-plate s) l.loop.invariant (omega (arith, c.loop-test.false, some_rows (given s) (is-plate s)))
+    plate_done (given s) (is-plate s) l.loop-row.invariant (omega (arith, c.loop-row-test.false, some_rows (given s) (is-plate s)))
 
-pub plate-level-spec : {M : Type 1} → statement M
-plate-level-spec =
+pub plate_level_spec : {M : Type 1} → statement M
+plate_level_spec =
     tie.close
     (tie.spec
-    invariant-loop
-    decreases-loop
-    sub-ring
-    slice-aggregate-put-first
-    put-first-requires
-    loop-holds
-    add-if1
-    moving-in-requires
-    slice-aggregate-plate-row
-    plate-row-requires
-    same_length
-    same-length-2
-    returns
-    put-piece-requires
-    add-inexact
-    add_row
-    add_start
-    loop-less
-    loop-again
-    same-length-3
-    same-length-4
-    returns-2)
+    invariant-loop-row
+    decreases-loop-row
+    overflow_sub-ring
+    slice_bounds-put_first-end
+    put_first-requires
+    loop-row-init
+    overflow_add-rows
+    moving_in-moving-requires
+    slice_bounds-plate_row-end
+    plate_row-p-requires
+    shape_of-older-then-not-p
+    shape_of-out-then-not-p
+    returns-then-not-p
+    put_piece-requires
+    overflow_add-inexact
+    overflow_add-row
+    overflow_add-start
+    loop-row-smaller
+    loop-row-preserved
+    shape_of-older
+    shape_of-out
+    returns)

@@ -37,19 +37,19 @@ module _ (s : tie.Start) where
   sums = s.args.sums.now
 
   ready : Ready s.args.plan s.args.s.force s.args.older.now s.args.newer.now
-  ready = s.pre.0.0
+  ready = s.requires.0.0
 
   first : s.args.s.from ≤ k
-  first = s.pre.0.2
+  first = s.requires.0.2
 
   last : k < s.args.s.to
-  last = s.pre.0.3
+  last = s.requires.0.3
 
   two : TwoRows g s.args.newer.now sums s.args.rows k
-  two = s.pre.1.0
+  two = s.requires.1.0
 
   row : InRow g s.args.rows s.args.s.from s.args.s.to
-  row = s.pre.1.1
+  row = s.requires.1.1
 
   -- the point below moves where the row below is not the ring's
   below-inside : s.args.rows.last ≡ false → k + g.columns + g.columns < length s.args.newer.now
@@ -77,13 +77,13 @@ module _ (s : tie.Start) where
   bytes_fit = let h = read.other in search rules
 
 -- the sum below, as it was stored
-under-is : (c : tie.After-sum-below) → to_z w64 (of_z w64 c.sum_below.result) ≡ under c.before.before
-under-is c = back c.sum_below.result c.sum_below.type-inv ∙ c.sum_below.ensures
+under-is : (c : tie.After-sum_below-below) → to_z w64 (of_z w64 c.sum_below-below.result) ≡ under c.before.before
+under-is c = back c.sum_below-below.result c.sum_below-below.type_inv ∙ c.sum_below-below.ensures
 
 -- once the sum of the sums is there
-module _ (c : tie.After-second-at) where
+module _ (c : tie.After-second_at-second) where
   abbrev start : tie.Start
-  start = c.before.before.before.before
+  start = c.before.before.before
 
   abbrev column : ℕ
   column = k start - start.args.rows.start
@@ -98,10 +98,10 @@ module _ (c : tie.After-second-at) where
   summed = plate_beside (ready start) (two start) (row start) (first start) (last start)
 
   -- as they were stored: the sums, and the point's own value
-  second_is : to_z w64 (of_z w64 c.second_at.result) ≡ second
+  second_is : to_z w64 (of_z w64 c.second_at-second.result) ≡ second
   second_is =
-      back c.second_at.result c.second_at.type-inv ∙ c.second_at.ensures ∙
-      ap (second_at (sums start) start.args.rows column) (under-is c.before.before)
+      back c.second_at-second.result c.second_at-second.type_inv ∙ c.second_at-second.ensures ∙
+      ap (second_at (sums start) start.args.rows column) (under-is c.before)
 
   sum_is : to_z w64 (of_z w64 sum) ≡ sum
   sum_is = held_below (4 * ceiling) tt ((two start).low (start.args.rows.here + column))
@@ -109,103 +109,103 @@ module _ (c : tie.After-second-at) where
   u-is : to_z w64 (of_z w64 (point start.args.newer.now (k start))) ≡ point start.args.newer.now (k start)
   u-is = held ((ready start).newer_low (k start))
 
-sub-c : tie.Need-overflow-sub-c
-sub-c c = let s = c.before in omega (arith, first s, (row s).first)
+overflow_sub-c : tie.Need-overflow_sub-c
+overflow_sub-c c = let s = c.before in omega (arith, first s, (row s).first)
 
-sum-below-requires : tie.Need-sum-below-requires
-sum-below-requires c κs =
+sum_below-below-requires : tie.Need-sum_below-below-requires
+sum_below-below-requires c κs =
     let s = c.before in (omega (arith, wide (g s) (ready s).planned.passes.size), (ready s).newer_low, below-inside s)
 
-second-at-requires : tie.Need-second-at-requires
-second-at-requires c κs =
-    let b = c.before in
+second_at-second-requires : tie.Need-second_at-second-requires
+second_at-second-requires c κs =
+    let b = c in
     let s = b.before.before in
     subst (Readable (sums s) s.args.rows (k s - s.args.rows.start)) (sym (under-is b)) (read s)
 
-add-sum : tie.Need-overflow-add-sum
-add-sum c = let h = (read c.before.before.before.before.before).here in search rules
+overflow_add-sum : tie.Need-overflow_add-sum
+overflow_add-sum c = let h = (read c.before.before.before.before).here in search rules
 
-mul-sum : tie.Need-overflow-mul-sum
-mul-sum c = let h = (read c.before.before.before.before.before).here in search rules
+offset_bounds-sums-rows : tie.Need-offset_bounds-sums-rows
+offset_bounds-sums-rows c = let h = (read c.before.before.before.before).here in search rules
 
-slice-copy-out-sum : tie.Need-slice-copy-out-sum
-slice-copy-out-sum c = omega (arith, (read c.before.before.before.before.before).here)
+slice_copy_out-sum : tie.Need-slice_copy_out-sum
+slice_copy_out-sum c = omega (arith, (read c.before.before.before.before).here)
 
-add-below : tie.Need-overflow-add-below
-add-below c = place-fits c.before.before.before.before.before.before.before
+overflow_add-below : tie.Need-overflow_add-below
+overflow_add-below c = place-fits c.before.before.before.before.before.before
 
-mul-below : tie.Need-overflow-mul-below
-mul-below c = bytes_fit c.before.before.before.before.before.before.before
+offset_bounds-sums-rows-2 : tie.Need-offset_bounds-sums-rows-2
+offset_bounds-sums-rows-2 c = bytes_fit c.before.before.before.before.before.before
 
-slice-set-from-below : tie.Need-slice-set-from-below
-slice-set-from-below c = (read c.before.before.before.before.before.before.before).other
+bounds-sums-rows : tie.Need-bounds-sums-rows
+bounds-sums-rows c = (read c.before.before.before.before.before.before).other
 
 -- the point is in newer
 inside : (s : tie.Start) → k s < length s.args.newer.now
 inside s = omega (arith, (ready s).newer_long, moving_inside (g s) (k s) ((row s).moves.each (k s) (first s) (last s)))
 
-mul-stiffness : tie.Need-overflow-mul-stiffness
-mul-stiffness c = let h = inside c.before.before.before.before.before.before.before in search rules
+offset_bounds-newer-at : tie.Need-offset_bounds-newer-at
+offset_bounds-newer-at c = let h = inside c.before.before.before.before.before.before in search rules
 
-shared-slice-copy-out-stiffness : tie.Need-shared-slice-copy-out-stiffness
-shared-slice-copy-out-stiffness c = inside c.before.before.before.before.before.before.before
+bounds-newer-at : tie.Need-bounds-newer-at
+bounds-newer-at c = inside c.before.before.before.before.before.before
 
-stiffness-requires : tie.Need-stiffness-requires
-stiffness-requires c κs =
+stiffness-stiff-requires : tie.Need-stiffness-stiff-requires
+stiffness-stiff-requires c κs =
     let b = c.before.before.before.before in (
       (ready (start b)).planned,
       coe 1 0 (j. Bendable (start b).args.plan (second_is b j) (sum_is b j) (u-is b j))
           (bendable (ready (start b)) (summed b)),
     )
 
-next-point-requires : tie.Need-next-point-requires
-next-point-requires c κs =
+next_point-requires : tie.Need-next_point-requires
+next_point-requires c κs =
     let e = c.before in
     let b = e.before.before.before.before.before in
     let s = start b in
     let plan = s.args.plan in
-    let stiff_is = back e.stiffness.result e.stiffness.type-inv ∙ e.stiffness.ensures ∙
+    let stiff_is = back e.stiffness-stiff.result e.stiffness-stiff.type_inv ∙ e.stiffness-stiff.ensures ∙
     (λ j. plan.m *ℤ bending_of (pos (count_of plan.instrument.grid)) (sum_is b j) (second_is b j) (u-is b j)) in (
       (
         ready s,
         coe 1 0 (j. Neighbouring plan.instrument s.args.newer.now (k s) (sum_is b j) (stiff_is j))
             (bent (ready s) (summed b)),
       ),
-      (s.pre.0.1, first s, last s),
+      (s.requires.0.1, first s, last s),
     )
 
-same_length : tie.Need-same-length
-same_length c = search rules
+shape_of-sums : tie.Need-shape_of-sums
+shape_of-sums c = search rules
 
-same-length-2 : tie.Need-same-length-2
-same-length-2 c = search rules
+shape_of-out : tie.Need-shape_of-out
+shape_of-out c = search rules
 
 returns : tie.Need-returns
 returns c =
-    let b = c.before.before.before.before.before.before.before.before.before.before in
+    let b = c.before.before.before.before.before.before.before.before.before in
     let s = b.before.before in (
-      c.before.next-point.ensures,
+      c.next_point.ensures,
       subst (λ (x : ℤ). TwoRows (g s) s.args.newer.now (set (sums s) (place s) x) s.args.rows (k s + 1)) (sym (under-is b))
           (two-next (ready s) (two s) (row s) (first s) (last s)),
     )
 
-pub plate-point-spec : {M : Type 1} → statement M
-plate-point-spec =
+pub plate_point_spec : {M : Type 1} → statement M
+plate_point_spec =
     tie.close
     (tie.spec
-    sub-c
-    sum-below-requires
-    second-at-requires
-    add-sum
-    mul-sum
-    slice-copy-out-sum
-    add-below
-    mul-below
-    slice-set-from-below
-    mul-stiffness
-    shared-slice-copy-out-stiffness
-    stiffness-requires
-    next-point-requires
-    same_length
-    same-length-2
+    overflow_sub-c
+    sum_below-below-requires
+    second_at-second-requires
+    overflow_add-sum
+    offset_bounds-sums-rows
+    slice_copy_out-sum
+    overflow_add-below
+    offset_bounds-sums-rows-2
+    bounds-sums-rows
+    offset_bounds-newer-at
+    bounds-newer-at
+    stiffness-stiff-requires
+    next_point-requires
+    shape_of-sums
+    shape_of-out
     returns)

@@ -30,67 +30,67 @@ module _ (c : tie.Start) where
       × (r.within ≡ true → TwoRows a.plan.instrument.grid a.newer.now sums a.rows s.to)
 
 -- the stretch that a loop is given is the stretch itself
-written-here : (w : tie.After-as-written) → w.as_written.result ≡ w.before.before.args.s
-written-here w = w.as_written.ensures ∙ written_so _ w.before.if1.true
+written-here : (w : tie.After-as_written) → w.as_written.result ≡ w.args.s
+written-here w = w.as_written.ensures ∙ written_so _ w.if-s.true
 
-written-there : (w : tie.After-as-written2) → w.as-written2.result ≡ w.before.before.args.s
-written-there w = w.as-written2.ensures ∙ written_so _ w.before.if1.false
+written-there : (w : tie.After-as_written-2) → w.as_written-2.result ≡ w.args.s
+written-there w = w.as_written-2.ensures ∙ written_so _ w.if-s.false
 
-as-written-requires : tie.Need-as-written-requires
-as-written-requires c κs = tt
+as_written-requires : tie.Need-as_written-requires
+as_written-requires c κs = tt
 
-plate-run-requires : tie.Need-plate-run-requires
-plate-run-requires c κs =
+plate_run-requires : tie.Need-plate_run-requires
+plate_run-requires c κs =
     let w = c.before.before in
     let s = w.before.before in
     subst (Given s) (sym (written-here w)) s.requires
 
-same_length : tie.Need-same-length
-same_length c = search rules
+shape_of-sums-then-s : tie.Need-shape_of-sums-then-s
+shape_of-sums-then-s c = search rules
 
-same-length-2 : tie.Need-same-length-2
-same-length-2 c = search rules
+shape_of-out-then-s : tie.Need-shape_of-out-then-s
+shape_of-out-then-s c = search rules
+
+returns-then-s : tie.Need-returns-then-s
+returns-then-s c =
+    let p = c.before.before in
+    let w = p.before.before.before in
+    let s = w.before.before in
+    subst (Owed s _ _ p.plate_run.result) (written-here w) p.plate_run.ensures
+
+as_written-requires-2 : tie.Need-as_written-requires-2
+as_written-requires-2 c κs = tt
+
+plate_run-requires-2 : tie.Need-plate_run-requires-2
+plate_run-requires-2 c κs =
+    let w = c.before.before in
+    let s = w.before.before in
+    subst (Given s) (sym (written-there w)) s.requires
+
+shape_of-sums : tie.Need-shape_of-sums
+shape_of-sums c = search rules
+
+shape_of-out : tie.Need-shape_of-out
+shape_of-out c = search rules
 
 returns : tie.Need-returns
 returns c =
     let p = c.before.before in
     let w = p.before.before.before in
     let s = w.before.before in
-    subst (Owed s _ _ p.plate_run.result) (written-here w) p.plate_run.ensures
+    subst (Owed s _ _ p.plate_run-2.result) (written-there w) p.plate_run-2.ensures
 
-as-written-requires-2 : tie.Need-as-written-requires-2
-as-written-requires-2 c κs = tt
-
-plate-run-requires-2 : tie.Need-plate-run-requires-2
-plate-run-requires-2 c κs =
-    let w = c.before.before in
-    let s = w.before.before in
-    subst (Given s) (sym (written-there w)) s.requires
-
-same-length-3 : tie.Need-same-length-3
-same-length-3 c = search rules
-
-same-length-4 : tie.Need-same-length-4
-same-length-4 c = search rules
-
-returns-2 : tie.Need-returns-2
-returns-2 c =
-    let p = c.before.before in
-    let w = p.before.before.before in
-    let s = w.before.before in
-    subst (Owed s _ _ p.plate-run2.result) (written-there w) p.plate-run2.ensures
-
-pub plate-row-spec : {M : Type 1} → statement M
-plate-row-spec =
+pub plate_row_spec : {M : Type 1} → statement M
+plate_row_spec =
     tie.close
     (tie.spec
-    as-written-requires
-    plate-run-requires
-    same_length
-    same-length-2
-    returns
-    as-written-requires-2
-    plate-run-requires-2
-    same-length-3
-    same-length-4
-    returns-2)
+    as_written-requires
+    plate_run-requires
+    shape_of-sums-then-s
+    shape_of-out-then-s
+    returns-then-s
+    as_written-requires-2
+    plate_run-requires-2
+    shape_of-sums
+    shape_of-out
+    returns)

@@ -10,83 +10,83 @@ use Rattle.steps.proofs.FillLaws.{Putting, putting_start, putting_on, putting_do
 use Rattle.steps.proofs.plates.put_first.Statement.{statement}
 use Rattle.steps.proofs.plates.put_first.Tie as tie
 
-abbrev invariant-loop : tie.invariant-loop
-invariant-loop xs columns place sums₀ last c₀ sums c =
+abbrev invariant-loop-c : tie.invariant-loop-c
+invariant-loop-c xs columns place sums₀ last c₀ sums c =
     Putting (λ j. four_beside xs columns (columns + (j - place))) sums₀ (place + 1) (place + (columns - 1)) sums (place + c)
 
-abbrev decreases-loop : tie.decreases-loop
-decreases-loop xs columns place sums₀ last c₀ sums c = last - c
+abbrev decreases-loop-c : tie.decreases-loop-c
+decreases-loop-c xs columns place sums₀ last c₀ sums c = last - c
 
 -- a turn of the loop
-module _ (c : tie.In-loop invariant-loop decreases-loop) where
-  abbrev s : tie.Start invariant-loop decreases-loop
+module _ (c : tie.In-loop-c invariant-loop-c decreases-loop-c) where
+  abbrev s : tie.Start invariant-loop-c decreases-loop-c
   s = c.before.before
 
-  last : c.before.loop.c < s.args.columns - 1
-  last = c.loop-test.true
+  last : c.loop-c.c < s.args.columns - 1
+  last = c.loop-c-test.true
 
   -- the places that are read, and the one that is written
-  below : s.args.columns + c.before.loop.c + s.args.columns < length s.args.xs.now
-  below = omega (arith, last, s.pre.0)
+  below : s.args.columns + c.loop-c.c + s.args.columns < length s.args.xs.now
+  below = omega (arith, last, s.requires.0)
 
-  inside : s.args.place + c.before.loop.c < length s.args.sums.now
-  inside = omega (arith, last, s.pre.0)
+  inside : s.args.place + c.loop-c.c < length s.args.sums.now
+  inside = omega (arith, last, s.requires.0)
 
-sub-last : tie.Need-overflow-sub-last invariant-loop decreases-loop
-sub-last c = omega (arith, c.requires.0)
+overflow_sub-last : tie.Need-overflow_sub-last invariant-loop-c decreases-loop-c
+overflow_sub-last c = omega (arith, c.requires.0)
 
-loop-holds : tie.Need-loop-init invariant-loop decreases-loop
-loop-holds c = putting_start _ _ _ (omega (arith, c.requires.0))
+loop-c-init : tie.Need-loop-c-init invariant-loop-c decreases-loop-c
+loop-c-init c = putting_start _ _ _ (omega (arith, c.requires.0))
 
-add-sum-around : tie.Need-overflow-add-sum-around invariant-loop decreases-loop
-add-sum-around c = let h = below c in search rules
+overflow_add-columns : tie.Need-overflow_add-columns invariant-loop-c decreases-loop-c
+overflow_add-columns c = let h = below c in search rules
 
-sum-around-requires : tie.Need-sum-around-requires invariant-loop decreases-loop
-sum-around-requires c κs = (omega (arith, (s c).requires.0), omega arith, below c, (s c).requires.1)
+sum_around-requires : tie.Need-sum_around-requires invariant-loop-c decreases-loop-c
+sum_around-requires c κs = (omega (arith, (s c).requires.0), omega arith, below c, (s c).requires.1)
 
-add-t10 : tie.Need-overflow-add-t10 invariant-loop decreases-loop
-add-t10 c = let h = inside c.before in search rules
+overflow_add-place : tie.Need-overflow_add-place invariant-loop-c decreases-loop-c
+overflow_add-place c = let h = inside c.before in search rules
 
-mul-t11 : tie.Need-overflow-mul-t11 invariant-loop decreases-loop
-mul-t11 c = let h = inside c.before in search rules
+offset_bounds-sums-place : tie.Need-offset_bounds-sums-place invariant-loop-c decreases-loop-c
+offset_bounds-sums-place c = let h = inside c.before in search rules
 
-slice-set-from-sums : tie.Need-slice-set-from-sums invariant-loop decreases-loop
-slice-set-from-sums c = omega (arith, inside c.before, c.before.before.loop.invariant.filled.long)
+bounds-sums-place : tie.Need-bounds-sums-place invariant-loop-c decreases-loop-c
+bounds-sums-place c = omega (arith, inside c.before, c.loop-c.invariant.filled.long)
 
-add-c : tie.Need-overflow-add-c invariant-loop decreases-loop
-add-c c = let h = inside c.before in search rules
+overflow_add-c : tie.Need-overflow_add-c invariant-loop-c decreases-loop-c
+overflow_add-c c = let h = inside c.before in search rules
 
-loop-less : tie.Need-loop-smaller invariant-loop decreases-loop
-loop-less c = omega (arith, last c.before)
+loop-c-smaller : tie.Need-loop-c-smaller invariant-loop-c decreases-loop-c
+loop-c-smaller c = omega (arith, last c.before)
 
-loop-again : tie.Need-loop-preserved invariant-loop decreases-loop
-loop-again c =
+loop-c-preserved : tie.Need-loop-c-preserved invariant-loop-c decreases-loop-c
+loop-c-preserved c =
     let t = c.before in
-    putting_on t.before.loop.invariant (omega arith) (omega (arith, last t)) (omega (arith, (s t).requires.0)) _
-    (back c.sum_around.result c.sum_around.type-inv ∙ c.sum_around.ensures ∙
+    putting_on t.loop-c.invariant (omega arith) (omega (arith, last t)) (omega (arith, (s t).requires.0)) _
+    (back c.sum_around.result c.sum_around.type_inv ∙ c.sum_around.ensures ∙
     ap (four_beside (s t).args.xs.now (s t).args.columns) (omega arith))
 
-same_length : tie.Need-same-length invariant-loop decreases-loop
-same_length c = c.before.loop.invariant.filled.long
+shape_of-sums : tie.Need-shape_of-sums invariant-loop-c decreases-loop-c
+shape_of-sums c = c.loop-c.invariant.filled.long
 
-returns : tie.Need-returns invariant-loop decreases-loop
-returns c = putting_done c.before.loop.invariant (omega (arith, c.loop-test.false))
+returns : tie.Need-returns invariant-loop-c decreases-loop-c
+returns c = putting_done c.loop-c.invariant (omega (arith, c.loop-c-test.false))
 
-pub put-first-spec : {M : Type 1} → statement M
-put-first-spec =
+pub put_first_spec : {M : Type 1} → statement M
+put_first_spec =
     tie.close
     (tie.spec
-    invariant-loop
-    decreases-loop
-    sub-last
-    loop-holds
-    add-sum-around
-    sum-around-requires
-    add-t10
-    mul-t11
-    slice-set-from-sums
-    add-c
-    loop-less
-    loop-again
-    same_length
+    invariant-loop-c
+    decreases-loop-c
+    overflow_sub-last
+    loop-c-init
+    overflow_add-columns
+    sum_around-requires
+    overflow_add-place
+    offset_bounds-sums-place
+    bounds-sums-place
+    overflow_add-c
+    loop-c-smaller
+    loop-c-preserved
+    shape_of-sums
     returns)

@@ -22,65 +22,65 @@ module _ (s : tie.Start) where
   three# = two# ⊞ sum# (s.args.rows.other + s.args.c)
 
   abbrev four# : E
-  four# = three# ⊞ at s.args.below (4 * ceiling) s.pre.below_low
+  four# = three# ⊞ at s.args.below (4 * ceiling) s.requires.below_low
 
-add-here : tie.Need-overflow-add-here
-add-here c = search rules
+overflow_add-here : tie.Need-overflow_add-here
+overflow_add-here c = search rules
 
-add-above : tie.Need-overflow-add-above
-add-above c = search rules
+overflow_add-above : tie.Need-overflow_add-above
+overflow_add-above c = search rules
 
-sub-result : tie.Need-overflow-sub-result
-sub-result c = search rules
+overflow_sub-result : tie.Need-overflow_sub-result
+overflow_sub-result c = search rules
 
-mul-result : tie.Need-overflow-mul-result
-mul-result c = search rules
+offset_bounds-sums-here : tie.Need-offset_bounds-sums-here
+offset_bounds-sums-here c = search rules
 
-shared-slice-copy-out-result : tie.Need-shared-slice-copy-out-result
-shared-slice-copy-out-result c = search rules
+bounds-sums-here : tie.Need-bounds-sums-here
+bounds-sums-here c = search rules
 
-add-result : tie.Need-overflow-add-result
-add-result c = search rules
+overflow_add-result : tie.Need-overflow_add-result
+overflow_add-result c = search rules
 
-mul-result-2 : tie.Need-overflow-mul-result-2
-mul-result-2 c = search rules
+offset_bounds-sums-here-2 : tie.Need-offset_bounds-sums-here-2
+offset_bounds-sums-here-2 c = search rules
 
-shared-slice-copy-out-result-2 : tie.Need-shared-slice-copy-out-result-2
-shared-slice-copy-out-result-2 c = search rules
+bounds-sums-here-2 : tie.Need-bounds-sums-here-2
+bounds-sums-here-2 c = search rules
 
-add-result-2 : tie.Need-overflow-add-result-2
-add-result-2 c = fits (two# c.before.before.before.before) tt
+overflow_add-result-2 : tie.Need-overflow_add-result-2
+overflow_add-result-2 c = fits (two# c.before.before.before.before) tt
 
-mul-result-3 : tie.Need-overflow-mul-result-3
-mul-result-3 c = search rules
+offset_bounds-sums-above : tie.Need-offset_bounds-sums-above
+offset_bounds-sums-above c = search rules
 
-shared-slice-copy-out-result-3 : tie.Need-shared-slice-copy-out-result-3
-shared-slice-copy-out-result-3 c = search rules
+bounds-sums-above : tie.Need-bounds-sums-above
+bounds-sums-above c = search rules
 
-add-result-3 : tie.Need-overflow-add-result-3
-add-result-3 c = fits (three# c.before.before.before.before.before) tt
+overflow_add-result-3 : tie.Need-overflow_add-result-3
+overflow_add-result-3 c = fits (three# c.before.before.before.before.before) tt
 
-add-result-4 : tie.Need-overflow-add-result-4
-add-result-4 c = fits (four# c.before.before.before.before.before) tt
+overflow_add-result-4 : tie.Need-overflow_add-result-4
+overflow_add-result-4 c = fits (four# c.before.before.before.before.before) tt
 
 returns : tie.Need-returns
 returns c = is (four# c.before.before.before.before.before) tt
 
-pub second-at-spec : {M : Type 1} → statement M
-second-at-spec =
+pub second_at_spec : {M : Type 1} → statement M
+second_at_spec =
     tie.close
     (tie.spec
-    add-here
-    add-above
-    sub-result
-    mul-result
-    shared-slice-copy-out-result
-    add-result
-    mul-result-2
-    shared-slice-copy-out-result-2
-    add-result-2
-    mul-result-3
-    shared-slice-copy-out-result-3
-    add-result-3
-    add-result-4
+    overflow_add-here
+    overflow_add-above
+    overflow_sub-result
+    offset_bounds-sums-here
+    bounds-sums-here
+    overflow_add-result
+    offset_bounds-sums-here-2
+    bounds-sums-here-2
+    overflow_add-result-2
+    offset_bounds-sums-above
+    bounds-sums-above
+    overflow_add-result-3
+    overflow_add-result-4
     returns)

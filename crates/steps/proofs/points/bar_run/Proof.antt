@@ -25,24 +25,24 @@ use Rattle.steps.proofs.points.bar_run.Statement.{statement}
 use Rattle.steps.proofs.points.bar_run.Tie as tie
 
 -- the points before `at` are done; left is the sum before it, here the one at it
-abbrev invariant-loop : tie.invariant-loop
-invariant-loop plan older newer s out₀ inexact₀ at₀ left₀ here₀ out inexact at left here =
+abbrev invariant-loop-at : tie.invariant-loop-at
+invariant-loop-at plan older newer s out₀ inexact₀ at₀ left₀ here₀ out inexact at left here =
     Running (next_by plan.instrument s.force older newer) s.write s.base out₀ s.from s.to out at inexact
     × (to_z w64 left ≡ bar_sum newer (at - 1)) × (to_z w64 here ≡ bar_sum newer at)
 
-abbrev decreases-loop : tie.decreases-loop
-decreases-loop plan older newer s out₀ inexact₀ at₀ left₀ here₀ out inexact at left here = s.to - at
+abbrev decreases-loop-at : tie.decreases-loop-at
+decreases-loop-at plan older newer s out₀ inexact₀ at₀ left₀ here₀ out inexact at left here = s.to - at
 
 -- what the caller showed
-module _ (s : tie.Start invariant-loop decreases-loop) where
+module _ (s : tie.Start invariant-loop-at decreases-loop-at) where
   ready : Ready s.args.plan s.args.s.force s.args.older.now s.args.newer.now
   ready = s.requires.0.0
 
   on : OnLine s.args.plan.instrument.grid s.args.s.from s.args.s.to
-  on = s.pre.1.0
+  on = s.requires.1.0
 
   is_bar : kind s.args.plan.instrument.grid ≡ bar
-  is_bar = s.pre.1.1
+  is_bar = s.requires.1.1
 
   abbrev next : ℕ → Next
   next = next_by s.args.plan.instrument s.args.s.force s.args.older.now s.args.newer.now
@@ -56,23 +56,23 @@ module _ (s : tie.Start invariant-loop decreases-loop) where
   S = bar_sum s.args.newer.now
 
 -- a turn of the loop
-module _ (c : tie.Then1 invariant-loop decreases-loop) where
-  abbrev start : tie.Start invariant-loop decreases-loop
+module _ (c : tie.In-loop-at invariant-loop-at decreases-loop-at) where
+  abbrev start : tie.Start invariant-loop-at decreases-loop-at
   start = c.before.before.before.before.before
 
   abbrev k : ℕ
-  k = c.before.before.loop.at
+  k = c.loop-at.at
 
   abbrev inv : Running (next start) start.args.s.write start.args.s.base start.args.out.now start.args.s.from
       start.args.s.to
-      c.before.before.loop.out k c.before.before.loop.inexact
-  inv = c.before.before.loop.invariant.0
+      c.loop-at.out k c.loop-at.inexact
+  inv = c.loop-at.invariant.0
 
   first : start.args.s.from ≤ k
   first = inv.order
 
   last : k < start.args.s.to
-  last = c.if1.true
+  last = c.loop-at-test.true
 
   above : 1 ≤ k
   above = omega (arith, first, (on start).first)
@@ -81,21 +81,21 @@ module _ (c : tie.Then1 invariant-loop decreases-loop) where
   inside = omega (arith, last, room start)
 
 -- once the sum after the point is there
-module _ (c : tie.After-sum-at3 invariant-loop decreases-loop) where
-  abbrev turn : tie.Then1 invariant-loop decreases-loop
+module _ (c : tie.After-sum_at-right invariant-loop-at decreases-loop-at) where
+  abbrev turn : tie.In-loop-at invariant-loop-at decreases-loop-at
   turn = c.before
 
-  abbrev s : tie.Start invariant-loop decreases-loop
+  abbrev s : tie.Start invariant-loop-at decreases-loop-at
   s = start turn
 
   -- as it was stored
-  right_is : to_z w64 (of_z w64 c.sum-at3.result) ≡ S s (k turn + 1)
-  right_is = back c.sum-at3.result c.sum-at3.type-inv ∙ c.sum-at3.ensures
+  right_is : to_z w64 (of_z w64 c.sum_at-right.result) ≡ S s (k turn + 1)
+  right_is = back c.sum_at-right.result c.sum_at-right.type_inv ∙ c.sum_at-right.ensures
 
   -- the sums on either side, as the machine adds them
   abbrev outer# : E
   outer# =
-      bar# s.args.newer.now (ready s).newer_low (k turn - 1) turn.before.before.loop.inv.1
+      bar# s.args.newer.now (ready s).newer_low (k turn - 1) turn.loop-at.invariant.1
       ⊞ bar# s.args.newer.now (ready s).newer_low (k turn + 1) right_is
 
   summed : Summed s.args.plan.instrument.grid s.args.newer.now (k turn) (S s (k turn)) (S s (k turn - 1) +ℤ S s (k turn + 1))
@@ -107,59 +107,59 @@ module _ (c : tie.After-sum-at3 invariant-loop decreases-loop) where
   u-is = held ((ready s).newer_low (k turn))
 
 -- once the point is done
-abbrev right : tie.After-out invariant-loop decreases-loop → tie.After-sum-at3 invariant-loop decreases-loop
+abbrev right : tie.After-out-1 invariant-loop-at decreases-loop-at → tie.After-sum_at-right invariant-loop-at decreases-loop-at
 right c = c.before.before.before.before.before
 
-sub-sum-at : tie.Need-overflow-sub-sum-at invariant-loop decreases-loop
-sub-sum-at c = (on c).first
+overflow_sub-at : tie.Need-overflow_sub-at invariant-loop-at decreases-loop-at
+overflow_sub-at c = (on c).first
 
-sum-at-requires : tie.Need-sum-at-requires invariant-loop decreases-loop
-sum-at-requires c κs = (omega (arith, room c, c.requires.0.1.order), (ready c).newer_low)
+sum_at-left-requires : tie.Need-sum_at-left-requires invariant-loop-at decreases-loop-at
+sum_at-left-requires c κs = (omega (arith, room c, c.requires.0.1.order), (ready c).newer_low)
 
-sum-at-requires-2 : tie.Need-sum-at-requires-2 invariant-loop decreases-loop
-sum-at-requires-2 c κs =
+sum_at-here-requires : tie.Need-sum_at-here-requires invariant-loop-at decreases-loop-at
+sum_at-here-requires c κs =
     let s = c.before in (omega (arith, room s, s.requires.0.1.order), (ready s).newer_low)
 
-loop-holds : tie.Need-loop-init invariant-loop decreases-loop
-loop-holds c =
+loop-at-init : tie.Need-loop-at-init invariant-loop-at decreases-loop-at
+loop-at-init c =
     let l = c.before in
-    let p = l.before.requires.0.1 in (
+    let p = l.requires.0.1 in (
       running_start _ _ _ p.above p.order,
-      back l.sum-at.result l.sum-at.type-inv ∙ l.sum-at.ensures,
-      back c.sum-at2.result c.sum-at2.type-inv ∙ c.sum-at2.ensures,
+      back l.sum_at-left.result l.sum_at-left.type_inv ∙ l.sum_at-left.ensures,
+      back c.sum_at-here.result c.sum_at-here.type_inv ∙ c.sum_at-here.ensures,
     )
 
-add-sum-at : tie.Need-overflow-add-sum-at invariant-loop decreases-loop
-add-sum-at c = let h = inside c in search rules
+overflow_add-at : tie.Need-overflow_add-at invariant-loop-at decreases-loop-at
+overflow_add-at c = let h = inside c in search rules
 
-sum-at-requires-3 : tie.Need-sum-at-requires-3 invariant-loop decreases-loop
-sum-at-requires-3 c κs = (inside c, (ready (start c)).newer_low)
+sum_at-right-requires : tie.Need-sum_at-right-requires invariant-loop-at decreases-loop-at
+sum_at-right-requires c κs = (inside c, (ready (start c)).newer_low)
 
-add-stiffness : tie.Need-overflow-add-stiffness invariant-loop decreases-loop
-add-stiffness c = fits (outer# c) tt
+overflow_add-left : tie.Need-overflow_add-left invariant-loop-at decreases-loop-at
+overflow_add-left c = fits (outer# c) tt
 
-mul-stiffness : tie.Need-overflow-mul-stiffness invariant-loop decreases-loop
-mul-stiffness c = let h = inside (turn c) in search rules
+offset_bounds-newer-at : tie.Need-offset_bounds-newer-at invariant-loop-at decreases-loop-at
+offset_bounds-newer-at c = let h = inside (turn c) in search rules
 
-shared-slice-copy-out-stiffness : tie.Need-shared-slice-copy-out-stiffness invariant-loop decreases-loop
-shared-slice-copy-out-stiffness c = omega (arith, inside (turn c))
+bounds-newer-at : tie.Need-bounds-newer-at invariant-loop-at decreases-loop-at
+bounds-newer-at c = omega (arith, inside (turn c))
 
-stiffness-requires : tie.Need-stiffness-requires invariant-loop decreases-loop
-stiffness-requires c κs =
+stiffness-stiff-requires : tie.Need-stiffness-stiff-requires invariant-loop-at decreases-loop-at
+stiffness-stiff-requires c κs =
     let r = c.before in (
       (ready (s r)).planned,
-      coe 1 0 (j. Bendable (s r).args.plan (is (outer# r) tt j) ((turn r).before.before.loop.invariant.2 j) (u-is r j))
+      coe 1 0 (j. Bendable (s r).args.plan (is (outer# r) tt j) ((turn r).loop-at.invariant.2 j) (u-is r j))
           (bendable (ready (s r)) (summed r)),
     )
 
-next-point-requires : tie.Need-next-point-requires invariant-loop decreases-loop
-next-point-requires c κs =
+next_point-p-requires : tie.Need-next_point-p-requires invariant-loop-at decreases-loop-at
+next_point-p-requires c κs =
     let b = c.before in
     let r = b.before.before in
     let t = turn r in
     let plan = (s r).args.plan in
-    let here = t.before.before.loop.inv.2 in
-    let stiff_is = back b.stiffness.result b.stiffness.type-inv ∙ b.stiffness.ensures ∙
+    let here = t.loop-at.invariant.2 in
+    let stiff_is = back b.stiffness-stiff.result b.stiffness-stiff.type_inv ∙ b.stiffness-stiff.ensures ∙
     (λ j. plan.m *ℤ bending_of (pos (count_of plan.instrument.grid)) (here j) (is (outer# r) tt j) (u-is r j)) in (
       (
         ready (s r),
@@ -169,72 +169,72 @@ next-point-requires c κs =
       (placed_after (s r).requires.0.1 (inv t).ran.long, first t, last t),
     )
 
-same_length : tie.Need-same-length invariant-loop decreases-loop
-same_length c = search rules
+shape_of-out-then-not-p : tie.Need-shape_of-out-then-not-p invariant-loop-at decreases-loop-at
+shape_of-out-then-not-p c = search rules
 
 -- its answer, once it was looked at
-abbrev done : tie.After-struct-known3 invariant-loop decreases-loop → tie.After-out invariant-loop decreases-loop
+abbrev done : tie.After-struct_known-in-loop-at-2-1 invariant-loop-at decreases-loop-at → tie.After-out-1 invariant-loop-at decreases-loop-at
 done c = c.before.before.before
 
-returns : tie.Need-returns invariant-loop decreases-loop
-returns c =
+returns-then-not-p : tie.Need-returns-then-not-p invariant-loop-at decreases-loop-at
+returns-then-not-p c =
     let o = c.before.before in
     let t = turn (right o) in
-    running_stops (inv t) (omega arith) o.before.next-point.ensures (omega (arith, last t)) (not-true _ c.if2.true)
+    running_stops (inv t) (omega arith) o.next_point-p.ensures (omega (arith, last t)) (not-true _ c.if-not-p.true)
 
-add-inexact : tie.Need-overflow-add-inexact invariant-loop decreases-loop
-add-inexact c =
+overflow_add-inexact : tie.Need-overflow_add-inexact invariant-loop-at decreases-loop-at
+overflow_add-inexact c =
     let o = done c in
     let t = turn (right o) in
     let r = ready (start t) in
-    let most = running_most (inv t) (omega arith) o.before.next-point.ensures (not-false _ c.before.if2.false) in
+    let most = running_most (inv t) (omega arith) o.next_point-p.ensures (not-false _ c.if-not-p.false) in
     record { fits = omega (arith, most, inside t, r.newer_long, few_points r.planned) }
 
-add_at : tie.Need-overflow-add-at invariant-loop decreases-loop
-add_at c = let h = inside (turn (right (done c))) in search rules
+overflow_add-at-in-loop-at : tie.Need-overflow_add-at-in-loop-at invariant-loop-at decreases-loop-at
+overflow_add-at-in-loop-at c = let h = inside (turn (right (done c))) in search rules
 
-loop-less : tie.Need-loop-smaller invariant-loop decreases-loop
-loop-less c = omega (arith, last (turn (right (done c))))
+loop-at-smaller : tie.Need-loop-at-smaller invariant-loop-at decreases-loop-at
+loop-at-smaller c = omega (arith, last (turn (right (done c))))
 
-loop-again : tie.Need-loop-preserved invariant-loop decreases-loop
-loop-again c =
+loop-at-preserved : tie.Need-loop-at-preserved invariant-loop-at decreases-loop-at
+loop-at-preserved c =
     let o = done c in
     let r = right o in
     let t = turn r in
     let before : k t ≡ k t + 1 - 1 = omega arith in (
-      running_on (inv t) (omega arith) o.before.next-point.ensures (not-false _ c.before.if2.false) (omega (arith, last t)),
-      t.before.before.loop.inv.2 ∙ ap (S (start t)) before,
+      running_on (inv t) (omega arith) o.next_point-p.ensures (not-false _ c.if-not-p.false) (omega (arith, last t)),
+      t.loop-at.invariant.2 ∙ ap (S (start t)) before,
       right_is r,
     )
 
-same-length-2 : tie.Need-same-length-2 invariant-loop decreases-loop
-same-length-2 c = search rules
+shape_of-out : tie.Need-shape_of-out invariant-loop-at decreases-loop-at
+shape_of-out c = search rules
 
-returns-2 : tie.Need-returns-2 invariant-loop decreases-loop
-returns-2 c = running_done c.before.before.loop.invariant.0 c.if1.false
+returns : tie.Need-returns invariant-loop-at decreases-loop-at
+returns c = running_done c.loop-at.invariant.0 c.loop-at-test.false
 
-pub bar-run-spec : {M : Type 1} → statement M
-bar-run-spec =
+pub bar_run_spec : {M : Type 1} → statement M
+bar_run_spec =
     tie.close
     (tie.spec
-    invariant-loop
-    decreases-loop
-    sub-sum-at
-    sum-at-requires
-    sum-at-requires-2
-    loop-holds
-    add-sum-at
-    sum-at-requires-3
-    add-stiffness
-    mul-stiffness
-    shared-slice-copy-out-stiffness
-    stiffness-requires
-    next-point-requires
-    same_length
-    returns
-    add-inexact
-    add_at
-    loop-less
-    loop-again
-    same-length-2
-    returns-2)
+    invariant-loop-at
+    decreases-loop-at
+    overflow_sub-at
+    sum_at-left-requires
+    sum_at-here-requires
+    loop-at-init
+    overflow_add-at
+    sum_at-right-requires
+    overflow_add-left
+    offset_bounds-newer-at
+    bounds-newer-at
+    stiffness-stiff-requires
+    next_point-p-requires
+    shape_of-out-then-not-p
+    returns-then-not-p
+    overflow_add-inexact
+    overflow_add-at-in-loop-at
+    loop-at-smaller
+    loop-at-preserved
+    shape_of-out
+    returns)

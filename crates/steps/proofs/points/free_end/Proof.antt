@@ -18,7 +18,7 @@ module _ (s : tie.Start) where
   ready = s.requires.0.0
 
   free : FreeEnd s.args.plan.instrument s.args.near s.args.s.from s.args.s.to
-  free = s.pre.1
+  free = s.requires.1
 
   -- the sum as the machine adds it
   abbrev twice# : E
@@ -31,45 +31,45 @@ module _ (s : tie.Start) where
       (end-beside s.args.plan.instrument ready.planned.passes s.args.newer.now free h)
 
 -- the point is there
-some : (c : tie.Else1) → let s = c.before.before.args.s in s.from < s.to
-some c = omega (arith, c.if1.false, c.before.before.requires.0.1.order)
+some : (c : tie.Else-s) → let s = c.args.s in s.from < s.to
+some c = omega (arith, c.if-s.false, c.requires.0.1.order)
 
-returns : tie.Need-returns
-returns c = ran_ends c.if1.true (ran_none _ _)
+returns-then-s : tie.Need-returns-then-s
+returns-then-s c = ran_ends c.if-s.true (ran_none _ _)
 
-mul-x : tie.Need-overflow-mul-x
-mul-x c = search rules
+offset_bounds-newer-near : tie.Need-offset_bounds-newer-near
+offset_bounds-newer-near c = search rules
 
-shared-slice-copy-out-x : tie.Need-shared-slice-copy-out-x
-shared-slice-copy-out-x c = search rules
+bounds-newer-near : tie.Need-bounds-newer-near
+bounds-newer-near c = search rules
 
-add-next-point : tie.Need-overflow-add-next-point
-add-next-point c = fits (twice# c.before.before.before) tt
+overflow_add-x : tie.Need-overflow_add-x
+overflow_add-x c = fits (twice# c.before.before.before) tt
 
-next-point-requires : tie.Need-next-point-requires
-next-point-requires c κs =
+next_point-requires : tie.Need-next_point-requires
+next_point-requires c κs =
     let e = c.before.before in
     let s = e.before.before in
     ((ready s, beside s (some e)), (s.requires.0.1, omega arith, some e))
 
-same_length : tie.Need-same-length
-same_length c = search rules
+shape_of-out : tie.Need-shape_of-out
+shape_of-out c = search rules
 
-returns-2 : tie.Need-returns-2
-returns-2 c =
+returns : tie.Need-returns
+returns c =
     let e = c.before.before.before.before in
     let s = e.before.before in
     let last : s.args.s.from + 1 ≡ s.args.s.to = omega (arith, some e, (free s).one) in
-    ran_ends last c.before.next-point.ensures
+    ran_ends last c.next_point.ensures
 
-pub free-end-spec : {M : Type 1} → statement M
-free-end-spec =
+pub free_end_spec : {M : Type 1} → statement M
+free_end_spec =
     tie.close
     (tie.spec
-    returns
-    mul-x
-    shared-slice-copy-out-x
-    add-next-point
-    next-point-requires
-    same_length
-    returns-2)
+    returns-then-s
+    offset_bounds-newer-near
+    bounds-newer-near
+    overflow_add-x
+    next_point-requires
+    shape_of-out
+    returns)

@@ -21,15 +21,15 @@ use Rattle.steps.proofs.FillLaws.{placed_after, Running, running_start, running_
 use Rattle.steps.proofs.points.grid_run.Statement.{statement}
 use Rattle.steps.proofs.points.grid_run.Tie as tie
 
-abbrev invariant-loop : tie.invariant-loop
-invariant-loop plan older newer s out₀ columns inexact₀ at₀ out inexact at =
+abbrev invariant-loop-at : tie.invariant-loop-at
+invariant-loop-at plan older newer s out₀ columns inexact₀ at₀ out inexact at =
     Running (next_by plan.instrument s.force older newer) s.write s.base out₀ s.from s.to out at inexact
 
-abbrev decreases-loop : tie.decreases-loop
-decreases-loop plan older newer s out₀ columns inexact₀ at₀ out inexact at = s.to - at
+abbrev decreases-loop-at : tie.decreases-loop-at
+decreases-loop-at plan older newer s out₀ columns inexact₀ at₀ out inexact at = s.to - at
 
 -- what the caller showed
-module _ (s : tie.Start invariant-loop decreases-loop) where
+module _ (s : tie.Start invariant-loop-at decreases-loop-at) where
   ready : Ready s.args.plan s.args.s.force s.args.older.now s.args.newer.now
   ready = s.requires.0.0
 
@@ -37,32 +37,32 @@ module _ (s : tie.Start invariant-loop decreases-loop) where
   g = s.args.plan.instrument.grid
 
   grid : g.rows ≡ 1 → ⊥
-  grid = s.pre.1.0
+  grid = s.requires.1.0
 
   moves : Moves g s.args.s.from s.args.s.to
-  moves = s.pre.1.2
+  moves = s.requires.1.2
 
   abbrev next : ℕ → Next
   next = next_by s.args.plan.instrument s.args.s.force s.args.older.now s.args.newer.now
 
 -- a point of the run
-module _ (c : tie.Then1 invariant-loop decreases-loop) where
-  abbrev start : tie.Start invariant-loop decreases-loop
+module _ (c : tie.In-loop-at invariant-loop-at decreases-loop-at) where
+  abbrev start : tie.Start invariant-loop-at decreases-loop-at
   start = c.before.before.before
 
   abbrev k : ℕ
-  k = c.before.before.loop.at
+  k = c.loop-at.at
 
   abbrev inv : Running (next start) start.args.s.write start.args.s.base start.args.out.now start.args.s.from
       start.args.s.to
-      c.before.before.loop.out k c.before.before.loop.inexact
-  inv = c.before.before.loop.invariant
+      c.loop-at.out k c.loop-at.inexact
+  inv = c.loop-at.invariant
 
   first : start.args.s.from ≤ k
   first = inv.order
 
   last : k < start.args.s.to
-  last = c.if1.true
+  last = c.loop-at-test.true
 
   moves-here : moving (g start) k ≡ true
   moves-here = (moves start).each k first last
@@ -78,86 +78,86 @@ module _ (c : tie.Then1 invariant-loop decreases-loop) where
   below = omega (arith, (ready start).newer_long, around_below (g start) size (grid start) k moves-here)
 
 -- its neighbours, as they were stored
-beside : (c : tie.After-sum-around invariant-loop decreases-loop) → let t = c.before in
-    Neighbouring (start t).args.plan.instrument (start t).args.newer.now (k t) (to_z w64 (of_z w64 c.sum_around.result)) (pos 0)
+beside : (c : tie.After-sum_around-sum invariant-loop-at decreases-loop-at) → let t = c.before in
+    Neighbouring (start t).args.plan.instrument (start t).args.newer.now (k t) (to_z w64 (of_z w64 c.sum_around-sum.result)) (pos 0)
 beside c =
     let t = c.before in
     let s = start t in
     subst (λ (z : ℤ). Neighbouring s.args.plan.instrument s.args.newer.now (k t) z (pos 0))
-    (sym (back c.sum_around.result c.sum_around.type-inv ∙ c.sum_around.ensures))
-    (grid-beside s.args.plan.instrument (ready s).planned.passes (grid s) s.pre.1.1 s.args.newer.now (k t)
+    (sym (back c.sum_around-sum.result c.sum_around-sum.type_inv ∙ c.sum_around-sum.ensures))
+    (grid-beside s.args.plan.instrument (ready s).planned.passes (grid s) s.requires.1.1 s.args.newer.now (k t)
     (moves-here t))
 
 -- the same, once the point is done
-abbrev turn : tie.After-out invariant-loop decreases-loop → tie.Then1 invariant-loop decreases-loop
+abbrev turn : tie.After-out-1 invariant-loop-at decreases-loop-at → tie.In-loop-at invariant-loop-at decreases-loop-at
 turn c = c.before.before.before.before
 
-loop-holds : tie.Need-loop-init invariant-loop decreases-loop
-loop-holds c = let p = c.requires.0.1 in running_start _ _ _ p.above p.order
+loop-at-init : tie.Need-loop-at-init invariant-loop-at decreases-loop-at
+loop-at-init c = let p = c.requires.0.1 in running_start _ _ _ p.above p.order
 
-sum-around-requires : tie.Need-sum-around-requires invariant-loop decreases-loop
-sum-around-requires c κs = (omega (arith, wide (g (start c)) (size c)), above c, below c, (ready (start c)).newer_low)
+sum_around-sum-requires : tie.Need-sum_around-sum-requires invariant-loop-at decreases-loop-at
+sum_around-sum-requires c κs = (omega (arith, wide (g (start c)) (size c)), above c, below c, (ready (start c)).newer_low)
 
-next-point-requires : tie.Need-next-point-requires invariant-loop decreases-loop
-next-point-requires c κs =
+next_point-p-requires : tie.Need-next_point-p-requires invariant-loop-at decreases-loop-at
+next_point-p-requires c κs =
     let b = c.before in
     let t = b.before in
     let s = start t in
-    ((ready s, beside b), (placed_after s.pre.0.1 (inv t).ran.long, first t, last t))
+    ((ready s, beside b), (placed_after s.requires.0.1 (inv t).ran.long, first t, last t))
 
-same_length : tie.Need-same-length invariant-loop decreases-loop
-same_length c = search rules
+shape_of-out-then-not-p : tie.Need-shape_of-out-then-not-p invariant-loop-at decreases-loop-at
+shape_of-out-then-not-p c = search rules
 
 -- its answer, once it was looked at
-abbrev done : tie.After-struct-known3 invariant-loop decreases-loop → tie.After-out invariant-loop decreases-loop
+abbrev done : tie.After-struct_known-in-loop-at-2-1 invariant-loop-at decreases-loop-at → tie.After-out-1 invariant-loop-at decreases-loop-at
 done c = c.before.before.before
 
-returns : tie.Need-returns invariant-loop decreases-loop
-returns c =
+returns-then-not-p : tie.Need-returns-then-not-p invariant-loop-at decreases-loop-at
+returns-then-not-p c =
     let o = c.before.before in
     let t = turn o in
-    running_stops (inv t) (omega arith) o.before.next-point.ensures (omega (arith, last t)) (not-true _ c.if2.true)
+    running_stops (inv t) (omega arith) o.next_point-p.ensures (omega (arith, last t)) (not-true _ c.if-not-p.true)
 
-add-inexact : tie.Need-overflow-add-inexact invariant-loop decreases-loop
-add-inexact c =
+overflow_add-inexact : tie.Need-overflow_add-inexact invariant-loop-at decreases-loop-at
+overflow_add-inexact c =
     let o = done c in
     let t = turn o in
     let r = ready (start t) in
-    let most = running_most (inv t) (omega arith) o.before.next-point.ensures (not-false _ c.before.if2.false) in
+    let most = running_most (inv t) (omega arith) o.next_point-p.ensures (not-false _ c.if-not-p.false) in
     record { fits = omega (arith, most, below t, r.newer_long, few_points r.planned) }
 
-add_at : tie.Need-overflow-add-at invariant-loop decreases-loop
-add_at c = let h = below (turn (done c)) in search rules
+overflow_add-at : tie.Need-overflow_add-at invariant-loop-at decreases-loop-at
+overflow_add-at c = let h = below (turn (done c)) in search rules
 
-loop-less : tie.Need-loop-smaller invariant-loop decreases-loop
-loop-less c = omega (arith, last (turn (done c)))
+loop-at-smaller : tie.Need-loop-at-smaller invariant-loop-at decreases-loop-at
+loop-at-smaller c = omega (arith, last (turn (done c)))
 
-loop-again : tie.Need-loop-preserved invariant-loop decreases-loop
-loop-again c =
+loop-at-preserved : tie.Need-loop-at-preserved invariant-loop-at decreases-loop-at
+loop-at-preserved c =
     let o = done c in
     let t = turn o in
-    running_on (inv t) (omega arith) o.before.next-point.ensures (not-false _ c.before.if2.false) (omega (arith, last t))
+    running_on (inv t) (omega arith) o.next_point-p.ensures (not-false _ c.if-not-p.false) (omega (arith, last t))
 
-same-length-2 : tie.Need-same-length-2 invariant-loop decreases-loop
-same-length-2 c = search rules
+shape_of-out : tie.Need-shape_of-out invariant-loop-at decreases-loop-at
+shape_of-out c = search rules
 
-returns-2 : tie.Need-returns-2 invariant-loop decreases-loop
-returns-2 c = running_done c.before.before.loop.invariant c.if1.false
+returns : tie.Need-returns invariant-loop-at decreases-loop-at
+returns c = running_done c.loop-at.invariant c.loop-at-test.false
 
-pub grid-run-spec : {M : Type 1} → statement M
-grid-run-spec =
+pub grid_run_spec : {M : Type 1} → statement M
+grid_run_spec =
     tie.close
     (tie.spec
-    invariant-loop
-    decreases-loop
-    loop-holds
-    sum-around-requires
-    next-point-requires
-    same_length
-    returns
-    add-inexact
-    add_at
-    loop-less
-    loop-again
-    same-length-2
-    returns-2)
+    invariant-loop-at
+    decreases-loop-at
+    loop-at-init
+    sum_around-sum-requires
+    next_point-p-requires
+    shape_of-out-then-not-p
+    returns-then-not-p
+    overflow_add-inexact
+    overflow_add-at
+    loop-at-smaller
+    loop-at-preserved
+    shape_of-out
+    returns)

@@ -5,30 +5,30 @@ use Rattle.steps.proofs.BesideLaws.{is_bar}
 use Rattle.steps.proofs.points.inner_points.Statement.{statement}
 use Rattle.steps.proofs.points.inner_points.Tie as tie
 
-line-run-requires : tie.Need-line-run-requires
-line-run-requires c κs =
+line_run-requires : tie.Need-line_run-requires
+line_run-requires c κs =
     let t = c.before in
     let s = t.before.before.before in
-    (s.requires.0, (s.requires.1, m_none s.requires.0.0.planned t.if1.true))
+    (s.requires.0, (s.requires.1, m_none s.requires.0.0.planned t.if-plan-eq0.true))
 
-same_length : tie.Need-same-length
-same_length c = search rules
+shape_of-out-then-plan-eq0 : tie.Need-shape_of-out-then-plan-eq0
+shape_of-out-then-plan-eq0 c = search rules
 
-returns : tie.Need-returns
-returns c = c.before.line-run.ensures
+returns-then-plan-eq0 : tie.Need-returns-then-plan-eq0
+returns-then-plan-eq0 c = c.line_run.ensures
 
-bar-run-requires : tie.Need-bar-run-requires
-bar-run-requires c κs =
+bar_run-requires : tie.Need-bar_run-requires
+bar_run-requires c κs =
     let t = c.before in
     let s = t.before.before.before in
     let planned = s.requires.0.0.planned in
-    (s.requires.0, (s.requires.1, is_bar s.args.plan.instrument planned.passes s.requires.1.line (m_some planned t.if1.false)))
+    (s.requires.0, (s.requires.1, is_bar s.args.plan.instrument planned.passes s.requires.1.line (m_some planned t.if-plan-eq0.false)))
 
-same-length-2 : tie.Need-same-length-2
-same-length-2 c = search rules
+shape_of-out : tie.Need-shape_of-out
+shape_of-out c = search rules
 
-returns-2 : tie.Need-returns-2
-returns-2 c = c.before.bar-run.ensures
+returns : tie.Need-returns
+returns c = c.bar_run.ensures
 
-pub inner-points-spec : {M : Type 1} → statement M
-inner-points-spec = tie.close (tie.spec line-run-requires same_length returns bar-run-requires same-length-2 returns-2)
+pub inner_points_spec : {M : Type 1} → statement M
+inner_points_spec = tie.close (tie.spec line_run-requires shape_of-out-then-plan-eq0 returns-then-plan-eq0 bar_run-requires shape_of-out returns)

@@ -64,87 +64,87 @@ module _ (c : tie.Start) where
         subst (λ (q : Stretch). Advanced c.args.plan q c.args.older.now c.args.newer.now out₀ out q.from q.to r) is p
 
 -- the places: after the first point, after the inner points, after the last point
-abbrev at_first : tie.After-out → tie.Start
+abbrev at_first : tie.After-out-1 → tie.Start
 at_first c = c.before.before.before.before
 
-abbrev at_inner : tie.After-out2 → tie.Else1
+abbrev at_inner : tie.After-out-2-1 → tie.Else-not-first
 at_inner c = c.before.before.before.before
 
-abbrev at_last : tie.After-out3 → tie.Else2
+abbrev at_last : tie.After-out-3-1 → tie.Else-not-inner
 at_last c = c.before.before.before.before
 
 -- the first point
-module _ (c : tie.After-out) where
+module _ (c : tie.After-out-1) where
   abbrev s₁ : tie.Start
   s₁ = at_first c
 
-  first-long : length c.before.free-end.new.1.1.1.1.1.0 ≡ length s₁.args.out.now
-  first-long = c.before.free-end.ensures.long
+  first-long : length c.free_end-first.new.out ≡ length s₁.args.out.now
+  first-long = c.free_end-first.ensures.long
 
   first-ran : Advanced s₁.args.plan (s s₁) s₁.args.older.now s₁.args.newer.now s₁.args.out.now
-      c.before.free-end.new.1.1.1.1.1.0 (part_of (s s₁) 0 1).from (part_of (s s₁) 0 1).to c.before.free-end.result
-  first-ran = advanced s₁ 0 1 c.before.before.before.part.ensures c.before.free-end.ensures
+      c.free_end-first.new.out (part_of (s s₁) 0 1).from (part_of (s s₁) 0 1).to c.free_end-first.result
+  first-ran = advanced s₁ 0 1 c.part.ensures c.free_end-first.ensures
 
 -- the inner points
-module _ (c : tie.After-out2) where
-  abbrev o₁ : tie.After-out
+module _ (c : tie.After-out-2-1) where
+  abbrev o₁ : tie.After-out-1
   o₁ = (at_inner c).before.before
 
   abbrev s₂ : tie.Start
   s₂ = at_first o₁
 
   abbrev out₁ : List ℤ
-  out₁ = o₁.before.free-end.last.1.1.1.1.1.0
+  out₁ = o₁.free_end-first.new.out
 
   abbrev out₂ : List ℤ
-  out₂ = c.before.inner-points.new.1.1.1.1.0
+  out₂ = c.inner_points-inner.new.out
 
   inner-long : length out₂ ≡ length s₂.args.out.now
-  inner-long = c.before.inner-points.ensures.long ∙ first-long o₁
+  inner-long = c.inner_points-inner.ensures.long ∙ first-long o₁
 
   first-passed : Advanced s₂.args.plan (s s₂) s₂.args.older.now s₂.args.newer.now s₂.args.out.now out₁
-      (part_of (s s₂) 0 1).from (part_of (s s₂) 0 1).to (passed o₁.before.free-end.result.inexact)
-  first-passed = ran_passed (not-false _ (at_inner c).if1.false) (first-ran o₁)
+      (part_of (s s₂) 0 1).from (part_of (s s₂) 0 1).to (passed o₁.free_end-first.result.inexact)
+  first-passed = ran_passed (not-false _ (at_inner c).if-not-first.false) (first-ran o₁)
 
   inner-ran : Advanced s₂.args.plan (s s₂) s₂.args.older.now s₂.args.newer.now out₁ out₂
-      (part_of (s s₂) 1 (n s₂ - 1)).from (part_of (s s₂) 1 (n s₂ - 1)).to c.before.inner-points.result
-  inner-ran = advanced s₂ 1 (n s₂ - 1) c.before.before.before.part2.ensures c.before.inner-points.ensures
+      (part_of (s s₂) 1 (n s₂ - 1)).from (part_of (s s₂) 1 (n s₂ - 1)).to c.inner_points-inner.result
+  inner-ran = advanced s₂ 1 (n s₂ - 1) c.part-2.ensures c.inner_points-inner.ensures
 
 -- the last point
-module _ (c : tie.After-out3) where
-  abbrev o₂ : tie.After-out2
+module _ (c : tie.After-out-3-1) where
+  abbrev o₂ : tie.After-out-2-1
   o₂ = (at_last c).before.before
 
   abbrev s₃ : tie.Start
   s₃ = s₂ o₂
 
   abbrev out₃ : List ℤ
-  out₃ = c.before.free-end2.new.1.1.1.1.1.0
+  out₃ = c.free_end-last.new.out
 
   inner-passed : Advanced s₃.args.plan (s s₃) s₃.args.older.now s₃.args.newer.now (out₁ o₂) (out₂ o₂)
-      (part_of (s s₃) 1 (n s₃ - 1)).from (part_of (s s₃) 1 (n s₃ - 1)).to (passed o₂.before.inner-points.result.inexact)
-  inner-passed = ran_passed (not-false _ (at_last c).if2.false) (inner-ran o₂)
+      (part_of (s s₃) 1 (n s₃ - 1)).from (part_of (s s₃) 1 (n s₃ - 1)).to (passed o₂.inner_points-inner.result.inexact)
+  inner-passed = ran_passed (not-false _ (at_last c).if-not-inner.false) (inner-ran o₂)
 
   last-ran : Advanced s₃.args.plan (s s₃) s₃.args.older.now s₃.args.newer.now (out₂ o₂) out₃
-      (part_of (s s₃) (n s₃ - 1) (n s₃)).from (part_of (s s₃) (n s₃ - 1) (n s₃)).to c.before.free-end2.result
-  last-ran = advanced s₃ (n s₃ - 1) (n s₃) c.before.before.before.part3.ensures c.before.free-end2.ensures
+      (part_of (s s₃) (n s₃ - 1) (n s₃)).from (part_of (s s₃) (n s₃ - 1) (n s₃)).to c.free_end-last.result
+  last-ran = advanced s₃ (n s₃ - 1) (n s₃) c.part-3.ensures c.free_end-last.ensures
 
 -- all of them
-module _ (c : tie.Else3) where
-  abbrev o₃ : tie.After-out3
+module _ (c : tie.Else-not-last) where
+  abbrev o₃ : tie.After-out-3-1
   o₃ = c.before.before
 
   abbrev s₄ : tie.Start
   s₄ = s₃ o₃
 
   last_passed : Advanced s₄.args.plan (s s₄) s₄.args.older.now s₄.args.newer.now (out₂ (o₂ o₃)) (out₃ o₃)
-      (part_of (s s₄) (n s₄ - 1) (n s₄)).from (part_of (s s₄) (n s₄ - 1) (n s₄)).to (passed o₃.before.free-end2.result.inexact)
-  last_passed = ran_passed (not-false _ c.if3.false) (last-ran o₃)
+      (part_of (s s₄) (n s₄ - 1) (n s₄)).from (part_of (s s₄) (n s₄ - 1) (n s₄)).to (passed o₃.free_end-last.result.inexact)
+  last_passed = ran_passed (not-false _ c.if-not-last.false) (last-ran o₃)
 
   abbrev count : ℕ
   count =
-      (o₁ (o₂ o₃)).before.free-end.result.inexact + (o₂ o₃).before.inner-points.result.inexact
-      + o₃.before.free-end2.result.inexact
+      (o₁ (o₂ o₃)).free_end-first.result.inexact + (o₂ o₃).inner_points-inner.result.inexact
+      + o₃.free_end-last.result.inexact
 
   most : count ≤ 4096
   most =
@@ -155,116 +155,116 @@ module _ (c : tie.Else3) where
 part-requires : tie.Need-part-requires
 part-requires c κs = tt
 
-free-end-requires : tie.Need-free-end-requires
-free-end-requires c κs =
+free_end-first-requires : tie.Need-free_end-first-requires
+free_end-first-requires c κs =
     let s₀ = c.before.before in
-    let is = c.before.part.ensures in (
+    let is = c.part.ensures in (
       (part-ready s₀ 0 1 is, places s₀ 0 1 is zero-le refl),
       subst (λ (q : Stretch). FreeEnd s₀.args.plan.instrument 1 q.from q.to) (sym is)
           (first_part (s s₀) (ready s₀) (line s₀) (all s₀) (some s₀)),
     )
 
-same_length : tie.Need-same-length
-same_length c = search rules
+shape_of-out-then-not-first : tie.Need-shape_of-out-then-not-first
+shape_of-out-then-not-first c = search rules
 
-returns : tie.Need-returns
-returns c =
+returns-then-not-first : tie.Need-returns-then-not-first
+returns-then-not-first c =
     let o = c.before.before in
     let s₀ = at_first o in
-    first_stops (s s₀) (ready s₀) (line s₀) (all s₀) (some s₀) (placed s₀).above (first-ran o) (not-true _ c.if1.true)
+    first_stops (s s₀) (ready s₀) (line s₀) (all s₀) (some s₀) (placed s₀).above (first-ran o) (not-true _ c.if-not-first.true)
 
-sub_part : tie.Need-overflow-sub-part
-sub_part c = omega (arith, wide (at_first c.before.before))
+overflow_sub-n : tie.Need-overflow_sub-n
+overflow_sub-n c = omega (arith, wide (at_first c.before.before))
 
 part-requires-2 : tie.Need-part-requires-2
 part-requires-2 c κs = tt
 
-inner-points-requires : tie.Need-inner-points-requires
-inner-points-requires c κs =
+inner_points-inner-requires : tie.Need-inner_points-inner-requires
+inner_points-inner-requires c κs =
     let o = c.before.before.before.before in
     let s₀ = at_first o in
-    let is = c.before.part2.ensures in
+    let is = c.part-2.ensures in
     let low : 1 ≤ n s₀ - 1 = omega (arith, wide s₀) in (
       (part-ready s₀ 1 (n s₀ - 1) is, places s₀ 1 (n s₀ - 1) is low (first-long o)),
       subst (λ (q : Stretch). OnLine (g s₀) q.from q.to) (sym is) (inner-line (s s₀) (ready s₀) (line s₀) (all s₀) (some s₀)),
     )
 
-same-length-2 : tie.Need-same-length-2
-same-length-2 c = search rules
+shape_of-out-then-not-inner : tie.Need-shape_of-out-then-not-inner
+shape_of-out-then-not-inner c = search rules
 
-returns-2 : tie.Need-returns-2
-returns-2 c =
+returns-then-not-inner : tie.Need-returns-then-not-inner
+returns-then-not-inner c =
     let o = c.before.before in
     let s₀ = s₂ o in
     inner_stops (s s₀) (ready s₀) (line s₀) (all s₀) (some s₀) (placed s₀).above (first-passed o) (inner-ran o)
-    (not-true _ c.if2.true)
+    (not-true _ c.if-not-inner.true)
 
-sub-free-end : tie.Need-overflow-sub-free-end
-sub-free-end c = omega (arith, wide (s₂ c.before.before))
+overflow_sub-n-2 : tie.Need-overflow_sub-n-2
+overflow_sub-n-2 c = omega (arith, wide (s₂ c.before.before))
 
-sub-part-2 : tie.Need-overflow-sub-part-2
-sub-part-2 c = omega (arith, wide (s₂ c.before.before))
+overflow_sub-n-3 : tie.Need-overflow_sub-n-3
+overflow_sub-n-3 c = omega (arith, wide (s₂ c.before.before))
 
 part-requires-3 : tie.Need-part-requires-3
 part-requires-3 c κs = tt
 
-free-end-requires-2 : tie.Need-free-end-requires-2
-free-end-requires-2 c κs =
+free_end-last-requires : tie.Need-free_end-last-requires
+free_end-last-requires c κs =
     let i = c.before.before.before.before in
     let s₀ = s₂ i in
-    let is = c.before.part3.ensures in
+    let is = c.part-3.ensures in
     let low : n s₀ - 1 ≤ n s₀ = omega arith in (
       (part-ready s₀ (n s₀ - 1) (n s₀) is, places s₀ (n s₀ - 1) (n s₀) is low (inner-long i)),
       subst (λ (q : Stretch). FreeEnd s₀.args.plan.instrument (n s₀ - 2) q.from q.to) (sym is)
           (last_part (s s₀) (ready s₀) (line s₀) (all s₀) (some s₀)),
     )
 
-same-length-3 : tie.Need-same-length-3
-same-length-3 c = search rules
+shape_of-out-then-not-last : tie.Need-shape_of-out-then-not-last
+shape_of-out-then-not-last c = search rules
 
-returns-3 : tie.Need-returns-3
-returns-3 c =
+returns-then-not-last : tie.Need-returns-then-not-last
+returns-then-not-last c =
     let o = c.before.before in
     let s₀ = s₃ o in
     last_stops (s s₀) (ready s₀) (line s₀) (all s₀) (some s₀) (placed s₀).above (first-passed (o₂ o)) (inner-passed o) (last-ran o)
-    (not-true _ c.if3.true)
+    (not-true _ c.if-not-last.true)
 
-add-t20 : tie.Need-overflow-add-t20
-add-t20 c = record { fits = omega (arith, most c.before.before) }
+overflow_add-result : tie.Need-overflow_add-result
+overflow_add-result c = record { fits = omega (arith, most c.before.before) }
 
-add-t21 : tie.Need-overflow-add-t21
-add-t21 c = record { fits = omega (arith, most c.before.before.before) }
+overflow_add-result-2 : tie.Need-overflow_add-result-2
+overflow_add-result-2 c = record { fits = omega (arith, most c.before.before.before) }
 
-same-length-4 : tie.Need-same-length-4
-same-length-4 c = search rules
+shape_of-out : tie.Need-shape_of-out
+shape_of-out c = search rules
 
-returns-4 : tie.Need-returns-4
-returns-4 c =
+returns : tie.Need-returns
+returns c =
     let e = c.before.before.before in
     let s₀ = s₄ e in
     all_parts (s s₀) (ready s₀) (line s₀) (all s₀) (some s₀) (placed s₀).above (first-passed (o₂ (o₃ e))) (inner-passed (o₃ e))
     (last_passed e)
 
-pub line-points-spec : {M : Type 1} → statement M
-line-points-spec =
+pub line_points_spec : {M : Type 1} → statement M
+line_points_spec =
     tie.close
     (tie.spec
     part-requires
-    free-end-requires
-    same_length
-    returns
-    sub_part
+    free_end-first-requires
+    shape_of-out-then-not-first
+    returns-then-not-first
+    overflow_sub-n
     part-requires-2
-    inner-points-requires
-    same-length-2
-    returns-2
-    sub-free-end
-    sub-part-2
+    inner_points-inner-requires
+    shape_of-out-then-not-inner
+    returns-then-not-inner
+    overflow_sub-n-2
+    overflow_sub-n-3
     part-requires-3
-    free-end-requires-2
-    same-length-3
-    returns-3
-    add-t20
-    add-t21
-    same-length-4
-    returns-4)
+    free_end-last-requires
+    shape_of-out-then-not-last
+    returns-then-not-last
+    overflow_add-result
+    overflow_add-result-2
+    shape_of-out
+    returns)

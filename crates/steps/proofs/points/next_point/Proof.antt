@@ -32,30 +32,30 @@ module _ (s : tie.Start) where
   ready = s.requires.0.0
 
   beside : Neighbouring s.args.plan.instrument s.args.newer.now s.args.at s.args.sum s.args.stiff
-  beside = s.pre.0.1
+  beside = s.requires.0.1
 
   abbrev next : ℕ → Next
   next = next_by s.args.plan.instrument s.args.s.force s.args.older.now s.args.newer.now
 
 -- the numerator is the scheme's
-module _ (c : tie.After-numerator-at) where
+module _ (c : tie.After-numerator_at-n) where
   abbrev start : tie.Start
   start = c.before.before
 
   abbrev stored : ℤ
-  stored = to_z w64 (of_z w64 c.numerator-at.result)
+  stored = to_z w64 (of_z w64 c.numerator_at-n.result)
 
   abbrev d : ℕ
   d = divisor start.args.plan.instrument.settings
 
-  stored_is : stored ≡ c.numerator-at.result
-  stored_is = back c.numerator-at.result c.numerator-at.type-inv
+  stored_is : stored ≡ c.numerator_at-n.result
+  stored_is = back c.numerator_at-n.result c.numerator_at-n.type_inv
 
   -- what is made of it is what is made of the point
   made : next_over stored d ≡ next start start.args.at
   made =
       let a = start.args in
-      ap (λ (n : ℤ). next_over n d) stored_is ∙ c.numerator-at.ensures ∙
+      ap (λ (n : ℤ). next_over n d) stored_is ∙ c.numerator_at-n.ensures ∙
       ap (λ (z : ℤ). next_by a.plan.instrument z a.older.now a.newer.now a.at) (force_held (ready start) (beside start))
 
   rounded : round_away stored d ≡ (next start start.args.at).value
@@ -65,34 +65,34 @@ module _ (c : tie.After-numerator-at) where
   counted = ap (λ (x : Next). cond {A = ℕ} x.inexact 1 0) made
 
 -- whether it lies beyond the ceiling
-module _ (c : tie.After-is-below-limit) where
+module _ (c : tie.After-is_below_limit) where
   abbrev s : tie.Start
   s = start c.before
 
-  beyond-is : beyond (next s s.args.at).value ≡ not c.is-below-limit.result
+  beyond-is : beyond (next s s.args.at).value ≡ not c.is_below_limit.result
   beyond-is =
-      ap beyond (sym (rounded c.before)) ∙ sym (not-not _) ∙ ap not (sym c.is-below-limit.ensures)
+      ap beyond (sym (rounded c.before)) ∙ sym (not-not _) ∙ ap not (sym c.is_below_limit.ensures)
 
-numerator-at-requires : tie.Need-numerator-at-requires
-numerator-at-requires c κs = let s = c.before in (ready_held (ready s) (beside s), beside-held (ready s) (beside s))
+numerator_at-n-requires : tie.Need-numerator_at-n-requires
+numerator_at-n-requires c κs = let s = c.before in (ready_held (ready s) (beside s), beside-held (ready s) (beside s))
 
-is-below-limit-requires : tie.Need-is-below-limit-requires
-is-below-limit-requires c κs = (ready (start c)).planned
+is_below_limit-requires : tie.Need-is_below_limit-requires
+is_below_limit-requires c κs = (ready (start c)).planned
 
-returns : tie.Need-returns
-returns c = point-beyond _ _ (beyond-is c.before ∙ c.if1.true)
+returns-then-not-is_below_limit : tie.Need-returns-then-not-is_below_limit
+returns-then-not-is_below_limit c = point-beyond _ _ (beyond-is c.before ∙ (ap not c.if-not-is_below_limit.true))
 
-returns-2 : tie.Need-returns-2
-returns-2 c =
+returns-then-not-s : tie.Need-returns-then-not-s
+returns-then-not-s c =
     let e = c.before.before in
-    point_tested _ _ (not-true _ c.if2.true) (beyond-is e.before ∙ e.if1.false)
+    point_tested _ _ (not-true _ c.if-not-s.true) (beyond-is e.before ∙ (ap not e.if-not-is_below_limit.false))
 
-round-by-requires : tie.Need-round-by-requires
-round-by-requires c κs = search rules
+round_by-rounded-requires : tie.Need-round_by-rounded-requires
+round_by-rounded-requires c κs = search rules
 
 -- once it is rounded
-module _ (c : tie.After-round-by) where
-  abbrev within : tie.After-is-below-limit
+module _ (c : tie.After-round_by-rounded) where
+  abbrev within : tie.After-is_below_limit
   within = c.before.before.before.before
 
   abbrev there : tie.Start
@@ -102,22 +102,22 @@ module _ (c : tie.After-round-by) where
   n = stored within.before
 
   -- it is rounded over the divisor
-  over : c.round_by.result ≡ record { whole = round_away n (d within.before); remainder = remainder_of n (d within.before) }
+  over : c.round_by-rounded.result ≡ record { whole = round_away n (d within.before); remainder = remainder_of n (d within.before) }
   over =
       let h = (ready there).planned in
       let d = d within.before in
-      c.round_by.ensures ∙ (λ j. rounded_by n (divisor_is h j) (half_is h j)) ∙ rounded_is n d (d / 2) (omega arith) refl
+      c.round_by-rounded.ensures ∙ (λ j. rounded_by n (divisor_is h j) (half_is h j)) ∙ rounded_is n d (d / 2) (omega arith) refl
 
-  whole_is : to_z w64 (of_z w64 c.round_by.result.whole) ≡ (next there there.args.at).value
+  whole_is : to_z w64 (of_z w64 c.round_by-rounded.result.whole) ≡ (next there there.args.at).value
   whole_is =
-      let low = ltb-false ceiling _ (beyond-is within ∙ c.before.before.before.if1.false) in
+      let low = ltb-false ceiling _ (beyond-is within ∙ (ap not c.if-not-is_below_limit.false)) in
       ap (λ (z : ℤ). to_z w64 (of_z w64 z)) (ap (λ (x : Rounded). x.whole) over ∙ rounded within.before) ∙ held low
 
-  remainder_is : c.round_by.result.remainder ≡ remainder_of n (d within.before)
+  remainder_is : c.round_by-rounded.result.remainder ≡ remainder_of n (d within.before)
   remainder_is = ap (λ (x : Rounded). x.remainder) over
 
   -- as it was stored
-  remainder-held : to_z w64 (of_z w64 c.round_by.result.remainder) ≡ remainder_of n (d within.before)
+  remainder-held : to_z w64 (of_z w64 c.round_by-rounded.result.remainder) ≡ remainder_of n (d within.before)
   remainder-held =
       let small = (remainder_rule n (d within.before) (omega arith)).small in
       ap (λ (z : ℤ). to_z w64 (of_z w64 z)) remainder_is ∙ held (omega (arith, small, divisor-low (ready there).planned))
@@ -125,55 +125,54 @@ module _ (c : tie.After-round-by) where
   -- written, and counted
   written : (t : Bool) → is_multiple n (d within.before) ≡ t
       → Ran (next there) there.args.s.write there.args.s.base there.args.out.now
-      (set there.args.out.now (there.args.at - there.args.s.base) (to_z w64 (of_z w64 c.round_by.result.whole)))
+      (set there.args.out.now (there.args.at - there.args.s.base) (to_z w64 (of_z w64 c.round_by-rounded.result.whole)))
       there.args.at (there.args.at + 1) (passed (cond (not t) 1 0))
   written t e =
-      point_written _ _ _ _ (not-false _ c.before.if2.false) (omega (arith, there.pre.1)) (omega (arith, there.pre.1)) whole_is
+      point_written _ _ _ _ (not-false _ c.if-not-s.false) (omega (arith, there.requires.1)) (omega (arith, there.requires.1)) whole_is
       (ap (λ (t : Bool). cond {A = ℕ} (not t) 1 0) (sym e) ∙ counted within.before)
-      (beyond-is within ∙ c.before.before.before.if1.false)
+      (beyond-is within ∙ (ap not c.if-not-is_below_limit.false))
 
-sub-whole : tie.Need-overflow-sub-whole
-sub-whole c = let s = there c.before.before in omega (arith, s.pre.1)
+overflow_sub-whole : tie.Need-overflow_sub-whole
+overflow_sub-whole c = let s = there c.before.before in omega (arith, s.requires.1)
 
-mul-whole : tie.Need-overflow-mul-whole
-mul-whole c =
+offset_bounds-out-at : tie.Need-offset_bounds-out-at
+offset_bounds-out-at c =
     let s = there c.before.before in
-    let out-good = s.good.1.1.1.1.1.1.1.0 in
-    let placed = s.pre.1 in
+    let placed = s.requires.1 in
     search rules
 
-slice-set-from-whole : tie.Need-slice-set-from-whole
-slice-set-from-whole c = let s = there c.before.before in omega (arith, s.pre.1)
+bounds-out-at : tie.Need-bounds-out-at
+bounds-out-at c = let s = there c.before.before in omega (arith, s.requires.1)
 
-same_length : tie.Need-same-length
-same_length c = search rules
+shape_of-out-then-rounded-eq0 : tie.Need-shape_of-out-then-rounded-eq0
+shape_of-out-then-rounded-eq0 c = search rules
 
-returns-3 : tie.Need-returns-3
-returns-3 c =
+returns-then-rounded-eq0 : tie.Need-returns-then-rounded-eq0
+returns-then-rounded-eq0 c =
     let r = c.before.before.before.before.before in
-    written r true (remainder_none (n r) (d (within r).before) (omega arith) (sym (remainder-held r) ∙ ap (to_z w64) c.if3.true))
+    written r true (remainder_none (n r) (d (within r).before) (omega arith) (sym (remainder-held r) ∙ ap (to_z w64) c.if-rounded-eq0.true))
 
-same-length-2 : tie.Need-same-length-2
-same-length-2 c = search rules
+shape_of-out-else-rounded-eq0 : tie.Need-shape_of-out-else-rounded-eq0
+shape_of-out-else-rounded-eq0 c = search rules
 
-returns-4 : tie.Need-returns-4
-returns-4 c =
+returns-else-rounded-eq0 : tie.Need-returns-else-rounded-eq0
+returns-else-rounded-eq0 c =
     let r = c.before.before.before.before.before in
-    written r false (remainder_some (n r) (d (within r).before) (omega arith) (λ e. c.if3.false (ap (of_z w64) (remainder_is r ∙ e))))
+    written r false (remainder_some (n r) (d (within r).before) (omega arith) (λ e. c.if-rounded-eq0.false (ap (of_z w64) (remainder_is r ∙ e))))
 
-pub next-point-spec : {M : Type 1} → statement M
-next-point-spec =
+pub next_point_spec : {M : Type 1} → statement M
+next_point_spec =
     tie.close
     (tie.spec
-    numerator-at-requires
-    is-below-limit-requires
-    returns
-    returns-2
-    round-by-requires
-    sub-whole
-    mul-whole
-    slice-set-from-whole
-    same_length
-    returns-3
-    same-length-2
-    returns-4)
+    numerator_at-n-requires
+    is_below_limit-requires
+    returns-then-not-is_below_limit
+    returns-then-not-s
+    round_by-rounded-requires
+    overflow_sub-whole
+    offset_bounds-out-at
+    bounds-out-at
+    shape_of-out-then-rounded-eq0
+    returns-then-rounded-eq0
+    shape_of-out-else-rounded-eq0
+    returns-else-rounded-eq0)

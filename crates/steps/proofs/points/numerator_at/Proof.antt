@@ -26,7 +26,7 @@ module _ (s : tie.Start) where
   ready = s.requires.0
 
   beside : Neighbouring s.args.plan.instrument s.args.newer.now s.args.at s.args.sum s.args.stiff
-  beside = s.pre.1
+  beside = s.requires.1
 
   -- the point is in both levels
   in-newer : s.args.at < length s.args.newer.now
@@ -82,17 +82,17 @@ module _ (c : tie.After-numerator) where
       (λ j. numerator_with s.args.plan.instrument.settings (u-is s j) (sum_is s j -ℤ count s *ℤ u-is s j) (stiff_is s j) (p-is s j)
       (f-is s j))
 
-mul-numerator : tie.Need-overflow-mul-numerator
-mul-numerator c = let h = in-newer c in search rules
+offset_bounds-newer-at : tie.Need-offset_bounds-newer-at
+offset_bounds-newer-at c = let h = in-newer c in search rules
 
-shared-slice-copy-out-numerator : tie.Need-shared-slice-copy-out-numerator
-shared-slice-copy-out-numerator c = in-newer c
+bounds-newer-at : tie.Need-bounds-newer-at
+bounds-newer-at c = in-newer c
 
-mul-numerator-2 : tie.Need-overflow-mul-numerator-2
-mul-numerator-2 c = let h = in-older c.before in search rules
+offset_bounds-older-at : tie.Need-offset_bounds-older-at
+offset_bounds-older-at c = let h = in-older c.before in search rules
 
-shared-slice-copy-out-numerator-2 : tie.Need-shared-slice-copy-out-numerator-2
-shared-slice-copy-out-numerator-2 c = in-older c.before
+bounds-older-at : tie.Need-bounds-older-at
+bounds-older-at c = in-older c.before
 
 numerator-requires : tie.Need-numerator-requires
 numerator-requires c κs =
@@ -105,15 +105,15 @@ returns : tie.Need-returns
 returns c =
     let s = start c in
     ap (λ (n : ℤ). next_over n (divisor s.args.plan.instrument.settings))
-    (back c.numerator.result c.numerator.type-inv ∙ numerator_is c) ∙ next_is (ready s) (beside s)
+    (back c.numerator.result c.numerator.type_inv ∙ numerator_is c) ∙ next_is (ready s) (beside s)
 
-pub numerator-at-spec : {M : Type 1} → statement M
-numerator-at-spec =
+pub numerator_at_spec : {M : Type 1} → statement M
+numerator_at_spec =
     tie.close
     (tie.spec
-    mul-numerator
-    shared-slice-copy-out-numerator
-    mul-numerator-2
-    shared-slice-copy-out-numerator-2
+    offset_bounds-newer-at
+    bounds-newer-at
+    offset_bounds-older-at
+    bounds-older-at
     numerator-requires
     returns)

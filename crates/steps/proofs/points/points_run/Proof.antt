@@ -7,34 +7,34 @@ use Rattle.steps.proofs.points.grid_run.Reads as grid-run-reads
 use Rattle.steps.proofs.points.line_points.Reads as line-points-reads
 
 -- src/points.rt:165:9
-line-points-requires : tie.Need-line-points-requires
-line-points-requires c κs = search rules
+line_points-requires : tie.Need-line_points-requires
+line_points-requires c κs = search rules
 
 -- src/points.rt:165:9
-same_length : tie.Need-same-length
-same_length c = search rules
+shape_of-out-then-plan-eq1 : tie.Need-shape_of-out-then-plan-eq1
+shape_of-out-then-plan-eq1 c = search rules
 
 -- src/points.rt:165:9
-returns : tie.Need-returns
-returns c = search rules
+returns-then-plan-eq1 : tie.Need-returns-then-plan-eq1
+returns-then-plan-eq1 c = search rules
 
 -- src/points.rt:167:5
-grid-run-requires : tie.Need-grid-run-requires
-grid-run-requires c κs =
+grid_run-requires : tie.Need-grid_run-requires
+grid_run-requires c κs =
     let t = c.before in
     let s = t.before.before in
     let p = s.requires.1 in
-    (s.requires.0, (t.if1.false, p.2 t.if1.false, p.0))
+    (s.requires.0, (t.if-plan-eq1.false, p.2 t.if-plan-eq1.false, p.0))
 
 -- src/points.rt:153:1
-same-length-2 : tie.Need-same-length-2
-same-length-2 c = search rules
+shape_of-out : tie.Need-shape_of-out
+shape_of-out c = search rules
 
 -- src/points.rt:153:1
-returns-2 : tie.Need-returns-2
-returns-2 c = search rules
+returns : tie.Need-returns
+returns c = search rules
 
-pub points-run-spec : {M : Type 1} → statement M
-points-run-spec =
+pub points_run_spec : {M : Type 1} → statement M
+points_run_spec =
     tie.close
-    (tie.spec line-points-requires same_length returns grid-run-requires same-length-2 returns-2)
+    (tie.spec line_points-requires shape_of-out-then-plan-eq1 returns-then-plan-eq1 grid_run-requires shape_of-out returns)

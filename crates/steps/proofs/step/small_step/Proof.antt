@@ -9,57 +9,55 @@ use Rattle.steps.proofs.step.small_step.Tie as tie
 copy-requires : tie.Need-copy-requires
 copy-requires c κs = search rules
 
-next-level-requires : tie.Need-next-level-requires
-next-level-requires c κs =
-    let k = c.before.before.before in
-    let s = k.before.before.before in
-    (small_given s.requires.0.0 (k.copy.ensures ∙ copied-whole _ _ (sym s.requires.0.1)), s.requires.1)
+next_level-p-requires : tie.Need-next_level-p-requires
+next_level-p-requires c κs =
+    (small_given c.requires.0.0 (c.copy.ensures ∙ copied-whole _ _ (sym c.requires.0.1)), c.requires.1)
 
 -- the pass, and how the call began
-abbrev passed : tie.After-room2 → tie.After-next-level
+abbrev passed : tie.After-room-2-1 → tie.After-next_level-p
 passed c = c.before.before
 
-abbrev start : tie.After-room2 → tie.Start
-start c = (passed c).before.before.before.before.before.before.before
+abbrev start : tie.After-room-2-1 → tie.Start
+start c = (passed c).before.before.before.before.before.before
 
-copy-requires-2 : tie.Need-copy-requires-2
-copy-requires-2 c κs = search rules
+copy-requires-then-p : tie.Need-copy-requires-then-p
+copy-requires-then-p c κs = search rules
 
-same_length : tie.Need-same-length
-same_length c = search rules
+shape_of-older-then-p : tie.Need-shape_of-older-then-p
+shape_of-older-then-p c = search rules
 
-same-length-2 : tie.Need-same-length-2
-same-length-2 c = search rules
+shape_of-room-then-p : tie.Need-shape_of-room-then-p
+shape_of-room-then-p c = search rules
 
-returns : tie.Need-returns
-returns c =
+returns-then-p : tie.Need-returns-then-p
+returns-then-p c =
     let k = c.before in
     let t = k.before.before.before in
-    let p = (passed t.before).next_level.ensures in
-    let s = start t.before in
-    small_copied p t.if1.true
-    (k.copy2.ensures ∙ copied-whole _ _ (p.stepped.long ∙ sym s.pre.0.0.older_passes.long ∙ sym p.passing.older_long))
+    let p = (passed t).next_level-p.ensures in
+    let s = start t in
+    small_copied p c.if-p.true
+    (k.copy-then-p.ensures ∙ copied-whole _ _ (p.stepped.long ∙ sym s.requires.0.0.older_passes.long ∙ sym p.passing.older_long))
 
-same-length-3 : tie.Need-same-length-3
-same-length-3 c = search rules
+shape_of-older-else-p : tie.Need-shape_of-older-else-p
+shape_of-older-else-p c = search rules
 
-same-length-4 : tie.Need-same-length-4
-same-length-4 c = search rules
+shape_of-room-else-p : tie.Need-shape_of-room-else-p
+shape_of-room-else-p c = search rules
 
-returns-2 : tie.Need-returns-2
-returns-2 c =
-    let r = c.before in small_not (passed r).next_level.ensures (start r).requires.0.0.older_passes.long c.if1.false
+returns-else-p : tie.Need-returns-else-p
+returns-else-p c =
+    let r = c.before in small_not (passed r).next_level-p.ensures (start r).requires.0.0.older_passes.long c.if-p.false
 
-pub small-step-spec : {M : Type 1} → statement M
-small-step-spec =
+pub small_step_spec : {M : Type 1} → statement M
+small_step_spec =
     tie.close
     (tie.spec
     copy-requires
-    next-level-requires
-    copy-requires-2
-    same_length
-    same-length-2
-    returns
-    same-length-3
-    same-length-4
-    returns-2)
+    next_level-p-requires
+    copy-requires-then-p
+    shape_of-older-then-p
+    shape_of-room-then-p
+    returns-then-p
+    shape_of-older-else-p
+    shape_of-room-else-p
+    returns-else-p)

@@ -9,140 +9,140 @@ use borrow.Author.Rules.{rules}
 use Rattle.steps.proofs.step.step_in_turn.Statement.{statement}
 use Rattle.steps.proofs.step.step_in_turn.Tie as tie
 
-first : (c : tie.At-match-keys1) (a b w : List ℤ) → AtTurn c.before.args.turn a b w a b w
-first c a b w = turn_at _ a b w 0 c.match.keys1
+first : (c : tie.In-0) (a b w : List ℤ) → AtTurn c.args.turn a b w a b w
+first c a b w = turn_at _ a b w 0 c.in-0.is
 
-second : (c : tie.At-match-keys2) (a b w : List ℤ) → AtTurn c.before.args.turn a b w b w a
-second c a b w = turn_at _ a b w 1 c.match.keys2
+second : (c : tie.In-1) (a b w : List ℤ) → AtTurn c.args.turn a b w b w a
+second c a b w = turn_at _ a b w 1 c.in-1.is
 
-third : (c : tie.At-match-keys3) (a b w : List ℤ) → AtTurn c.before.args.turn a b w w a b
-third c a b w = turn_at _ a b w 2 c.match.keys3
+third : (c : tie.In-2) (a b w : List ℤ) → AtTurn c.args.turn a b w w a b
+third c a b w = turn_at _ a b w 2 c.in-2.is
 
-fourth : (c : tie.At-match-keys4) (a b w : List ℤ) → AtTurn c.before.args.turn a b w a b a
-fourth c a b w = turn_at _ a b w 3 c.match.keys4
+fourth : (c : tie.In-3) (a b w : List ℤ) → AtTurn c.args.turn a b w a b a
+fourth c a b w = turn_at _ a b w 3 c.in-3.is
 
-fifth : (c : tie.At-match-rest) (a b w : List ℤ) → AtTurn c.before.args.turn a b w b a b
-fifth c a b w = let n = c.match.rest in turn_4 _ a b w n.0.0.0.1 n.0.0.1 n.0.1 n.1
+fifth : (c : tie.In_default) (a b w : List ℤ) → AtTurn c.args.turn a b w b a b
+fifth c a b w = let n = c.in_default.in_default-own.rest in turn_4 _ a b w n.0.0.0.1 n.0.0.1 n.0.1 n.1
 
 -- of two levels
-two : (c : tie.At-match-keys4) → 3 ≤ c.before.args.turn
-two c = omega (arith, c.match.keys4)
+two : (c : tie.In-3) → 3 ≤ c.args.turn
+two c = omega (arith, c.in-3.is)
 
-two-too : (c : tie.At-match-rest) → 3 ≤ c.before.args.turn
+two-too : (c : tie.In_default) → 3 ≤ c.args.turn
 two-too c =
-    let n = c.match.rest in
-    later (λ p. 3 ≤ p) (λ k. omega arith) c.before.args.turn n.0.0.0.1 n.0.0.1 n.0.1 n.1
+    let n = c.in_default.in_default-own.rest in
+    later (λ p. 3 ≤ p) (λ k. omega arith) c.args.turn n.0.0.0.1 n.0.0.1 n.0.1 n.1
 
-next-level-requires : tie.Need-next-level-requires
-next-level-requires c κs = let m = c.before.before.before in (passable_in (first m _ _ _) m.before.requires.0, m.before.requires.1.0)
+next_level-requires : tie.Need-next_level-requires
+next_level-requires c κs = let m = c.before.before in (passable_in (first m _ _ _) m.requires.0, m.requires.1.0)
 
-next-level-requires-2 : tie.Need-next-level-requires-2
-next-level-requires-2 c κs = let m = c.before.before.before in (passable_in (second m _ _ _) m.before.requires.0, m.before.requires.1.0)
+next_level-requires-in-1 : tie.Need-next_level-requires-in-1
+next_level-requires-in-1 c κs = let m = c.before.before in (passable_in (second m _ _ _) m.requires.0, m.requires.1.0)
 
-next-level-requires-3 : tie.Need-next-level-requires-3
-next-level-requires-3 c κs = let m = c.before.before.before in (passable_in (third m _ _ _) m.before.requires.0, m.before.requires.1.0)
+next_level-requires-in-2 : tie.Need-next_level-requires-in-2
+next_level-requires-in-2 c κs = let m = c.before.before in (passable_in (third m _ _ _) m.requires.0, m.requires.1.0)
 
-step-in-place-requires : tie.Need-step-in-place-requires
-step-in-place-requires c κs =
-    let m = c.before.before.before in
-    ((given_in (fourth m _ _ _) m.before.requires.0, m.before.requires.1.1 (two m)), m.before.requires.1.0)
+step_in_place-requires : tie.Need-step_in_place-requires
+step_in_place-requires c κs =
+    let m = c.before.before in
+    ((given_in (fourth m _ _ _) m.requires.0, m.requires.1.1 (two m)), m.requires.1.0)
 
-step-in-place-requires-2 : tie.Need-step-in-place-requires-2
-step-in-place-requires-2 c κs =
-    let m = c.before.before.before in
-    ((given_in (fifth m _ _ _) m.before.requires.0, m.before.requires.1.1 (two-too m)), m.before.requires.1.0)
+step_in_place-requires-in_default : tie.Need-step_in_place-requires-in_default
+step_in_place-requires-in_default c κs =
+    let m = c.before.before in
+    ((given_in (fifth m _ _ _) m.requires.0, m.requires.1.1 (two-too m)), m.requires.1.0)
 
-same_length : tie.Need-same-length
-same_length c = search rules
+shape_of-older-in-0 : tie.Need-shape_of-older-in-0
+shape_of-older-in-0 c = search rules
 
-same-length-2 : tie.Need-same-length-2
-same-length-2 c = search rules
+shape_of-newer-in-0 : tie.Need-shape_of-newer-in-0
+shape_of-newer-in-0 c = search rules
 
-same-length-3 : tie.Need-same-length-3
-same-length-3 c = search rules
+shape_of-work-in-0 : tie.Need-shape_of-work-in-0
+shape_of-work-in-0 c = search rules
 
-returns : tie.Need-returns
-returns c = let m = c.before.before.before.before.before.before in
-    stepped_in (first m _ _ _) (first m _ _ _) c.before.before.next_level.ensures
+returns-in-0 : tie.Need-returns-in-0
+returns-in-0 c = let m = c.before.before.before.before.before in
+    stepped_in (first m _ _ _) (first m _ _ _) c.next_level.ensures
 
-same-length-4 : tie.Need-same-length-4
-same-length-4 c = search rules
+shape_of-older-in-1 : tie.Need-shape_of-older-in-1
+shape_of-older-in-1 c = search rules
 
-same-length-5 : tie.Need-same-length-5
-same-length-5 c = search rules
+shape_of-newer-in-1 : tie.Need-shape_of-newer-in-1
+shape_of-newer-in-1 c = search rules
 
-same-length-6 : tie.Need-same-length-6
-same-length-6 c = search rules
+shape_of-work-in-1 : tie.Need-shape_of-work-in-1
+shape_of-work-in-1 c = search rules
 
-returns-2 : tie.Need-returns-2
-returns-2 c = let m = c.before.before.before.before.before.before in
-    stepped_in (second m _ _ _) (second m _ _ _) c.before.before.next-level2.ensures
+returns-in-1 : tie.Need-returns-in-1
+returns-in-1 c = let m = c.before.before.before.before.before in
+    stepped_in (second m _ _ _) (second m _ _ _) c.next_level-in-1.ensures
 
-same-length-7 : tie.Need-same-length-7
-same-length-7 c = search rules
+shape_of-older-in-2 : tie.Need-shape_of-older-in-2
+shape_of-older-in-2 c = search rules
 
-same-length-8 : tie.Need-same-length-8
-same-length-8 c = search rules
+shape_of-newer-in-2 : tie.Need-shape_of-newer-in-2
+shape_of-newer-in-2 c = search rules
 
-same-length-9 : tie.Need-same-length-9
-same-length-9 c = search rules
+shape_of-work-in-2 : tie.Need-shape_of-work-in-2
+shape_of-work-in-2 c = search rules
 
-returns-3 : tie.Need-returns-3
-returns-3 c = let m = c.before.before.before.before.before.before in
-    stepped_in (third m _ _ _) (third m _ _ _) c.before.before.next-level3.ensures
+returns-in-2 : tie.Need-returns-in-2
+returns-in-2 c = let m = c.before.before.before.before.before in
+    stepped_in (third m _ _ _) (third m _ _ _) c.next_level-in-2.ensures
 
-same-length-10 : tie.Need-same-length-10
-same-length-10 c = search rules
+shape_of-older-in-3 : tie.Need-shape_of-older-in-3
+shape_of-older-in-3 c = search rules
 
-same-length-11 : tie.Need-same-length-11
-same-length-11 c = search rules
+shape_of-newer-in-3 : tie.Need-shape_of-newer-in-3
+shape_of-newer-in-3 c = search rules
 
-same-length-12 : tie.Need-same-length-12
-same-length-12 c = search rules
+shape_of-work-in-3 : tie.Need-shape_of-work-in-3
+shape_of-work-in-3 c = search rules
 
-returns-4 : tie.Need-returns-4
-returns-4 c = let m = c.before.before.before.before.before.before in
-    in_place_in (fourth m _ _ _) (two m) (fourth m _ _ _) c.before.before.step-in-place.ensures
+returns-in-3 : tie.Need-returns-in-3
+returns-in-3 c = let m = c.before.before.before.before.before in
+    in_place_in (fourth m _ _ _) (two m) (fourth m _ _ _) c.step_in_place.ensures
 
-same-length-13 : tie.Need-same-length-13
-same-length-13 c = search rules
+shape_of-older-in_default : tie.Need-shape_of-older-in_default
+shape_of-older-in_default c = search rules
 
-same-length-14 : tie.Need-same-length-14
-same-length-14 c = search rules
+shape_of-newer-in_default : tie.Need-shape_of-newer-in_default
+shape_of-newer-in_default c = search rules
 
-same-length-15 : tie.Need-same-length-15
-same-length-15 c = search rules
+shape_of-work-in_default : tie.Need-shape_of-work-in_default
+shape_of-work-in_default c = search rules
 
-returns-5 : tie.Need-returns-5
-returns-5 c = let m = c.before.before.before.before.before.before in
-    in_place_in (fifth m _ _ _) (two-too m) (fifth m _ _ _) c.before.before.step-in-place2.ensures
+returns-in_default : tie.Need-returns-in_default
+returns-in_default c = let m = c.before.before.before.before.before in
+    in_place_in (fifth m _ _ _) (two-too m) (fifth m _ _ _) c.step_in_place-in_default.ensures
 
-pub step-in-turn-spec : {M : Type 1} → statement M
-step-in-turn-spec =
+pub step_in_turn_spec : {M : Type 1} → statement M
+step_in_turn_spec =
     tie.close
     (tie.spec
-    next-level-requires
-    next-level-requires-2
-    next-level-requires-3
-    step-in-place-requires
-    step-in-place-requires-2
-    same_length
-    same-length-2
-    same-length-3
-    returns
-    same-length-4
-    same-length-5
-    same-length-6
-    returns-2
-    same-length-7
-    same-length-8
-    same-length-9
-    returns-3
-    same-length-10
-    same-length-11
-    same-length-12
-    returns-4
-    same-length-13
-    same-length-14
-    same-length-15
-    returns-5)
+    next_level-requires
+    next_level-requires-in-1
+    next_level-requires-in-2
+    step_in_place-requires
+    step_in_place-requires-in_default
+    shape_of-older-in-0
+    shape_of-newer-in-0
+    shape_of-work-in-0
+    returns-in-0
+    shape_of-older-in-1
+    shape_of-newer-in-1
+    shape_of-work-in-1
+    returns-in-1
+    shape_of-older-in-2
+    shape_of-newer-in-2
+    shape_of-work-in-2
+    returns-in-2
+    shape_of-older-in-3
+    shape_of-newer-in-3
+    shape_of-work-in-3
+    returns-in-3
+    shape_of-older-in_default
+    shape_of-newer-in_default
+    shape_of-work-in_default
+    returns-in_default)

@@ -17,7 +17,7 @@ module _ (s : tie.Start) where
   ready = s.requires.0.0
 
   free : FreeEnd s.args.plan.instrument s.args.near s.args.from s.args.to
-  free = s.pre.1
+  free = s.requires.1
 
   -- the sum as the machine adds it
   abbrev twice# : E
@@ -29,33 +29,33 @@ module _ (s : tie.Start) where
       (end-beside s.args.plan.instrument ready.planned.passes s.args.newer.now free h)
 
 -- the point is there
-some : (c : tie.Else1) → c.before.args.from < c.before.args.to
-some c = omega (arith, c.if1.false, c.before.requires.0.2)
+some : (c : tie.Else-from-to) → c.args.from < c.args.to
+some c = omega (arith, c.if-from-to.false, c.requires.0.2)
 
-returns : tie.Need-returns
-returns c = tested_none c.if1.true
+returns-then-from-to : tie.Need-returns-then-from-to
+returns-then-from-to c = tested_none c.if-from-to.true
 
-mul-x : tie.Need-overflow-mul-x
-mul-x c = search rules
+offset_bounds-newer-near : tie.Need-offset_bounds-newer-near
+offset_bounds-newer-near c = search rules
 
-shared-slice-copy-out-x : tie.Need-shared-slice-copy-out-x
-shared-slice-copy-out-x c = search rules
+bounds-newer-near : tie.Need-bounds-newer-near
+bounds-newer-near c = search rules
 
-add-is-point-within : tie.Need-overflow-add-is-point-within
-add-is-point-within c = fits (twice# c.before.before) tt
+overflow_add-x : tie.Need-overflow_add-x
+overflow_add-x c = fits (twice# c.before.before) tt
 
-is-point-within-requires : tie.Need-is-point-within-requires
-is-point-within-requires c κs =
+is_point_within-requires : tie.Need-is_point_within-requires
+is_point_within-requires c κs =
     let e = c.before in
     let s = e.before in
     (ready s, s.requires.0.1, beside s (some e))
 
-returns-2 : tie.Need-returns-2
-returns-2 c =
+returns : tie.Need-returns
+returns c =
     let e = c.before.before in
     let s = e.before in
-    tested_point _ (omega (arith, some e, (free s).one)) c.is-point-within.ensures
+    tested_point _ (omega (arith, some e, (free s).one)) c.is_point_within.ensures
 
-pub is-end-within-spec : {M : Type 1} → statement M
-is-end-within-spec =
-    tie.close (tie.spec returns mul-x shared-slice-copy-out-x add-is-point-within is-point-within-requires returns-2)
+pub is_end_within_spec : {M : Type 1} → statement M
+is_end_within_spec =
+    tie.close (tie.spec returns-then-from-to offset_bounds-newer-near bounds-newer-near overflow_add-x is_point_within-requires returns)

@@ -16,14 +16,14 @@ use Rattle.steps.proofs.within.is_point_within.Statement.{statement}
 use Rattle.steps.proofs.within.is_point_within.Tie as tie
 
 -- the force, as it was stored
-force_is : (c : tie.After-force-at) → to_z w64 (of_z w64 c.force-at.result) ≡ force_of c.before.args.hit c.before.args.at
-force_is c = back c.force-at.result c.force-at.type-inv ∙ c.force-at.ensures
+force_is : (c : tie.After-force_at-force) → to_z w64 (of_z w64 c.force_at-force.result) ≡ force_of c.args.hit c.args.at
+force_is c = back c.force_at-force.result c.force_at-force.type_inv ∙ c.force_at-force.ensures
 
-force-at-requires : tie.Need-force-at-requires
-force-at-requires c κs = tt
+force_at-force-requires : tie.Need-force_at-force-requires
+force_at-force-requires c κs = tt
 
-numerator-at-requires : tie.Need-numerator-at-requires
-numerator-at-requires c κs =
+numerator_at-requires : tie.Need-numerator_at-requires
+numerator_at-requires c κs =
     let s = c.before in (
       ready_force s.requires.0
           (subst (λ (z : ℤ). nat_abs z ≤ ceiling) (sym (force_is c)) (force_low s.args.hit s.requires.1 s.args.at)),
@@ -31,22 +31,22 @@ numerator-at-requires c κs =
     )
 
 -- the numerator, as it was stored
-stored_is : (c : tie.After-numerator-at) → to_z w64 (of_z w64 c.numerator-at.result) ≡ c.numerator-at.result
-stored_is c = back c.numerator-at.result c.numerator-at.type-inv
+stored_is : (c : tie.After-numerator_at) → to_z w64 (of_z w64 c.numerator_at.result) ≡ c.numerator_at.result
+stored_is c = back c.numerator_at.result c.numerator_at.type_inv
 
-is-below-limit-requires : tie.Need-is-below-limit-requires
-is-below-limit-requires c κs = c.before.before.requires.0.planned
+is_below_limit-requires : tie.Need-is_below_limit-requires
+is_below_limit-requires c κs = c.requires.0.planned
 
 returns : tie.Need-returns
 returns c =
     let n = c.before in
     let s = n.before.before in
     let a = s.args in
-    let made = n.numerator-at.ensures ∙
+    let made = n.numerator_at.ensures ∙
     next-value a.plan.instrument a.hit a.older.now a.newer.now _ a.at s.requires.2.moves (sym (force_is n.before)) in
-    c.is-below-limit.ensures ∙
+    c.is_below_limit.ensures ∙
     ap (λ (z : ℤ). not (beyond (round_away z (divisor a.plan.instrument.settings)))) (stored_is n) ∙
     ap (λ (x : Next). not (beyond x.value)) made
 
-pub is-point-within-spec : {M : Type 1} → statement M
-is-point-within-spec = tie.close (tie.spec force-at-requires numerator-at-requires is-below-limit-requires returns)
+pub is_point_within_spec : {M : Type 1} → statement M
+is_point_within_spec = tie.close (tie.spec force_at-force-requires numerator_at-requires is_below_limit-requires returns)

@@ -5,23 +5,23 @@ use Rattle.steps.proofs.FillLaws.{tested_none}
 use Rattle.steps.proofs.within.is_row_within.Statement.{statement}
 use Rattle.steps.proofs.within.is_row_within.Tie as tie
 
-is-grid-within-requires : tie.Need-is-grid-within-requires
-is-grid-within-requires c κs = let s = c.before.before in (s.requires.0, (c.if1.true, s.requires.1))
+is_grid_within-requires : tie.Need-is_grid_within-requires
+is_grid_within-requires c κs = let s = c.before.before in (s.requires.0, (c.if-plan-ne1.true, s.requires.1))
 
-returns : tie.Need-returns
-returns c = c.is-grid-within.ensures
+returns-then-plan-ne1 : tie.Need-returns-then-plan-ne1
+returns-then-plan-ne1 c = c.is_grid_within.ensures
 
-returns-2 : tie.Need-returns-2
-returns-2 c = tested_none c.if2.true
+returns-then-from-to : tie.Need-returns-then-from-to
+returns-then-from-to c = tested_none c.if-from-to.true
 
-is-string-within-requires : tie.Need-is-string-within-requires
-is-string-within-requires c κs =
+is_string_within-requires : tie.Need-is_string_within-requires
+is_string_within-requires c κs =
     let e = c.before in
     let s = e.before.before in
-    (s.requires.0, (search rules, s.requires.1, omega (arith, c.if2.false, s.requires.1.order)))
+    (s.requires.0, (search rules, s.requires.1, omega (arith, c.if-from-to.false, s.requires.1.order)))
 
-returns-3 : tie.Need-returns-3
-returns-3 c = c.is-string-within.ensures
+returns : tie.Need-returns
+returns c = c.is_string_within.ensures
 
-pub is-row-within-spec : {M : Type 1} → statement M
-is-row-within-spec = tie.close (tie.spec is-grid-within-requires returns returns-2 is-string-within-requires returns-3)
+pub is_row_within_spec : {M : Type 1} → statement M
+is_row_within_spec = tie.close (tie.spec is_grid_within-requires returns-then-plan-ne1 returns-then-from-to is_string_within-requires returns)

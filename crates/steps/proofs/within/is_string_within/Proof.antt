@@ -1,6 +1,6 @@
 -- `is_string_within` meets its contract: the first point, the inner points, the last point.
-use mathlib.Core.Path.{◌≡◌, sym, subst}
-use mathlib.Core.Bool.{false}
+use mathlib.Core.Path.{ap, ◌≡◌, sym, subst}
+use mathlib.Core.Bool.{not, false}
 use Prim.Native.Nat.{ℕ, ◌-◌, ◌≤◌}
 use native.Mathlib.Omega.{arith}
 use borrow.Author.Tests.{not-true, not-false}
@@ -31,39 +31,39 @@ module _ (s : tie.Start) where
   whole = record { from = from; to = to; force = pos 0; base = 0; write = false }
 
   order : from ≤ to
-  order = omega (arith, s.pre.1.2)
+  order = omega (arith, s.requires.1.2)
 
   wide : 3 ≤ n
-  wide = three whole s.pre.0.0 s.pre.1.0 s.pre.1.1 s.pre.1.2
+  wide = three whole s.requires.0.0 s.requires.1.0 s.requires.1.1 s.requires.1.2
 
 -- where its parts end
-module _ (c : tie.After-clamped2) where
+module _ (c : tie.After-clamped-last) where
   abbrev start : tie.Start
   start = c.before.before
 
   abbrev a : ℕ
-  a = c.before.clamped.result
+  a = c.clamped-first.result
 
   abbrev b : ℕ
-  b = c.clamped2.result
+  b = c.clamped-last.result
 
   a-is : a ≡ clamp (from start) (to start) 1
-  a-is = c.before.clamped.ensures
+  a-is = c.clamped-first.ensures
 
   b-is : b ≡ clamp (from start) (to start) (n start - 1)
-  b-is = c.clamped2.ensures
+  b-is = c.clamped-last.ensures
 
   first : FreeEnd start.args.plan.instrument 1 (from start) a
   first = let s = start in subst (FreeEnd s.args.plan.instrument 1 (from s)) (sym a-is)
-      (first-end (whole s) s.pre.0.0 s.pre.1.0 s.pre.1.1 s.pre.1.2)
+      (first-end (whole s) s.requires.0.0 s.requires.1.0 s.requires.1.1 s.requires.1.2)
 
   last : FreeEnd start.args.plan.instrument (n start - 2) b (to start)
   last = let s = start in subst (λ (k : ℕ). FreeEnd s.args.plan.instrument (n s - 2) k (to s)) (sym b-is)
-      (last_end (whole s) s.pre.0.0 s.pre.1.0 s.pre.1.1 s.pre.1.2)
+      (last_end (whole s) s.requires.0.0 s.requires.1.0 s.requires.1.1 s.requires.1.2)
 
   inner : OnLine start.args.plan.instrument.grid a b
   inner = let s = start in coe 1 0 (j. OnLine s.args.plan.instrument.grid (a-is j) (b-is j))
-      (inner-line (whole s) s.pre.0.0 s.pre.1.0 s.pre.1.1 s.pre.1.2)
+      (inner-line (whole s) s.requires.0.0 s.requires.1.0 s.requires.1.1 s.requires.1.2)
 
   from-a : from start ≤ a
   from-a = omega (arith, a-is, clamp-low (from start) (to start) (order start) 1)
@@ -74,73 +74,73 @@ module _ (c : tie.After-clamped2) where
   b-to : b ≤ to start
   b-to = omega (arith, b-is, clamp_high (from start) (to start) (order start) (n start - 1))
 
-clamped-requires : tie.Need-clamped-requires
-clamped-requires c κs = tt
+clamped-first-requires : tie.Need-clamped-first-requires
+clamped-first-requires c κs = tt
 
-sub-clamped : tie.Need-overflow-sub-clamped
-sub-clamped c = omega (arith, wide c.before)
+overflow_sub-n : tie.Need-overflow_sub-n
+overflow_sub-n c = omega (arith, wide c.before)
 
-clamped-requires-2 : tie.Need-clamped-requires-2
-clamped-requires-2 c κs = tt
+clamped-last-requires : tie.Need-clamped-last-requires
+clamped-last-requires c κs = tt
 
-is-end-within-requires : tie.Need-is-end-within-requires
-is-end-within-requires c κs = let s = start c in ((s.pre.0.0, s.pre.0.1, from-a c), first c)
+is_end_within-requires : tie.Need-is_end_within-requires
+is_end_within-requires c κs = let s = start c in ((s.requires.0.0, s.requires.0.1, from-a c), first c)
 
-returns : tie.Need-returns
-returns c =
+returns-then-not-is_end_within : tie.Need-returns-then-not-is_end_within
+returns-then-not-is_end_within c =
     let e = c.before in
     let p = e.before in
-    tested_stops (omega (arith, a-b p, b-to p)) e.is-end-within.ensures (not-true _ c.if1.true)
+    tested_stops (omega (arith, a-b p, b-to p)) e.is_end_within.ensures (not-true _ (ap not c.if-not-is_end_within.true))
 
-is-line-within-requires : tie.Need-is-line-within-requires
-is-line-within-requires c κs =
+is_line_within-requires : tie.Need-is_line_within-requires
+is_line_within-requires c κs =
     let p = c.before.before in
     let s = start p in
-    ((s.pre.0.0, s.pre.0.1, a-b p), (inner p, s.pre.0.2))
+    ((s.requires.0.0, s.requires.0.1, a-b p), (inner p, s.requires.0.2))
 
 -- the first end, and the inner points
-abbrev ended : tie.Else1 → tie.After-is-end-within
+abbrev ended : tie.Else-not-is_end_within → tie.After-is_end_within
 ended c = c.before
 
-returns-2 : tie.Need-returns-2
-returns-2 c =
+returns-then-not-is_line_within : tie.Need-returns-then-not-is_line_within
+returns-then-not-is_line_within c =
     let l = c.before in
     let e = ended l.before in
     let p = e.before in
-    let beyond = not-true _ c.if2.true in
+    let beyond = not-true _ (ap not c.if-not-is_line_within.true) in
     tested_stops (b-to p)
-    (tested_append (from-a p) e.is-end-within.ensures (not-false _ l.before.if1.false) l.is-line-within.ensures) beyond
+    (tested_append (from-a p) e.is_end_within.ensures (not-false _ (ap not l.if-not-is_end_within.false)) l.is_line_within.ensures) beyond
 
-sub-is-end-within : tie.Need-overflow-sub-is-end-within
-sub-is-end-within c = let p = (ended c.before.before).before in omega (arith, wide (start p))
+overflow_sub-n-2 : tie.Need-overflow_sub-n-2
+overflow_sub-n-2 c = let p = (ended c.before.before).before in omega (arith, wide (start p))
 
-is-end-within-requires-2 : tie.Need-is-end-within-requires-2
-is-end-within-requires-2 c κs =
+is_end_within-requires-2 : tie.Need-is_end_within-requires-2
+is_end_within-requires-2 c κs =
     let p = (ended c.before.before).before in
     let s = start p in
-    ((s.pre.0.0, s.pre.0.1, b-to p), last p)
+    ((s.requires.0.0, s.requires.0.1, b-to p), last p)
 
-returns-3 : tie.Need-returns-3
-returns-3 c =
+returns : tie.Need-returns
+returns c =
     let t = c.before in
     let l = t.before in
     let e = ended l.before in
     let p = e.before in
     tested_append (omega (arith, from-a p, a-b p))
-    (tested_append (from-a p) e.is-end-within.ensures (not-false _ l.before.if1.false) l.is-line-within.ensures)
-    (not-false _ t.if2.false) c.is-end-within2.ensures
+    (tested_append (from-a p) e.is_end_within.ensures (not-false _ (ap not l.if-not-is_end_within.false)) l.is_line_within.ensures)
+    (not-false _ (ap not t.if-not-is_line_within.false)) c.is_end_within-2.ensures
 
-pub is-string-within-spec : {M : Type 1} → statement M
-is-string-within-spec =
+pub is_string_within_spec : {M : Type 1} → statement M
+is_string_within_spec =
     tie.close
     (tie.spec
-    clamped-requires
-    sub-clamped
-    clamped-requires-2
-    is-end-within-requires
-    returns
-    is-line-within-requires
-    returns-2
-    sub-is-end-within
-    is-end-within-requires-2
-    returns-3)
+    clamped-first-requires
+    overflow_sub-n
+    clamped-last-requires
+    is_end_within-requires
+    returns-then-not-is_end_within
+    is_line_within-requires
+    returns-then-not-is_line_within
+    overflow_sub-n-2
+    is_end_within-requires-2
+    returns)
