@@ -9,61 +9,59 @@ use Rattle.block.proofs.levels.settle.Tie as tie
 copy-requires : tie.Need-copy-requires
 copy-requires c κs = search rules
 
-copy-requires-2 : tie.Need-copy-requires-2
-copy-requires-2 c κs = search rules
+copy-requires-in-1 : tie.Need-copy-requires-in-1
+copy-requires-in-1 c κs = search rules
 
-copy-requires-3 : tie.Need-copy-requires-3
-copy-requires-3 c κs = search rules
+copy-requires-in_default : tie.Need-copy-requires-in_default
+copy-requires-in_default c κs = search rules
 
-copy-requires-4 : tie.Need-copy-requires-4
-copy-requires-4 c κs = search rules
+copy-requires-in_default-2 : tie.Need-copy-requires-in_default-2
+copy-requires-in_default-2 c κs = search rules
 
-returns : tie.Need-returns
-returns c = search rules
+returns-in-0 : tie.Need-returns-in-0
+returns-in-0 c = search rules
 
-same_length : tie.Need-same-length
-same_length c = search rules
+shape_of-older-in-1 : tie.Need-shape_of-older-in-1
+shape_of-older-in-1 c = search rules
 
-same-length-2 : tie.Need-same-length-2
-same-length-2 c = search rules
+shape_of-newer-in-1 : tie.Need-shape_of-newer-in-1
+shape_of-newer-in-1 c = search rules
 
-returns-2 : tie.Need-returns-2
-returns-2 c =
-    let m = c.before.before.before.before.before.before.before in
-    let a = m.before.args in
-    let r = turn_at a.turn a.older.now a.newer.now a.work.now 1 m.match.keys2 in (
-      c.before.before.before.before.copy.ensures ∙ copied-whole _ _ (search rules) ∙ sym r.older_is,
-      c.before.copy2.ensures ∙ copied-whole _ _ (search rules) ∙ sym r.newer_is,
+returns-in-1 : tie.Need-returns-in-1
+returns-in-1 c =
+    let a = c.args in
+    let r = turn_at a.turn a.older.now a.newer.now a.work.now 1 c.in-1.is in (
+      c.copy.ensures ∙ copied-whole _ _ (search rules) ∙ sym r.older_is,
+      c.copy-in-1.ensures ∙ copied-whole _ _ (search rules) ∙ sym r.newer_is,
     )
 
-same-length-3 : tie.Need-same-length-3
-same-length-3 c = search rules
+shape_of-older-in_default : tie.Need-shape_of-older-in_default
+shape_of-older-in_default c = search rules
 
-same-length-4 : tie.Need-same-length-4
-same-length-4 c = search rules
+shape_of-newer-in_default : tie.Need-shape_of-newer-in_default
+shape_of-newer-in_default c = search rules
 
-returns-3 : tie.Need-returns-3
-returns-3 c =
-    let m = c.before.before.before.before.before.before.before in
-    let a = m.before.args in
-    let r = turn_2 a.turn a.older.now a.newer.now a.work.now m.before.requires.2 m.match.rest.0.1
-    m.match.rest.1 in (
-      c.before.copy4.ensures ∙ copied-whole _ _ (search rules) ∙ sym r.older_is,
-      c.before.before.before.before.copy3.ensures ∙ copied-whole _ _ (search rules) ∙ sym r.newer_is,
+returns-in_default : tie.Need-returns-in_default
+returns-in_default c =
+    let a = c.args in
+    let r = turn_2 a.turn a.older.now a.newer.now a.work.now c.requires.2 c.in_default.in_default-own.rest.0.1
+    c.in_default.in_default-own.rest.1 in (
+      c.copy-in_default-2.ensures ∙ copied-whole _ _ (search rules) ∙ sym r.older_is,
+      c.copy-in_default.ensures ∙ copied-whole _ _ (search rules) ∙ sym r.newer_is,
     )
 
-pub settle-spec : {M : Type 1} → statement M
-settle-spec =
+pub settle_spec : {M : Type 1} → statement M
+settle_spec =
     tie.close
     (tie.spec
     copy-requires
-    copy-requires-2
-    copy-requires-3
-    copy-requires-4
-    returns
-    same_length
-    same-length-2
-    returns-2
-    same-length-3
-    same-length-4
-    returns-3)
+    copy-requires-in-1
+    copy-requires-in_default
+    copy-requires-in_default-2
+    returns-in-0
+    shape_of-older-in-1
+    shape_of-newer-in-1
+    returns-in-1
+    shape_of-older-in_default
+    shape_of-newer-in_default
+    returns-in_default)
