@@ -1,5 +1,6 @@
 -- What the reads of a line tell of the reader's bytes.
-use Rattle.std.proofs.Common.{◌≡◌, ℕ, ◌+◌, ◌-◌, ◌≤◌, Bool, true, false, List, [], ◌∷◌, ◌++◌, length, take, drop, arith, refl, sym, ap, subst, ◌∙◌, append_assoc}
+use Rattle.std.proofs.Common.{◌≡◌, ℕ, ◌+◌, ◌-◌, ◌≤◌, Bool, true, false, List, [], ◌∷◌, ◌++◌, length, take, drop}
+use Rattle.std.proofs.Common.{arith, refl, sym, ap, subst, ◌∙◌, append_assoc}
 use mathlib.Core.Bool.{cond, ◌||◌, true≢false}
 use lib.Dec.{eqb, leb}
 use Rattle.std.specs.Prelude.{Some, None, Ok, Err, IfSome, OnOk}
@@ -44,7 +45,8 @@ pub consumed_on : (old mid new : Option (List ℕ)) (n came : ℕ) (a b : List �
 consumed_on None mid new n came a b p e q = tt
 consumed_on (Some xs) None new n came a b p e q = absurd p
 consumed_on (Some xs) (Some ys) None n came a b p e q = absurd q
-consumed_on (Some xs) (Some ys) (Some zs) n came a b p e q = cc (p, e, q, take-add n came b, append_assoc (take n b) (take came (drop n b)) zs)
+consumed_on (Some xs) (Some ys) (Some zs) n came a b p e q =
+    cc (p, e, q, take-add n came b, append_assoc (take n b) (take came (drop n b)) zs)
 
 -- ---- where a line feed came
 
@@ -95,8 +97,8 @@ answer_there there read buffer out size h e o same =
 
 -- ---- what is written
 
-pub printed : {T E : Type 0} (r : Result T E) (remaining old new : Option (List ℕ)) (read buffer out : List ℕ) (size : ℕ) → room ≤ length buffer →
-    size ≡ length (written_to buffer read) → out ≡ over (written_to buffer read) buffer → IfSome remaining (SameLine 256 read) →
+pub printed : {T E : Type 0} (r : Result T E) (remaining old new : Option (List ℕ)) (read buffer out : List ℕ) (size : ℕ) →
+    room ≤ length buffer → size ≡ length (written_to buffer read) → out ≡ over (written_to buffer read) buffer → IfSome remaining (SameLine 256 read) →
     OnOk r (Appends old new (take size out)) → OnOk r (IfSome remaining (λ all. Appends old new (answer all)))
 printed (Ok u) None old new read buffer out size h e o same w = tt
 printed (Ok u) (Some all) old new read buffer out size h e o same w =

@@ -87,7 +87,7 @@ fn room() -> [u8; 98320]
 // Writes what `ring` prints where the reader is its standard input. A read that fails ends it with that error before anything is written,
 // a write that fails where it fails.
 pub fn print_answer<R: Read, W: Write>(input: &mut R, output: &mut W) -> io::Result<()>
-    ensures { OnOk result (IfSome (R.remaining input.old) (λ bytes. Appends (W.contents output.old) (W.contents output.new) (answer bytes))) }
+    ensures { OnOk result (IfSome (R.remaining input.old) (λ all. Appends (W.contents output.old) (W.contents output.new) (answer all))) }
 {
     let mut bytes = [0u8; 256];
     let n = read_line(input, &mut bytes)?;

@@ -1,5 +1,6 @@
 -- A line for each sample passed.
-use Rattle.std.proofs.Common.{rules, arith, ◌≡◌, ℕ, suc, ◌+◌, ◌^◌, ◌<◌, ℤ, pos, negsuc, nat_abs, get_or, refl, sym, ap, ◌∙◌, subst, w16, to_z, of_z}
+use Rattle.std.proofs.Common.{rules, arith, ◌≡◌, ℕ, suc, ◌+◌, ◌^◌, ◌<◌, ℤ, pos, negsuc, nat_abs, get_or, refl, sym, ap, ◌∙◌, subst}
+use Rattle.std.proofs.Common.{w16, to_z, of_z}
 use native.Mathlib.Numerals.{add-one}
 use lib.Signed.{mag}
 use mir.Val.{SFits}
