@@ -1,12 +1,12 @@
 // A block: as many steps of an instrument as the lent sample buffer has places, on three lent levels or on two.
 #![tactic(auto)]
 
-mod levels;
+mod settling;
 
 ghost use Rattle.std.specs.Prelude.{◌≡◌};
 ghost use Rattle.scheme.specs.Calls.{block, block_left, block_in_place, in_place_left};
 
-use crate::levels::settle;
+use crate::settling::settle;
 use slices::{clear, exchange};
 use steps::{steps_in_place, steps_in_turn};
 use types::{BlockAnswer, Hit, Instrument};

@@ -1,6 +1,6 @@
 // The engine's calls with a record's arguments, and whether they answer what the record expects.
+use crate::buffers::{on_level, on_samples, on_table};
 use crate::floats::{bits_of, float_of};
-use crate::levels::{on_level, on_samples, on_table};
 use crate::records::{Numbers, PLACES, signed};
 use engine::{
     BlockAnswer, Grid, Hit, Instrument, Sheet, block, block_in_place, pluck, pluck_with, reading,

@@ -1,29 +1,33 @@
 // Runs the records of the files that its arguments name against the engine, and prints what differs.
 #![tactic(auto)]
 
+mod buffers;
 mod calls;
 mod floats;
-mod levels;
 mod records;
 mod tally;
 
-ghost use Rattle.std.specs.Prelude.{◌≡◌, length};
+ghost use Rattle.std.specs.Prelude.{◌≡◌, ◌≤◌, length, IfOk};
 
+use crate::buffers::{Lent, MOST, least};
 use crate::calls::agrees;
-use crate::levels::{Lent, MOST, least};
 use crate::records::{PLACES, next_record};
 use crate::tally::{Tally, say};
+use std::env::FillError;
+use std::io::Read;
+use std::rt::{Env, Files};
+use std::{fs, io};
 
 // The last record must have opcode 0.
-fn report(path: &[u8], tally: Tally, opcode: u64) {
+fn report(rt: &impl Print, path: &str, tally: Tally, opcode: u64) -> io::Result<()> {
     match opcode {
-        0 => tally.counts(path),
-        _ => tally.say_of(path, b": no opcode 0 at the end\n"),
+        0 => tally.counts(rt, path),
+        _ => tally.say_of(rt, path, ": no opcode 0 at the end\n"),
     }
 }
 
 // The records of a text, one after another.
-fn run(path: &[u8], text: &[u8]) {
+fn run(rt: &impl Print, path: &str, text: &[u8]) -> io::Result<()> {
     let mut record = [0u64; PLACES];
     let mut older = [0i64; MOST];
     let mut newer = [0i64; MOST];
@@ -53,10 +57,10 @@ fn run(path: &[u8], text: &[u8]) {
             &mut table[..n4],
         );
         opcode = n.n0;
-        tally = tally.record(path, opcode, is_met);
+        tally = tally.record(rt, path, opcode, is_met)?;
         at = next.next;
     }
-    report(path, tally, opcode);
+    report(rt, path, tally, opcode)
 }
 
 // Room for the longest file.
@@ -66,34 +70,56 @@ fn room() -> [u8; 2097152]
     [0u8; 2097152]
 }
 
-fn run_file(path: &[u8], fd: i32) {
+// Reads until text is full or the file ends, and returns how many bytes it put at the start of text.
+fn read_full(file: &mut impl Read, text: &mut [u8]) -> io::Result<usize>
+    ensures { IfOk result (λ n. n ≤ length text.new) }
+{
+    let mut done = 0;
+    while done < text.len() {
+        let n = file.read(&mut text[done..])?;
+        if n == 0 {
+            break;
+        }
+        done += n;
+    }
+    Ok(done)
+}
+
+fn run_file(rt: &impl Print, path: &str, file: &mut impl Read) -> io::Result<()> {
     let mut text = room();
-    let n = io::read_full(fd, &mut text);
-    run(path, &text[..n]);
+    let n = read_full(file, &mut text)?;
+    run(rt, path, &text[..n])
 }
 
-fn run_path(path: &[u8]) {
-    let fd = os::open_read(path);
-    if fd < 0 {
-        say(path);
-        say(b": cannot be opened\n");
-    } else {
-        run_file(path, fd);
-        libc::close(fd);
+fn refuse(rt: &impl Print, path: &[u8]) -> io::Result<()> {
+    say(rt, path)?;
+    say(rt, b": cannot be opened\n")
+}
+
+fn run_path(rt: &(impl Files + Print), path: &str) -> io::Result<()> {
+    match fs::open(rt, path) {
+        Ok(mut file) => run_file(rt, path, &mut file),
+        Err(_) => refuse(rt, path.as_bytes()),
     }
 }
 
-fn run_argument(i: usize) {
-    let mut path = io::buffer();
-    let n = os::arg(i, &mut path);
-    run_path(&path[..n]);
+// A path is text: bytes that are none cannot be opened.
+fn run_argument(rt: &(impl Files + Print), path: &[u8]) -> io::Result<()> {
+    match str::from_utf8(path) {
+        Ok(path) => run_path(rt, path),
+        Err(_) => refuse(rt, path),
+    }
 }
 
-fn main() {
-    let count = os::arg_count();
-    let mut i = 1;
-    while i < count {
-        run_argument(i);
-        i += 1;
+// One argument after another, the program's name aside. Of one that is longer than any path the bytes that fit are named.
+fn main(rt: HostRuntime) -> io::Result<()> {
+    let mut path = [0u8; 4096];
+    for i in 1..usize::MAX {
+        match rt.arg(i, &mut path) {
+            Ok(n) => run_argument(&rt, &path[..n])?,
+            Err(FillError::TooLong) => refuse(&rt, &path)?,
+            Err(FillError::NotPresent) => break,
+        }
     }
+    Ok(())
 }

@@ -1,8 +1,6 @@
 // The records of a text: one a line, decimals with a space between them.
 ghost use Rattle.std.specs.Prelude.{◌<◌, length};
 
-use std::num::{wrapping_add_u64, wrapping_add_usize, wrapping_sub_u64};
-
 // Places for the numbers of a record: an opcode, a buffer, its length and 4100 values, and one after them.
 pub const PLACES: usize = 4104;
 
@@ -10,7 +8,7 @@ pub const PLACES: usize = 4104;
 const MALFORMED: u64 = 9;
 
 // The first numbers of a record, in two's complement where they are negative: all of them, but for a buffer's values.
-#[derive(Drop)]
+#[derive(Clone, Copy)]
 pub struct Numbers {
     pub n0: u64,
     pub n1: u64,
@@ -104,7 +102,7 @@ impl Numbers {
     fn size_on_buffer(self) -> u64 {
         let buffer = self.n1;
         match buffer {
-            0..=4 => wrapping_add_u64(3, self.n2),
+            0..=4 => self.n2.wrapping_add(3),
             _ => 0,
         }
     }
@@ -128,7 +126,7 @@ impl Numbers {
 }
 
 // A line up to some byte: its numbers, how many have ended, and the digits, the sign and the value of the next.
-#[derive(Drop)]
+#[derive(Clone, Copy)]
 struct Line {
     numbers: Numbers,
     count: usize,
@@ -143,13 +141,13 @@ fn longer(digits: u64, byte: u8) -> u64 {
     let digit = (byte % 16) as u64;
     match digits {
         0..=1844674407370955160 => digits * 10 + digit,
-        _ => wrapping_add_u64(18446744073709551610, digit),
+        _ => digit.wrapping_add(18446744073709551610),
     }
 }
 
 fn with_sign(is_negative: bool, digits: u64) -> u64 {
     if is_negative {
-        wrapping_sub_u64(0, digits)
+        digits.wrapping_neg()
     } else {
         digits
     }
@@ -182,7 +180,7 @@ impl Line {
         let numbers = self.numbers;
         Line {
             numbers: numbers.with(self.count, self.bits),
-            count: wrapping_add_usize(self.count, 1),
+            count: self.count.wrapping_add(1),
             digits: 0,
             is_negative: false,
             bits: 0,
@@ -214,7 +212,7 @@ impl Line {
 }
 
 // A line, and where the next one starts.
-#[derive(Drop)]
+#[derive(Clone, Copy)]
 struct Read {
     line: Line,
     next: usize,
@@ -237,7 +235,7 @@ fn read_line(text: &[u8], from: usize, record: &mut [u64; PLACES]) -> Read
 }
 
 // The first numbers of a record, and where the next one starts.
-#[derive(Drop)]
+#[derive(Clone, Copy)]
 pub struct Record {
     pub numbers: Numbers,
     pub next: usize,

@@ -1,8 +1,8 @@
 // What was compared, and the lines that say so.
-use libc::STDOUT_FILENO;
-use std::num::wrapping_add_u64;
+use std::io;
+use std::io::Write;
 
-#[derive(Drop)]
+#[derive(Clone, Copy)]
 pub struct Tally {
     pub records: u64,
     pub levels: u64,
@@ -15,17 +15,17 @@ pub struct Tally {
     pub differences: u64,
 }
 
-pub(crate) fn say(text: &[u8]) {
-    io::write_all(STDOUT_FILENO, text);
+// Bytes as they are: a name of a file need not be text.
+pub(crate) fn say(rt: &impl Print, text: &[u8]) -> io::Result<()> {
+    io::writer(rt).write_all(text)
 }
 
-fn say_count(n: u64, what: &[u8]) {
-    io::print_decimal(STDOUT_FILENO, n);
-    say(what);
+fn say_count(rt: &impl Print, n: u64, what: &str) -> io::Result<()> {
+    print!(rt; "{n}{what}")
 }
 
-fn one_more_lem(n: u64) -> u64 {
-    wrapping_add_u64(n, 1)
+fn one_more(n: u64) -> u64 {
+    n.wrapping_add(1)
 }
 
 impl Tally {
@@ -44,61 +44,61 @@ impl Tally {
     }
 
     fn counted(mut self, opcode: u64) -> Tally {
-        self.records = one_more_lem(self.records);
+        self.records = one_more(self.records);
         match opcode {
-            2 => self.levels = one_more_lem(self.levels),
-            3 => self.blocks = one_more_lem(self.blocks),
-            4 => self.plucks = one_more_lem(self.plucks),
-            5 => self.readings = one_more_lem(self.readings),
-            6 => self.sheets = one_more_lem(self.sheets),
-            7 => self.blocks_in_place = one_more_lem(self.blocks_in_place),
-            8 => self.plucks_with = one_more_lem(self.plucks_with),
+            2 => self.levels = one_more(self.levels),
+            3 => self.blocks = one_more(self.blocks),
+            4 => self.plucks = one_more(self.plucks),
+            5 => self.readings = one_more(self.readings),
+            6 => self.sheets = one_more(self.sheets),
+            7 => self.blocks_in_place = one_more(self.blocks_in_place),
+            8 => self.plucks_with = one_more(self.plucks_with),
             _ => {}
         }
         self
     }
 
     // A line on the present record, or its start.
-    pub(crate) fn say_of(self, path: &[u8], what: &[u8]) {
-        say(path);
-        say(b": record ");
-        say_count(self.records, what);
+    pub(crate) fn say_of(self, rt: &impl Print, path: &str, what: &str) -> io::Result<()> {
+        print!(rt; "{path}: record ")?;
+        say_count(rt, self.records, what)
     }
 
     // At most 20 differences of a file have a line.
-    fn differs(mut self, path: &[u8], opcode: u64) -> Tally {
-        let differences = self.differences;
-        match differences {
-            0..=19 => {
-                self.say_of(path, b": opcode ");
-                say_count(opcode, b" differs\n");
-            }
-            _ => {}
+    fn differs(mut self, rt: &impl Print, path: &str, opcode: u64) -> io::Result<Tally> {
+        if self.differences < 20 {
+            self.say_of(rt, path, ": opcode ")?;
+            say_count(rt, opcode, " differs\n")?;
         }
-        self.differences = one_more_lem(differences);
-        self
+        self.differences = one_more(self.differences);
+        Ok(self)
     }
 
     // A record, and whether it is met.
-    pub(crate) fn record(self, path: &[u8], opcode: u64, is_met: bool) -> Tally {
+    pub(crate) fn record(
+        self,
+        rt: &impl Print,
+        path: &str,
+        opcode: u64,
+        is_met: bool,
+    ) -> io::Result<Tally> {
         let tally = self.counted(opcode);
         if is_met {
-            tally
+            Ok(tally)
         } else {
-            tally.differs(path, opcode)
+            tally.differs(rt, path, opcode)
         }
     }
 
-    pub(crate) fn counts(self, path: &[u8]) {
-        say(path);
-        say(b": ");
-        say_count(self.blocks, b" blocks, ");
-        say_count(self.blocks_in_place, b" blocks in place, ");
-        say_count(self.plucks, b" plucks, ");
-        say_count(self.plucks_with, b" plucks by a lent table, ");
-        say_count(self.readings, b" readings, ");
-        say_count(self.sheets, b" sheets, ");
-        say_count(self.levels, b" levels compared, ");
-        say_count(self.differences, b" differences\n");
+    pub(crate) fn counts(self, rt: &impl Print, path: &str) -> io::Result<()> {
+        print!(rt; "{path}: ")?;
+        say_count(rt, self.blocks, " blocks, ")?;
+        say_count(rt, self.blocks_in_place, " blocks in place, ")?;
+        say_count(rt, self.plucks, " plucks, ")?;
+        say_count(rt, self.plucks_with, " plucks by a lent table, ")?;
+        say_count(rt, self.readings, " readings, ")?;
+        say_count(rt, self.sheets, " sheets, ")?;
+        say_count(rt, self.levels, " levels compared, ")?;
+        say_count(rt, self.differences, " differences\n")
     }
 }

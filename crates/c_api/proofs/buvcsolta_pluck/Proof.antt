@@ -9,31 +9,30 @@ use borrow.Author.Rules.{rules}
 use Rattle.c_api.proofs.buvcsolta_pluck.Statement.{statement}
 use Rattle.c_api.proofs.buvcsolta_pluck.Tie as tie
 
-new-requires : tie.Need-new-requires
-new-requires c κs = search rules
+new-g-requires : tie.Need-new-g-requires
+new-g-requires c κs = search rules
 
-pluck-requires : tie.Need-pluck-requires
-pluck-requires c κs = search rules
+pluck-refusal-requires : tie.Need-pluck-refusal-requires
+pluck-refusal-requires c κs = search rules
 
 number-requires : tie.Need-number-requires
 number-requires c κs = search rules
 
-same_length : tie.Need-same-length
-same_length c = search rules
+shape_of-older : tie.Need-shape_of-older
+shape_of-older c = search rules
 
-same-length-2 : tie.Need-same-length-2
-same-length-2 c = search rules
+shape_of-newer : tie.Need-shape_of-newer
+shape_of-newer c = search rules
 
 returns : tie.Need-returns
 returns c =
-    let called = c.before.before.before.pluck in
-    let new = c.before.before.before.before.before.before in
-    let a = new.before.args in
-    ap (λ (n : ℕ). pluck_left n called.new.1.0 called.new.1.1.0) c.number.ensures
+    let called = c.pluck-refusal in
+    let a = c.args in
+    ap (λ (n : ℕ). pluck_left n called.new.older called.new.newer) c.number.ensures
     ∙ ap pluck_numbers called.ensures
     ∙ ap₂ (λ (g : Grid) (z : ℤ). pluck_numbers (Calls.pluck g a.older.now a.newer.now a.centre a.half_width z))
-    new.new.ensures (search rules)
+    c.new-g.ensures (search rules)
 
-pub buvcsolta-pluck-spec : {M : Type 1} → statement M
-buvcsolta-pluck-spec =
-    tie.close (tie.spec new-requires pluck-requires number-requires same_length same-length-2 returns)
+pub buvcsolta_pluck_spec : {M : Type 1} → statement M
+buvcsolta_pluck_spec =
+    tie.close (tie.spec new-g-requires pluck-refusal-requires number-requires shape_of-older shape_of-newer returns)

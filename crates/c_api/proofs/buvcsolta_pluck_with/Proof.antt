@@ -9,31 +9,30 @@ use borrow.Author.Rules.{rules}
 use Rattle.c_api.proofs.buvcsolta_pluck_with.Statement.{statement}
 use Rattle.c_api.proofs.buvcsolta_pluck_with.Tie as tie
 
-new-requires : tie.Need-new-requires
-new-requires c κs = search rules
+new-g-requires : tie.Need-new-g-requires
+new-g-requires c κs = search rules
 
-pluck-with-requires : tie.Need-pluck-with-requires
-pluck-with-requires c κs = search rules
+pluck_with-refusal-requires : tie.Need-pluck_with-refusal-requires
+pluck_with-refusal-requires c κs = search rules
 
 number-requires : tie.Need-number-requires
 number-requires c κs = search rules
 
-same_length : tie.Need-same-length
-same_length c = search rules
+shape_of-older : tie.Need-shape_of-older
+shape_of-older c = search rules
 
-same-length-2 : tie.Need-same-length-2
-same-length-2 c = search rules
+shape_of-newer : tie.Need-shape_of-newer
+shape_of-newer c = search rules
 
 returns : tie.Need-returns
 returns c =
-    let called = c.before.before.before.pluck-with in
-    let new = c.before.before.before.before.before.before in
-    let a = new.before.before.args in
-    ap (λ (n : ℕ). pluck_left n called.new.1.0 called.new.1.1.0) c.number.ensures
+    let called = c.pluck_with-refusal in
+    let a = c.args in
+    ap (λ (n : ℕ). pluck_left n called.new.older called.new.newer) c.number.ensures
     ∙ ap pluck_numbers called.ensures
     ∙ ap₂ (λ (g : Grid) (z : ℤ). pluck_numbers
-    (Calls.pluck_with g a.older.now a.newer.now a.centre a.half_width z a.table.now)) new.new.ensures (search rules)
+    (Calls.pluck_with g a.older.now a.newer.now a.centre a.half_width z a.table.now)) c.new-g.ensures (search rules)
 
-pub buvcsolta-pluck-with-spec : {M : Type 1} → statement M
-buvcsolta-pluck-with-spec =
-    tie.close (tie.spec new-requires pluck-with-requires number-requires same_length same-length-2 returns)
+pub buvcsolta_pluck_with_spec : {M : Type 1} → statement M
+buvcsolta_pluck_with_spec =
+    tie.close (tie.spec new-g-requires pluck_with-refusal-requires number-requires shape_of-older shape_of-newer returns)

@@ -8,11 +8,11 @@ use borrow.Author.Rules.{rules}
 use Rattle.c_api.proofs.buvcsolta_reading.Statement.{statement}
 use Rattle.c_api.proofs.buvcsolta_reading.Tie as tie
 
-new-requires : tie.Need-new-requires
-new-requires c κs = search rules
+new-g-requires : tie.Need-new-g-requires
+new-g-requires c κs = search rules
 
-reading-requires : tie.Need-reading-requires
-reading-requires c κs = search rules
+reading-answer-requires : tie.Need-reading-answer-requires
+reading-answer-requires c κs = search rules
 
 number-requires : tie.Need-number-requires
 number-requires c κs = search rules
@@ -20,10 +20,10 @@ number-requires c κs = search rules
 returns : tie.Need-returns
 returns c =
     let called = c.before in
-    let a = called.before.before.args in
-    ap (λ (n : ℕ). reading_left n called.reading.result.value) c.number.ensures
-    ∙ ap reading_numbers called.reading.ensures
-    ∙ ap (λ (g : Grid). reading_numbers (Calls.reading g a.newer.now a.pick_up)) called.before.new.ensures
+    let a = called.args in
+    ap (λ (n : ℕ). reading_left n called.reading-answer.result.value) c.number.ensures
+    ∙ ap reading_numbers called.reading-answer.ensures
+    ∙ ap (λ (g : Grid). reading_numbers (Calls.reading g a.newer.now a.pick_up)) called.new-g.ensures
 
-pub buvcsolta-reading-spec : {M : Type 1} → statement M
-buvcsolta-reading-spec = tie.close (tie.spec new-requires reading-requires number-requires returns)
+pub buvcsolta_reading_spec : {M : Type 1} → statement M
+buvcsolta_reading_spec = tie.close (tie.spec new-g-requires reading-answer-requires number-requires returns)

@@ -9,14 +9,14 @@ use borrow.Author.Rules.{rules}
 use Rattle.c_api.proofs.buvcsolta_sheet.Statement.{statement}
 use Rattle.c_api.proofs.buvcsolta_sheet.Tie as tie
 
-new-requires : tie.Need-new-requires
-new-requires c κs = search rules
+new-g-requires : tie.Need-new-g-requires
+new-g-requires c κs = search rules
 
-sheet-of-requires : tie.Need-sheet-of-requires
-sheet-of-requires c κs = search rules
+sheet_of-sheet-requires : tie.Need-sheet_of-sheet-requires
+sheet_of-sheet-requires c κs = search rules
 
-settings-for-requires : tie.Need-settings-for-requires
-settings-for-requires c κs = search rules
+settings_for-answer-requires : tie.Need-settings_for-answer-requires
+settings_for-answer-requires c κs = search rules
 
 number-requires : tie.Need-number-requires
 number-requires c κs = search rules
@@ -26,11 +26,11 @@ returns c =
     let called = c.before.before in
     let packed = called.before in
     let answered : Grid → Sheet → SheetLeft = λ g s. sheet_numbers (sheet_call g s) in
-    let settings = called.settings-for.result.settings in
+    let settings = called.settings_for-answer.result.settings in
     ap (λ (n : ℕ). sheet_left n settings.q settings.m settings.s) c.number.ensures
-    ∙ ap sheet_numbers called.settings-for.ensures
-    ∙ ap₂ answered packed.before.new.ensures packed.sheet-of.ensures
+    ∙ ap sheet_numbers called.settings_for-answer.ensures
+    ∙ ap₂ answered packed.new-g.ensures packed.sheet_of-sheet.ensures
 
-pub buvcsolta-sheet-spec : {M : Type 1} → statement M
-buvcsolta-sheet-spec =
-    tie.close (tie.spec new-requires sheet-of-requires settings-for-requires number-requires returns)
+pub buvcsolta_sheet_spec : {M : Type 1} → statement M
+buvcsolta_sheet_spec =
+    tie.close (tie.spec new-g-requires sheet_of-sheet-requires settings_for-answer-requires number-requires returns)

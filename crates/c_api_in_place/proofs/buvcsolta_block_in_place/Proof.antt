@@ -10,50 +10,48 @@ use borrow.Author.Rules.{rules}
 use Rattle.c_api_in_place.proofs.buvcsolta_block_in_place.Statement.{statement}
 use Rattle.c_api_in_place.proofs.buvcsolta_block_in_place.Tie as tie
 
-instrument-of-requires : tie.Need-instrument-of-requires
-instrument-of-requires c κs = search rules
+instrument_of-i-requires : tie.Need-instrument_of-i-requires
+instrument_of-i-requires c κs = search rules
 
-hit-of-requires : tie.Need-hit-of-requires
-hit-of-requires c κs = search rules
+hit_of-h-requires : tie.Need-hit_of-h-requires
+hit_of-h-requires c κs = search rules
 
-block-in-place-requires : tie.Need-block-in-place-requires
-block-in-place-requires c κs = search rules
+block_in_place-answer-requires : tie.Need-block_in_place-answer-requires
+block_in_place-answer-requires c κs = search rules
 
 number-requires : tie.Need-number-requires
 number-requires c κs = search rules
 
-same_length : tie.Need-same-length
-same_length c = search rules
+shape_of-older : tie.Need-shape_of-older
+shape_of-older c = search rules
 
-same-length-2 : tie.Need-same-length-2
-same-length-2 c = search rules
+shape_of-newer : tie.Need-shape_of-newer
+shape_of-newer c = search rules
 
-same-length-3 : tie.Need-same-length-3
-same-length-3 c = search rules
+shape_of-samples : tie.Need-shape_of-samples
+shape_of-samples c = search rules
 
 returns : tie.Need-returns
 returns c =
-    let called = c.before.before.before.before in
-    let packed = called.before.before.before.before in
-    let a = packed.before.before.args in
-    let left = called.block-in-place.new.1 in
+    let called = c.block_in_place-answer in
+    let a = c.args in
+    let left = called.new in
     let answered : Instrument → Hit → _ =
     λ i h. in_place_numbers (Calls.block_in_place i a.older.now a.newer.now a.samples.now a.pick_up h) in
-    ap (λ (n : ℕ). in_place_left n called.block-in-place.result.steps called.block-in-place.result.inexact left.0
-    left.1.0 left.1.1.0)
+    ap (λ (n : ℕ). in_place_left n called.result.steps called.result.inexact left.older left.newer left.samples)
     c.number.ensures
-    ∙ ap in_place_numbers called.block-in-place.ensures
-    ∙ ap₂ answered packed.before.instrument-of.ensures (packed.hit-of.ensures ∙ ap (hit_of a.hit a.point) (search rules))
+    ∙ ap in_place_numbers called.ensures
+    ∙ ap₂ answered c.instrument_of-i.ensures (c.hit_of-h.ensures ∙ ap (hit_of a.hit a.point) (search rules))
 
-pub buvcsolta-block-in-place-spec : {M : Type 1} → statement M
-buvcsolta-block-in-place-spec =
+pub buvcsolta_block_in_place_spec : {M : Type 1} → statement M
+buvcsolta_block_in_place_spec =
     tie.close
     (tie.spec
-    instrument-of-requires
-    hit-of-requires
-    block-in-place-requires
+    instrument_of-i-requires
+    hit_of-h-requires
+    block_in_place-answer-requires
     number-requires
-    same_length
-    same-length-2
-    same-length-3
+    shape_of-older
+    shape_of-newer
+    shape_of-samples
     returns)

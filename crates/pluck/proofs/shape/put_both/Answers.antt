@@ -15,11 +15,11 @@ returns-then-d-shape-2 c =
     let a = c.args in
     let value-is : to_z w64 (of_z w64 a.v) ≡ a.v = back a.v c.ranges.v.sfits in
     let left_is : c.if-d-shape.level ≡ put_left a.shape a.d a.v a.level.now =
-        elim c.if-d-shape.branch [
-            then-d-shape w ↦
-              w.level-is ∙ ap (set a.level.now (a.shape.centre - a.d)) value-is ∙ put_yes _ _ _ _ (le-leb _ _ w.if-d-shape.true)
-          | else-d-shape w ↦ w.level-is ∙ put_no _ _ _ _ (lt-leb _ _ w.if-d-shape.false)
-        ] in
+    elim c.if-d-shape.branch [
+      | then-d-shape w ↦
+          w.level-is ∙ ap (set a.level.now (a.shape.centre - a.d)) value-is ∙ put_yes _ _ _ _ (le-leb _ _ w.if-d-shape.true)
+      | else-d-shape w ↦ w.level-is ∙ put_no _ _ _ _ (lt-leb _ _ w.if-d-shape.false)
+    ] in
     ap₂ (λ (xs : List ℤ) (z : ℤ). set xs (a.shape.centre + a.d) z) left_is value-is ∙ put_yes _ _ _ _ (lt-ltb _ _ c.if-d-shape-2.true)
 
 pub returns-else-d-shape-2 : goal.returns-else-d-shape-2
@@ -27,9 +27,9 @@ returns-else-d-shape-2 c =
     let a = c.args in
     let value-is : to_z w64 (of_z w64 a.v) ≡ a.v = back a.v c.ranges.v.sfits in
     let left_is : c.if-d-shape.level ≡ put_left a.shape a.d a.v a.level.now =
-        elim c.if-d-shape.branch [
-            then-d-shape w ↦
-              w.level-is ∙ ap (set a.level.now (a.shape.centre - a.d)) value-is ∙ put_yes _ _ _ _ (le-leb _ _ w.if-d-shape.true)
-          | else-d-shape w ↦ w.level-is ∙ put_no _ _ _ _ (lt-leb _ _ w.if-d-shape.false)
-        ] in
+    elim c.if-d-shape.branch [
+      | then-d-shape w ↦
+          w.level-is ∙ ap (set a.level.now (a.shape.centre - a.d)) value-is ∙ put_yes _ _ _ _ (le-leb _ _ w.if-d-shape.true)
+      | else-d-shape w ↦ w.level-is ∙ put_no _ _ _ _ (lt-leb _ _ w.if-d-shape.false)
+    ] in
     left_is ∙ put_no _ _ _ _ (le-ltb _ _ c.if-d-shape-2.false)

@@ -41,10 +41,10 @@ level_run-requires c = record {
   edges_of = (
     c.requires.edges_of,
     λ off.
-      elim c.if-plan-ne0.branch [
-          then-plan-ne0+else-plan-ne1 w ↦ absurd (off w.if-plan-ne1.false)
-        | else-plan-ne0 w ↦ m_none c.requires.passable.given.planned w.if-plan-ne0.false
-      ],
+        elim c.if-plan-ne0.branch [
+          | then-plan-ne0+else-plan-ne1 w ↦ absurd (off w.if-plan-ne1.false)
+          | else-plan-ne0 w ↦ m_none c.requires.passable.given.planned w.if-plan-ne0.false
+        ],
   );
 }
 

@@ -9,10 +9,10 @@ returns c =
     let a = c.args in
     -- in place the first point, else 0
     let base : c.if-in_place.base ≡ base_of a.in_place (a.start + 1) =
-        elim c.if-in_place.branch [
-            then-in_place w ↦ w.base-is ∙ sym (ap (λ (t : Bool). base_of t (a.start + 1)) w.if-in_place.true)
-          | else-in_place w ↦ w.base-is ∙ sym (ap (λ (t : Bool). base_of t (a.start + 1)) w.if-in_place.false)
-        ] in
+    elim c.if-in_place.branch [
+      | then-in_place w ↦ w.base-is ∙ sym (ap (λ (t : Bool). base_of t (a.start + 1)) w.if-in_place.true)
+      | else-in_place w ↦ w.base-is ∙ sym (ap (λ (t : Bool). base_of t (a.start + 1)) w.if-in_place.false)
+    ] in
     λ j. record {
       from = a.start + 1;
       to = a.start + (a.columns - 1);

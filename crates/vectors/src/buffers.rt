@@ -7,7 +7,7 @@ use crate::records::{Numbers, PLACES, signed};
 pub const MOST: usize = 4100;
 
 // The lengths in which the five buffers are lent.
-#[derive(Drop)]
+#[derive(Clone, Copy)]
 pub struct Lent {
     pub older: usize,
     pub newer: usize,
@@ -86,13 +86,11 @@ pub(crate) fn on_level(n: Numbers, record: &[u64; PLACES], level: &mut [i64]) ->
     let is_lent = n.n0 == 1;
     let end = least(level.len());
     let mut is_met = level.len() as u64 == n.n2;
-    let mut k = 0;
-    while k < end {
+    for k in 0..end {
         let given = signed(record[k + 3]);
         let value = level_of(is_lent, given, level[k]);
         level[k] = value;
         is_met = is_met & (value == given);
-        k += 1;
     }
     is_met
 }
@@ -101,13 +99,11 @@ pub(crate) fn on_samples(n: Numbers, record: &[u64; PLACES], samples: &mut [i16]
     let is_lent = n.n0 == 1;
     let end = least(samples.len());
     let mut is_met = samples.len() as u64 == n.n2;
-    let mut k = 0;
-    while k < end {
+    for k in 0..end {
         let given = sample(record[k + 3]);
         let value = sample_of(is_lent, given, samples[k]);
         samples[k] = value;
         is_met = is_met & (value == given);
-        k += 1;
     }
     is_met
 }
@@ -116,13 +112,11 @@ pub(crate) fn on_table(n: Numbers, record: &[u64; PLACES], table: &mut [u32]) ->
     let is_lent = n.n0 == 1;
     let end = least(table.len());
     let mut is_met = table.len() as u64 == n.n2;
-    let mut k = 0;
-    while k < end {
+    for k in 0..end {
         let given = entry(record[k + 3]);
         let value = entry_of(is_lent, given, table[k]);
         table[k] = value;
         is_met = is_met & (value == given);
-        k += 1;
     }
     is_met
 }

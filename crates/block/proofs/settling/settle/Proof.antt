@@ -3,8 +3,8 @@ use mathlib.Core.Path.{sym, ◌∙◌}
 use borrow.Author.Rules.{rules}
 use Rattle.slices.proofs.SliceLaws.{copied-whole}
 use Rattle.turns.proofs.TurnLaws.{turn_at, turn_2}
-use Rattle.block.proofs.levels.settle.Statement.{statement}
-use Rattle.block.proofs.levels.settle.Tie as tie
+use Rattle.block.proofs.settling.settle.Statement.{statement}
+use Rattle.block.proofs.settling.settle.Tie as tie
 
 copy-requires : tie.Need-copy-requires
 copy-requires c κs = search rules
