@@ -71,7 +71,8 @@ split_last s [] h = refl
 split_last s (b ∷ bs) h = go (eqb b s) h (split_last s bs)
   where
     go : (t : Bool) → suc (length bs) ≤ length (cond t [] (b ∷ before s bs)) →
-        (length bs ≤ length (before s bs) → split_on s bs ≡ bs ∷ []) → cond t ([] ∷ split_on s bs) (on_first b (split_on s bs)) ≡ (b ∷ bs) ∷ []
+        (length bs ≤ length (before s bs) → split_on s bs ≡ bs ∷ []) →
+        cond t ([] ∷ split_on s bs) (on_first b (split_on s bs)) ≡ (b ∷ bs) ∷ []
     go true h e = absurd (omega arith)
     go false h e = ap (on_first b) (e (omega arith))
 
