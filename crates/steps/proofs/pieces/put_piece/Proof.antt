@@ -1,6 +1,6 @@
 -- `put_piece` meets its contract: the points passed have their values.
 use mathlib.Core.Path.{ap, refl, sym, ◌∙◌, subst}
-use mathlib.Core.Bool.{not, Bool, true, true≢false}
+use mathlib.Core.Bool.{not, Bool, true≢false}
 use Prim.Native.Nat.{ℕ, ◌-◌, ◌≤◌, ◌<◌}
 use native.Mathlib.Omega.{arith}
 use borrow.Author.Rules.{rules}

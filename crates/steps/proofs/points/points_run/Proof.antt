@@ -1,10 +1,6 @@
 use borrow.Author.Rules.{rules}
 use Rattle.steps.proofs.points.points_run.Statement.{statement}
 use Rattle.steps.proofs.points.points_run.Tie as tie
-use Rattle.steps.proofs.points.points_run.Reads as reads
-use Rattle.steps.proofs.points.points_run.Lts as lts
-use Rattle.steps.proofs.points.grid_run.Reads as grid-run-reads
-use Rattle.steps.proofs.points.line_points.Reads as line-points-reads
 
 -- src/points.rt:165:9
 line_points-requires : tie.Need-line_points-requires
