@@ -13,10 +13,10 @@ use Rattle.ring_decimals.proofs.read_to.Statement.{statement}
 use Rattle.ring_decimals.proofs.read_to.Tie as tie
 
 abbrev invariant-loop-i : tie.invariant-loop-i
-invariant-loop-i digits most n₀ i₀ n i = Summed most digits n i
+invariant-loop-i digits most empty n₀ i₀ n i = Summed most digits n i
 
 abbrev decreases-loop-i : tie.decreases-loop-i
-decreases-loop-i digits most n₀ i₀ n i = length digits - i
+decreases-loop-i digits most empty n₀ i₀ n i = length digits - i
 
 -- the turn of the loop, and where the function starts
 abbrev turn : tie.After-is_digit invariant-loop-i decreases-loop-i → tie.In-loop-i invariant-loop-i decreases-loop-i
