@@ -4,7 +4,7 @@
 
 A span of code with a slash, or that ends as a file does, is a path: from the root, the page's folder, crates/, a crate, or a folder of
 host/. NAME, LABEL, FILE and * stand for any name, and .antt, .rt, .edit and .md may be left out. What is built is not looked for: target/,
-.so, .a and .wav files.
+out/, .so, .a and .wav files.
 Of every other span each word of three letters or more must stand in some file of crates/ or host/, comments left out, or be the name of a
 file, folder or edit there; parts joined by :: or . are looked up one by one, and a word that begins by _ is the end of a name.
 A landing's note names what it took away: of the notes only the links are looked at.
@@ -30,7 +30,7 @@ EXCEPTIONS = {
     "ensures": "a word of Rattle", "requires": "a word of Rattle",
 }
 FILE = re.compile(r"\.(antt|rt|py|c|h|md|txt|edit|sh)$")
-BUILT = re.compile(r"^target/|\.(so|a|wav)(\.\d+)?$")
+BUILT = re.compile(r"^target/|(^|/)out/|\.(so|a|wav)(\.\d+)?$")
 WORD = re.compile(r"[A-Za-z_0-9][\w'′-]*")
 COMMENT = {".rt": r"//.*", ".antt": r"(?:^|(?<=\s))--(?=\s|$).*"}
 TEXTS = (".rt", ".antt", ".edit", ".py", ".c", ".h", ".sh", "")
@@ -44,8 +44,10 @@ def words():
     """Every word of the sources, comments of Rattle and its logic left out, and every name of a file, folder and edit."""
     found = set()
     for path in [ROOT / "crates.txt", *ROOT.glob("crates/**/*"), *ROOT.glob("host/**/*")]:
+        # a crate's out/ is built, and the test of this check has names that do not exist
+        if "out" in path.relative_to(ROOT).parts:
+            continue
         found.update((path.name, path.stem))
-        # the test of this check has names that do not exist
         if path.is_file() and path.suffix in TEXTS and "data" not in path.parts and path.name != "test_pages.py":
             text = re.sub(COMMENT.get(path.suffix, r"$^"), "", path.read_text(encoding="utf-8", errors="replace"), flags=re.M)
             found.update(WORD.findall(text))

@@ -44,7 +44,7 @@ LINES = (
 NAMES = (
     ("`block` of `crates/block/src/lib.rt`, `Calls.block`, `scheme/specs/Calls`, `host/test --calls 1`", []),
     ("`no_such_function`", ["no_such_function"]),
-    ("`block::no_such_part`, `nextAt` and `noSuch`", ["no_such_part", "noSuch"]),
+    ("`block::no_such_part`, `next_at` and `noSuch`", ["no_such_part", "noSuch"]),
     ("`crates/no_such/src`", ["crates/no_such/src"]),
     ("`scheme/specs/NoSuch.antt` and `no_such.py`", ["scheme/specs/NoSuch.antt", "no_such.py"]),
     ("`block (g no-such-law)`", ["no-such-law"]),
