@@ -34,10 +34,6 @@ BY_HAND = {
         ("src/lib.rt", "use types::{BlockAnswer, Hit, Instrument};", "use types::{BlockAnswer, Hit, Instrument, Refusal};"),
         ("src/lib.rt", "let refusal = told.refusal;", "let refusal = Refusal::WrongLength;"),
     ],
-    # `point_at` is a function of src/.
-    "crates/edges/must-fail/first_point_in_both.edit": [
-        ("src/lib.rt", "(g.columns, row, run.to)", "(g.columns, row, run.from)"),
-    ],
     "crates/ring_line/must-fail/two_spaces_as_one.edit": [
         ("specs/Requests.antt", PRELUDE + "Bool,", PRELUDE + "◌∷◌, Bool,"),
         ("specs/Requests.antt", PRELUDE + "◌∷◌,", PRELUDE + "ltb, ◌∷◌,"),

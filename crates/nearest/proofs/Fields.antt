@@ -18,7 +18,7 @@ use Rattle.types.specs.Numbers.{D}
 use Rattle.scheme.specs.Step.{nearest}
 use Rattle.nearest.specs.declared.Whole.TheVariants.{Is, Outside}
 use Rattle.nearest.specs.Nearest.{signed, halves_up, whole_in, nearest_times, nearest_whole}
-use Rattle.nearest.proofs.HalvesUp.{same_fraction, plus, minus_half, minus-below, small, large}
+use Rattle.nearest.proofs.HalvesUp.{is_whole, above-whole, same_fraction, plus, minus_half, minus-below, small, large}
 
 -- ---- a float that is a / c in size
 
@@ -192,6 +192,15 @@ module _ (b : ℕ) where
   field_middle low high {d} e f =
       bits_plus (omega arith) (omega arith) (omega arith) e
       (f ∙ ap (λ (x : ℕ). nearest (leading + d) (2 ^ (1059 - x))) (sym (no_sign (omega arith))))
+
+  -- and whether what is rounded is past D
+  pub bits_whole : {n : ℕ} → 1006 ≤ b / leading → b / leading ≤ 1023 → n ≡ nearest (leading + digits b) (2 ^ (1059 - b / leading))
+      → n ≤ D → nearest_whole (of_bits binary64 b) ≡ Is n
+  bits_whole {n} low high e h = field_middle low high refl e ∙ is_whole n h
+
+  pub bits_above : {n : ℕ} → 1006 ≤ b / leading → b / leading ≤ 1023 → n ≡ nearest (leading + digits b) (2 ^ (1059 - b / leading))
+      → D < n → nearest_whole (of_bits binary64 b) ≡ Outside
+  bits_above {n} low high e h = field_middle low high refl e ∙ above-whole n h
 
   pub field_large : 1023 < b / leading → b < sign → nearest_whole (of_bits binary64 b) ≡ Outside
   field_large low high = bits_large (omega arith)

@@ -80,6 +80,7 @@ fn whole_beyond(bits: u64) -> Whole
 
 // `nearest_whole` of a bit pattern that is a number's. D times a float is its mantissa over 2^(1059 − exponent): below a half where
 // the exponent is below 1006, and 2D or more where it is above 1023. The sign adds 2048 to the exponent.
+#[tactic(auto, using(crate::proofs::Fields::field_small, crate::proofs::Fields::bits_whole, crate::proofs::Fields::bits_above))]
 fn whole_of_bits(bits: u64) -> Whole
     ensures { result ≡ nearest_whole (of_bits binary64 bits) }
 {

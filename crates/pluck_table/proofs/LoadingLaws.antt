@@ -105,6 +105,25 @@ unkept t breaks = go (keeps_rule t) refl
     go true k = absurd (breaks (keeps_rule_lem t k))
     go false k = refl
 
+-- by its length, by its first entry, by its last
+pub length_wrong : (t : List ℕ) → (length t ≡ 1025 → ⊥) → loaded_table t ≡ Broken
+length_wrong t h = unkept t (λ r. h r.long)
+
+pub first_wrong : (t : List ℕ) → (get_or t 0 0 ≡ 0 → ⊥) → loaded_table t ≡ Broken
+first_wrong t h = unkept t (λ r. h r.begins)
+
+pub last_wrong : (t : List ℕ) → (get_or t 1024 0 ≡ 65536 → ⊥) → loaded_table t ≡ Broken
+last_wrong t h = unkept t (λ r. h r.ends)
+
+-- by what the test of its entries says
+pub falling : (t : List ℕ) → never_falls t ≡ false → loaded_table t ≡ Broken
+falling t f = unkept t (λ r. true≢false (sym (not_falling t (λ k h. r.rises k (omega (arith, h, r.long)))) ∙ f))
+
+pub rising : (t : List ℕ) → length t ≡ 1025 → get_or t 0 0 ≡ 0 → get_or t 1024 0 ≡ 65536 → never_falls t ≡ true
+    → loaded_table t ≡ Sound 1024
+rising t l b e n =
+    loads t (record { long = l; begins = b; ends = e; rises = λ j h. rises t (subst T (sym n) tt) j (omega (arith, h, l)) })
+
 pub tables_loaded : TablesLoaded
 tables_loaded = record {
   loads = λ t r. ap loaded_number (loads t r);

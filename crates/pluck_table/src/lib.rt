@@ -26,6 +26,7 @@ fn never_falls(table: &[u32]) -> bool
 }
 
 // A lent table, looked at. Ruled out: the last entry not looked at; equal neighbours taken as a fall; 1024 entries accepted.
+#[tactic(auto, using(crate::proofs::LoadingLaws::length_wrong, crate::proofs::LoadingLaws::first_wrong, crate::proofs::LoadingLaws::last_wrong, crate::proofs::LoadingLaws::falling, crate::proofs::LoadingLaws::rising))]
 pub fn load_table(table: &[u32]) -> LoadedTable
     ensures { result ≡ loaded_table table.now }
 {

@@ -1,30 +1,42 @@
 -- The numbers before the first that is sought, and the lists between them.
-use mathlib.Core.Path.{◌≡◌, refl, ap, ◌∙◌}
+use mathlib.Core.Path.{◌≡◌, refl, sym, ap}
 use mathlib.Core.Bool.{Bool, true, false, cond}
 use mathlib.Core.List.{List, [], ◌∷◌}
 use Prim.Native.Nat.{ℕ, zero, suc, ◌+◌, ◌≤◌, ◌<◌}
 use native.Mathlib.Omega.{arith}
 use lib.Dec.{eqb}
 use lib.ListN.{length, take, drop}
-use lib.Seq.{take-length}
-use Rattle.bytes.specs.Bytes.{slice, index_after, index_of}
+use Rattle.std.specs.Prelude.{Some, None}
+use Rattle.std.specs.List.{position, position_or_len}
+use Rattle.std.proofs.lemmas.Grind.{common_steps}
+use Rattle.std.proofs.lemmas.List.Recursion.{is_position_or_len}
 use Rattle.ring_line.specs.Lists.{before, on_first, split_on}
 
 -- ---- a search from the front
 
-found : (s : ℕ) (l : List ℕ) → index_of s l ≡ length (before s l)
-unfolding index_of index_after before
-found s [] = refl
-found s (b ∷ bs) = go (eqb b s) (found s bs)
+until : (s : ℕ) (l : List ℕ) → position_or_len (λ b. eqb b s) l ≡ length (before s l)
+unfolding before
+until s l = sym (is_position_or_len (λ l. length (before s l)) (λ b. eqb b s) refl (λ b bs. go b bs (eqb b s)) l)
   where
-    go : (t : Bool) → index_of s bs ≡ length (before s bs) → index_after t (index_of s bs) ≡ length (cond t [] (b ∷ before s bs))
-    go true e = refl
-    go false e = ap suc e
+    go : (b : ℕ) (bs : List ℕ) (t : Bool) → length (cond t [] (b ∷ before s bs)) ≡ cond t 0 (1 + length (before s bs))
+    go b bs true = refl
+    go b bs false = omega arith
 
--- a search from a place to the end of the list
-pub found_from : (s at end : ℕ) (l : List ℕ) → end ≡ at + index_of s (slice at (length l) l) → end ≡ at + length (before s (drop at l))
-unfolding slice
-found_from s at end l e = e ∙ ap (λ (r : List ℕ). at + index_of s (drop at r)) (take-length l) ∙ ap (λ (k : ℕ). at + k) (found s (drop at l))
+pub no_longer : (s : ℕ) (l : List ℕ) → length (before s l) ≤ length l
+unfolding before
+no_longer s [] = omega arith
+no_longer s (b ∷ bs) = go (eqb b s) (no_longer s bs)
+  where
+    go : (t : Bool) → length (before s bs) ≤ length bs → length (cond t [] (b ∷ before s bs)) ≤ suc (length bs)
+    go true h = omega arith
+    go false h = omega arith
+
+module _ (s : ℕ) (l : List ℕ) where
+  pub first_some : (n : ℕ) → Some n ≡ position (λ b. eqb b s) l → n ≡ length (before s l)
+  first_some n e = grind (arith, common_steps, until s l, e)
+
+  pub first_none : None ≡ position (λ b. eqb b s) l → length l ≡ length (before s l)
+  first_none e = grind (arith, common_steps, until s l, no_longer s l, e)
 
 -- ---- the numbers before the first
 
@@ -58,7 +70,8 @@ unfolding before split_on
 split_last s [] h = refl
 split_last s (b ∷ bs) h = go (eqb b s) h (split_last s bs)
   where
-    go : (t : Bool) → suc (length bs) ≤ length (cond t [] (b ∷ before s bs)) → (length bs ≤ length (before s bs) → split_on s bs ≡ bs ∷ []) →
+    go : (t : Bool) → suc (length bs) ≤ length (cond t [] (b ∷ before s bs)) →
+        (length bs ≤ length (before s bs) → split_on s bs ≡ bs ∷ []) →
         cond t ([] ∷ split_on s bs) (on_first b (split_on s bs)) ≡ (b ∷ bs) ∷ []
     go true h e = absurd (omega arith)
     go false h e = ap (on_first b) (e (omega arith))

@@ -14,8 +14,8 @@ use Rattle.ring_decimals.specs.declared.Signed.TheVariants.{Is, Wrong}
 use Rattle.ring_decimals.specs.Decimals.{all, minus, is_digit, digits_value, unsigned_to, is_unsigned, is_signed, signed_value, signed_read}
 use Rattle.ring_decimals.proofs.DecimalLaws.{digit_range}
 use Rattle.ring_decimals.proofs.SignedLaws.{signed_wrong, signed-right}
-use Rattle.ring_line.specs.declared.types.Request.{Request}
-use Rattle.ring_line.specs.declared.types.Request.TheVariants.{Input, Run}
+use Rattle.ring_line.specs.declared.asked.Request.{Request}
+use Rattle.ring_line.specs.declared.asked.Request.TheVariants.{Input, Run}
 use Rattle.ring_line.specs.Lists.{before}
 use Rattle.ring_line.specs.Requests.{line_feed, space, fields, field, well_formed, numbers, line_request, request_of}
 use Rattle.ring_line.specs.Reading.{ten, Read}

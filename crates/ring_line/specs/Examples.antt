@@ -1,8 +1,8 @@
 -- The paper's line, and both sides of each border, as one table: proved by computation (`examples_hold`).
 use Rattle.std.specs.Prelude.{◌≡◌, List, [], ◌∷◌, ◌++◌, map, ℕ, ℤ, pos, neg_ℤ, replicate}
 use Prim.Native.String.{String}
-use Rattle.ring_line.specs.declared.types.Request.{Request}
-use Rattle.ring_line.specs.declared.types.Request.TheVariants.{Input, Run}
+use Rattle.ring_line.specs.declared.asked.Request.{Request}
+use Rattle.ring_line.specs.declared.asked.Request.TheVariants.{Input, Run}
 use Rattle.ring_line.specs.Lists.{text}
 use Rattle.ring_line.specs.Requests.{request_of}
 

@@ -1,6 +1,6 @@
 -- What the functions that read a line promise each other. Vocabulary of private functions.
 use Rattle.std.specs.Prelude.{◌≡◌, true, false, List, ℕ, ◌+◌, ◌≤◌, ◌<◌, ℤ, length, drop, get_or, set}
-use Rattle.ring_line.specs.declared.types.Numbers.{Numbers}
+use Rattle.ring_line.specs.declared.asked.Numbers.{Numbers}
 use Rattle.ring_line.specs.declared.fields.Field.{Field}
 use Rattle.ring_line.specs.declared.fields.Field.TheVariants as F
 use Rattle.ring_line.specs.declared.fields.Rest.{Rest}

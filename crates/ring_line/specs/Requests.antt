@@ -1,9 +1,9 @@
 -- What the program `ring` is asked for: "ten decimals, digits only, single spaces between".
 use Rattle.std.specs.Prelude.{Bool, ◌&&◌, cond, List, [], ℕ, leb, eqb, length, take, get_or}
 use Rattle.ring_decimals.specs.Decimals.{all, digits_value, is_unsigned, is_signed, signed_value}
-use Rattle.ring_line.specs.declared.types.Numbers.{Numbers}
-use Rattle.ring_line.specs.declared.types.Request.{Request}
-use Rattle.ring_line.specs.declared.types.Request.TheVariants.{Input, Run}
+use Rattle.ring_line.specs.declared.asked.Numbers.{Numbers}
+use Rattle.ring_line.specs.declared.asked.Request.{Request}
+use Rattle.ring_line.specs.declared.asked.Request.TheVariants.{Input, Run}
 use Rattle.ring_line.specs.Lists.{before, split_on}
 
 -- ---- bytes

@@ -2,7 +2,7 @@
 ghost use Rattle.std.specs.Prelude.{◌≡◌, ◌≤◌, length};
 ghost use Rattle.ring_line.specs.Reading.{FieldRead, NineRead};
 
-use bytes::scan::find;
+use crate::search::length_before;
 use ring_decimals::{Unsigned, read_unsigned};
 
 const SPACE: u8 = 32;
@@ -19,7 +19,7 @@ fn read_field(line: &[u8], at: usize) -> Field
     requires { at ≤ length line.now }
     ensures { FieldRead line.now at result }
 {
-    let end = find(line, at, line.len(), SPACE);
+    let end = at + length_before(&line[at..], SPACE);
     if end == line.len() {
         return Field::Wrong;
     }

@@ -1,17 +1,18 @@
 // The line of the program `ring`: ten numbers, or `input`.
 #![tactic(auto)]
 
+mod asked;
 mod fields;
-mod types;
+mod search;
 
 ghost use Rattle.std.specs.Prelude.{◌≡◌};
 ghost use Rattle.ring_line.specs.Requests.{line_request, request_of};
 ghost use Rattle.ring_line.specs.Reading.{ten};
 
 use crate::fields::{Rest, read_nine};
-use bytes::scan::find;
+use crate::search::length_before;
+pub use asked::{Numbers, Request};
 use ring_decimals::{Signed, read_signed};
-pub use types::{Numbers, Request};
 
 const LINE_FEED: u8 = 10;
 
@@ -55,7 +56,7 @@ fn line_request(line: &[u8]) -> Request
 pub fn request(bytes: &[u8]) -> Request
     ensures { result ≡ request_of bytes.now }
 {
-    let end = find(bytes, 0, bytes.len(), LINE_FEED);
+    let end = length_before(bytes, LINE_FEED);
     if 255 < end {
         return Request::Input;
     }

@@ -6,7 +6,7 @@ use Rattle.types.specs.declared.BlockAnswer.{BlockAnswer}
 use Rattle.types.specs.declared.Refusal.TheVariants.{WrongSize}
 use Rattle.scheme.specs.Instruments.{points}
 use Rattle.scheme.specs.Calls.{AfterBlock, block}
-use Rattle.ring_line.specs.declared.types.Numbers.{Numbers}
+use Rattle.ring_line.specs.declared.asked.Numbers.{Numbers}
 use Rattle.ring_setup.specs.Numbers.{grid_of, asked_instrument, asked_hit, is_too_large}
 
 -- what is heard of a block: its answer, and the samples afterwards

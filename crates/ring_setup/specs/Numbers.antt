@@ -6,7 +6,7 @@ use Rattle.types.specs.declared.Hit.{Hit}
 use Rattle.types.specs.declared.Hit.TheVariants.{At}
 use Rattle.scheme.specs.Instruments.{within, points}
 use Rattle.scheme.specs.Refusals.{last_kind}
-use Rattle.ring_line.specs.declared.types.Numbers.{Numbers}
+use Rattle.ring_line.specs.declared.asked.Numbers.{Numbers}
 use Rattle.ring_setup.specs.declared.Setup.{Setup}
 
 abbrev pub grid_of : Numbers → Grid

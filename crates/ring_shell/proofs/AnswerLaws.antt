@@ -14,9 +14,9 @@ use Rattle.types.specs.declared.Refusal.TheVariants.{BrokenTable}
 use Rattle.types.specs.Numbers.{number}
 use Rattle.scheme.proofs.Laws.Bools.{and_both}
 use Rattle.ring_decimals.specs.Decimals.{all, digits_value, is_unsigned, is_signed}
-use Rattle.ring_line.specs.declared.types.Numbers.{Numbers}
-use Rattle.ring_line.specs.declared.types.Request.{Request}
-use Rattle.ring_line.specs.declared.types.Request.TheVariants.{Input, Run}
+use Rattle.ring_line.specs.declared.asked.Numbers.{Numbers}
+use Rattle.ring_line.specs.declared.asked.Request.{Request}
+use Rattle.ring_line.specs.declared.asked.Request.TheVariants.{Input, Run}
 use Rattle.ring_line.specs.Requests.{field, fields, well_formed, line_request, first_line, request_of}
 use Rattle.ring_line.proofs.RequestLaws as line
 use Rattle.ring_shell.specs.Answer.{text_for, answer}

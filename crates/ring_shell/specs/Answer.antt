@@ -1,9 +1,9 @@
 -- What `ring` prints for the bytes of its standard input: `answer`.
 use Rattle.std.specs.Prelude.{cond, List, [], ℕ, leb, pos, length, replicate}
 use Rattle.types.specs.Numbers.{number}
-use Rattle.ring_line.specs.declared.types.Numbers.{Numbers}
-use Rattle.ring_line.specs.declared.types.Request.{Request}
-use Rattle.ring_line.specs.declared.types.Request.TheVariants.{Input, Run}
+use Rattle.ring_line.specs.declared.asked.Numbers.{Numbers}
+use Rattle.ring_line.specs.declared.asked.Request.{Request}
+use Rattle.ring_line.specs.declared.asked.Request.TheVariants.{Input, Run}
 use Rattle.ring_line.specs.Lists.{text}
 use Rattle.ring_line.specs.Requests.{request_of}
 use Rattle.ring_playing.specs.Play.{Heard, played}

@@ -2,3 +2,4 @@ pub mod Answer
 pub mod Written
 pub mod Examples
 pub mod Claims
+pub mod Reading

@@ -1,17 +1,22 @@
-// What the program `ring` answers to the bytes of its standard input: the whole of what is printed, in a lent buffer.
+// What the program `ring` answers to the bytes of its standard input: the whole of what is printed, in a lent buffer or to a writer.
 #![tactic(auto)]
 
-ghost use Rattle.std.specs.Prelude.{◌≡◌, ◌≤◌, pos, length, replicate};
+mod read;
+
+ghost use Rattle.std.specs.Prelude.{◌≡◌, ◌≤◌, pos, length, replicate, OnOk, IfSome};
+ghost use Rattle.std.specs.Io.KnownBytes.{Appends};
 ghost use Rattle.io.specs.Counts.{IsPrefixLen};
 ghost use Rattle.ring_playing.specs.Play.{played};
 ghost use Rattle.ring_listing.specs.Text.{over, room};
 ghost use Rattle.ring_shell.specs.Answer.{played_text, run_text, answer, written_to};
 ghost use Rattle.ring_shell.specs.Written.{Written};
 
-use bytes::copy;
+use crate::read::read_line;
 use ring_line::{Numbers, Request, request};
 use ring_listing::put_listing;
 use ring_playing::play_numbers;
+use std::io;
+use std::io::{Read, Write};
 
 // Room for every answer: 8192 lines of at most 12 bytes, and a last line.
 const ROOM: usize = 98320;
@@ -52,7 +57,7 @@ fn put_answer(out: &mut [u8], bytes: &[u8]) -> usize
     let asked = request(bytes);
     match asked {
         Request::Input => {
-            copy(b"input\n", out);
+            out[..INPUT].copy_from_slice(b"input\n");
             INPUT
         }
         Request::Run(n) => put_run(out, n),
@@ -70,4 +75,23 @@ pub fn answer(out: &mut [u8], bytes: &[u8]) -> usize
         return 0;
     }
     put_answer(out, bytes)
+}
+
+// Room for the longest answer.
+fn room() -> [u8; 98320]
+    ensures { 98320 ≡ length result }
+{
+    [0u8; 98320]
+}
+
+// Writes what `ring` prints where the reader is its standard input. A read that fails ends it with that error before anything is written,
+// a write that fails where it fails.
+pub fn print_answer<R: Read, W: Write>(input: &mut R, output: &mut W) -> io::Result<()>
+    ensures { OnOk result (IfSome (R.remaining input.old) (λ all. Appends (W.contents output.old) (W.contents output.new) (answer all))) }
+{
+    let mut bytes = [0u8; 256];
+    let n = read_line(input, &mut bytes)?;
+    let mut out = room();
+    let size = answer(&mut out, &bytes[..n]);
+    output.write_all(&out[..size])
 }

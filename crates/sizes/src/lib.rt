@@ -60,6 +60,7 @@ pub fn points_of(g: Grid) -> usize
 }
 
 // 5: whether the kind is stable with q and m. Ruled out: kind 4 stable by q + 3m; 2q = D refused for kind 5; a plate stable by 2q + 15m.
+#[tactic(auto, using(crate::proofs::KindLaws::membrane_stable))]
 pub fn is_stable(kind: u64, q: u64, m: u64) -> bool
     ensures { result ≡ stable_in (kind_of kind) q m }
 {
