@@ -1,5 +1,5 @@
 #!/usr/bin/env python3
-"""Brings must-fail/*.edit over from an older commit's spelling to today's: the same wrong change of the same place.
+"""Brings must-fail/*.edit and true-variants/*.edit over from an older commit's spelling to today's: the same wrong change of the same place.
 
 usage: tools/respell_edits.py COMMIT [NAME..]         writes the edits of all crates, or those named; lists what is left to do by hand
        tools/respell_edits.py check COMMIT [NAME..]   writes nothing: each edit applies, and its change is COMMIT's change, token by token
@@ -30,6 +30,12 @@ PATHS = {
 PRELUDE = "use Rattle.std.specs.Prelude.{"
 # By hand: where a text is laid out otherwise, or a word is of another name. Edit -> pairs (file, old, new).
 BY_HAND = {
+    "crates/ring_decimals/must-fail/empty_field_as_0.edit": [
+        ("src/lib.rt", "let empty = digits.len() == 0;", "let empty = digits.len() < 0;"),
+    ],
+    "crates/steps/must-fail/beyond_let_pass.edit": [
+        ("src/points.rt", "let beyond = !is_below_limit(plan, n);", "let beyond = is_below_limit(plan, n);"),
+    ],
     "crates/block/must-fail/all_refused.edit": [
         ("src/lib.rt", "use types::{BlockAnswer, Hit, Instrument};", "use types::{BlockAnswer, Hit, Instrument, Refusal};"),
         ("src/lib.rt", "let refusal = told.refusal;", "let refusal = Refusal::WrongLength;"),
@@ -189,7 +195,7 @@ def main():
     args = args[check:]
     commit, names = args[0], args[1:]
     paths = subprocess.run(["git", "-C", TOP, "ls-tree", "-r", "--name-only", commit], capture_output=True, check=True).stdout.decode().split("\n")
-    edits = [p for p in paths if re.match(r"crates/[^/]+/must-fail/.*\.edit$", p) and (not names or p.split("/")[1] in names)]
+    edits = [p for p in paths if re.match(r"crates/[^/]+/(?:must-fail|true-variants)/.*\.edit$", p) and (not names or p.split("/")[1] in names)]
     whole = collections.defaultdict(collections.Counter)
     local = {}
     sources = [p for p in paths if re.match(r"crates/[^/]+/(specs|src)/", p) and p.endswith((".antt", ".rt"))]

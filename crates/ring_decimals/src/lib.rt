@@ -44,7 +44,8 @@ fn read_to(digits: &[u8], most: u64) -> Unsigned
     requires { (9 ≤ most) × (most ≤ 2 ^ 63) }
     ensures { result ≡ unsigned_read most digits.now }
 {
-    if digits.len() == 0 {
+    let empty = digits.len() == 0;
+    if empty {
         return Unsigned::Wrong;
     }
     let mut n = 0;

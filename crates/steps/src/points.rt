@@ -46,7 +46,8 @@ pub(crate) fn next_point(
     ensures { Advanced plan s older.now newer.now out.old out.new at (at + 1) result }
 {
     let n = numerator_at(plan, older, newer, at, sum, stiff, s.force);
-    if !is_below_limit(plan, n) {
+    let beyond = !is_below_limit(plan, n);
+    if beyond {
         return Progress {
             within: false,
             inexact: 0,

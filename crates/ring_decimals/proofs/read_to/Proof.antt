@@ -13,10 +13,10 @@ use Rattle.ring_decimals.proofs.read_to.Statement.{statement}
 use Rattle.ring_decimals.proofs.read_to.Tie as tie
 
 abbrev invariant-loop-i : tie.invariant-loop-i
-invariant-loop-i digits most n₀ i₀ n i = Summed most digits n i
+invariant-loop-i digits most empty n₀ i₀ n i = Summed most digits n i
 
 abbrev decreases-loop-i : tie.decreases-loop-i
-decreases-loop-i digits most n₀ i₀ n i = length digits - i
+decreases-loop-i digits most empty n₀ i₀ n i = length digits - i
 
 -- the turn of the loop, and where the function starts
 abbrev turn : tie.After-is_digit invariant-loop-i decreases-loop-i → tie.In-loop-i invariant-loop-i decreases-loop-i
@@ -56,8 +56,8 @@ module _ (c : tie.After-digit_of-digit invariant-loop-i decreases-loop-i) where
 within : (c : tie.Else-most-digit invariant-loop-i decreases-loop-i) → 10 * so_far c.before + c.before.digit_of-digit.result ≤ most c.before
 within c = omega (arith, small c.before, c.if-most-digit.false, in-range c.before)
 
-returns-then-digits-eq0 : tie.Need-returns-then-digits-eq0 invariant-loop-i decreases-loop-i
-returns-then-digits-eq0 c = sym (empty_wrong _ _ (omega (arith, c.if-digits-eq0.true)))
+returns-then-empty : tie.Need-returns-then-empty invariant-loop-i decreases-loop-i
+returns-then-empty c = sym (empty_wrong _ _ (omega (arith, c.if-empty.true)))
 
 loop-i-init : tie.Need-loop-i-init invariant-loop-i decreases-loop-i
 loop-i-init c = summed_none _ _
@@ -106,7 +106,7 @@ loop-i-preserved c =
     (summed-more _ _ (omega arith) l.invariant (digit d.before) (omega (arith, next_is d, within c)))
 
 returns : tie.Need-returns invariant-loop-i decreases-loop-i
-returns c = sym (summed-all _ _ (omega (arith, c.before.before.if-digits-eq0.false)) (omega arith) c.before.loop-i.invariant)
+returns c = sym (summed-all _ _ (omega (arith, c.before.before.if-empty.false)) (omega arith) c.before.loop-i.invariant)
 
 pub read_to_spec : {M : Type 1} → statement M
 read_to_spec =
@@ -114,7 +114,7 @@ read_to_spec =
     (tie.spec
     invariant-loop-i
     decreases-loop-i
-    returns-then-digits-eq0
+    returns-then-empty
     loop-i-init
     bounds-digits-i
     is_digit-requires

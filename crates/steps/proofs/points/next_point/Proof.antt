@@ -65,34 +65,34 @@ module _ (c : tie.After-numerator_at-n) where
   counted = ap (λ (x : Next). cond {A = ℕ} x.inexact 1 0) made
 
 -- whether it lies beyond the ceiling
-module _ (c : tie.After-is_below_limit) where
+module _ (c : tie.After-is_below_limit-beyond) where
   abbrev s : tie.Start
   s = start c.before
 
-  beyond-is : beyond (next s s.args.at).value ≡ not c.is_below_limit.result
+  beyond-is : beyond (next s s.args.at).value ≡ not c.is_below_limit-beyond.result
   beyond-is =
-      ap beyond (sym (rounded c.before)) ∙ sym (not-not _) ∙ ap not (sym c.is_below_limit.ensures)
+      ap beyond (sym (rounded c.before)) ∙ sym (not-not _) ∙ ap not (sym c.is_below_limit-beyond.ensures)
 
 numerator_at-n-requires : tie.Need-numerator_at-n-requires
 numerator_at-n-requires c κs = let s = c.before in (ready_held (ready s) (beside s), beside-held (ready s) (beside s))
 
-is_below_limit-requires : tie.Need-is_below_limit-requires
-is_below_limit-requires c κs = (ready (start c)).planned
+is_below_limit-beyond-requires : tie.Need-is_below_limit-beyond-requires
+is_below_limit-beyond-requires c κs = (ready (start c)).planned
 
-returns-then-not-is_below_limit : tie.Need-returns-then-not-is_below_limit
-returns-then-not-is_below_limit c = point-beyond _ _ (beyond-is c.before ∙ (ap not c.if-not-is_below_limit.true))
+returns-then-beyond : tie.Need-returns-then-beyond
+returns-then-beyond c = point-beyond _ _ (beyond-is c.before ∙ (ap not c.if-beyond.true))
 
 returns-then-not-s : tie.Need-returns-then-not-s
 returns-then-not-s c =
     let e = c.before.before in
-    point_tested _ _ (not-true _ c.if-not-s.true) (beyond-is e.before ∙ (ap not e.if-not-is_below_limit.false))
+    point_tested _ _ (not-true _ c.if-not-s.true) (beyond-is e.before ∙ (ap not e.if-beyond.false))
 
 round_by-rounded-requires : tie.Need-round_by-rounded-requires
 round_by-rounded-requires c κs = search rules
 
 -- once it is rounded
 module _ (c : tie.After-round_by-rounded) where
-  abbrev within : tie.After-is_below_limit
+  abbrev within : tie.After-is_below_limit-beyond
   within = c.before.before.before.before
 
   abbrev there : tie.Start
@@ -110,7 +110,7 @@ module _ (c : tie.After-round_by-rounded) where
 
   whole_is : to_z w64 (of_z w64 c.round_by-rounded.result.whole) ≡ (next there there.args.at).value
   whole_is =
-      let low = ltb-false ceiling _ (beyond-is within ∙ (ap not c.if-not-is_below_limit.false)) in
+      let low = ltb-false ceiling _ (beyond-is within ∙ (ap not c.if-beyond.false)) in
       ap (λ (z : ℤ). to_z w64 (of_z w64 z)) (ap (λ (x : Rounded). x.whole) over ∙ rounded within.before) ∙ held low
 
   remainder_is : c.round_by-rounded.result.remainder ≡ remainder_of n (d within.before)
@@ -130,7 +130,7 @@ module _ (c : tie.After-round_by-rounded) where
   written t e =
       point_written _ _ _ _ (not-false _ c.if-not-s.false) (omega (arith, there.requires.1)) (omega (arith, there.requires.1)) whole_is
       (ap (λ (t : Bool). cond {A = ℕ} (not t) 1 0) (sym e) ∙ counted within.before)
-      (beyond-is within ∙ (ap not c.if-not-is_below_limit.false))
+      (beyond-is within ∙ (ap not c.if-beyond.false))
 
 overflow_sub-whole : tie.Need-overflow_sub-whole
 overflow_sub-whole c = let s = there c.before.before in omega (arith, s.requires.1)
@@ -165,8 +165,8 @@ next_point_spec =
     tie.close
     (tie.spec
     numerator_at-n-requires
-    is_below_limit-requires
-    returns-then-not-is_below_limit
+    is_below_limit-beyond-requires
+    returns-then-beyond
     returns-then-not-s
     round_by-rounded-requires
     overflow_sub-whole
