@@ -28,6 +28,7 @@ EXCEPTIONS = {
     "gcc": "a compiler", "clang": "a compiler", "g++": "a compiler",
     "valgrind": "a program", "callgrind": "a tool of valgrind", "sox": "a program", "python3": "a program", "echo": "a program",
     "ensures": "a word of Rattle", "requires": "a word of Rattle",
+    "tidy": "a command of the toolchain", "staticlib": "a word of crates.txt",
 }
 FILE = re.compile(r"\.(antt|rt|py|c|h|md|txt|edit|sh)$")
 BUILT = re.compile(r"^target/|(^|/)out/|\.(so|a|wav)(\.\d+)?$")
