@@ -5,7 +5,7 @@ use mathlib.Core.List.{List, [], ◌∷◌}
 use Prim.Native.Nat.{ℕ, zero, suc, ◌+◌, ◌-◌, ◌≤◌, ◌<◌}
 use native.Mathlib.Numerals.{add-one}
 use native.Mathlib.Omega.{arith}
-use borrow.Author.Count.{below_more}
+use borrow.Author.Count.{below_none, below_more}
 use borrow.Author.Tests.{eq-eqb, ne_eqb, le-leb, lt-leb}
 use lib.Dec.{eqb}
 use lib.ListN.{length, take, drop, set, get_or, length-drop}
@@ -152,3 +152,6 @@ module _ (line values : List ℕ) (i at : ℕ) (r : Read line i values at)
 
         earlier : (k : ℕ) → k < i → get_or (set values i v) k 0 ≡ digits_value (field fs k)
         earlier k q = get_or-set_other values i k v 0 (λ e. omega arith) ∙ r.value k q
+
+pub read_none : (line values : List ℕ) → Read line 0 values 0
+read_none line values = record { inside = omega arith; rest = refl; each = below_none _; value = below_none _ }

@@ -1,6 +1,6 @@
 -- Text: one after the other, the digits of a number, and how long the lines are.
 use mathlib.Core.Path.{◌≡◌, refl, sym, ap, ap₂, ◌∙◌, subst, subst⁻¹}
-use mathlib.Core.Bool.{Bool, true, false}
+use mathlib.Core.Bool.{Bool, true, false, true≢false}
 use mathlib.Core.List.{List, [], ◌∷◌, ◌++◌, append_assoc, append-nil}
 use Prim.Native.Nat.{ℕ, zero, suc, ◌+◌, ◌-◌, ◌/◌, ◌%◌, ◌^◌, ◌≤◌, ◌<◌}
 use native.Mathlib.Nat.{div-lt_iff_lt-mul, le-div_iff_mul-le, mod-lt, pow-suc, div-lt_self}
@@ -10,6 +10,7 @@ use lib.Dec.{ltb}
 use lib.IntN.{ℤ, pos, negsuc, nat_abs}
 use lib.ListN.{length, take, drop, length-append, take-append-drop}
 use lib.Seq.{drop-drop}
+use lib.Signed.{lt_z}
 use Rattle.io.specs.Digits.{hex_digit_ascii, last_digits, IsDigitCount}
 use Rattle.ring_line.specs.Lists.{text}
 use Rattle.ring_listing.specs.Text.{digit, digits_in, decimal, signed_decimal, pair_line, done_line, over}
@@ -107,6 +108,14 @@ decimal-length (suc k) n h =
     go false e l = omega (arith, ap length (decimal-more n (ltb-false n 10 e)), length-append (decimal (n / 10)) (digit (n % 10) ∷ []))
 
 -- ---- signs
+
+pub sign_below : (v : ℤ) → lt_z v (pos 0) ≡ true → sign v ≡ 45 ∷ []
+sign_below (pos n) e = absurd (omega (arith, ltb-true n 0 e))
+sign_below (negsuc n) e = refl
+
+pub sign-from_0 : (v : ℤ) → lt_z v (pos 0) ≡ false → sign v ≡ []
+sign-from_0 (pos n) e = refl
+sign-from_0 (negsuc n) e = absurd (true≢false e)
 
 pub signed_parts : (v : ℤ) → sign v ++ decimal (nat_abs v) ≡ signed_decimal v
 unfolding signed_decimal text

@@ -5,6 +5,8 @@ use mathlib.Core.Bool.{Bool, true, false}
 use mathlib.Core.List.{List, ◌∷◌}
 use Prim.Native.Nat.{ℕ, zero, suc, ◌≤◌}
 use native.Mathlib.Omega.{arith}
+use borrow.Author.Tests.{ltb-false}
+use lib.Dec.{ltb}
 use lib.IntN.{ℤ, pos}
 use lib.ListN.{length, take, replicate}
 use Rattle.types.specs.declared.Instrument.{Instrument}
@@ -19,7 +21,7 @@ use Rattle.scheme.proofs.Laws.Refusals.{accepted_is}
 use Rattle.scheme.proofs.Laws.Calls.{block-done, block_refused_lem, stands_behind}
 use Rattle.ring_line.specs.declared.asked.Numbers.{Numbers}
 use Rattle.ring_setup.specs.declared.Setup.{Setup}
-use Rattle.ring_setup.specs.Numbers.{grid_of, asked_instrument, asked_hit, is_too_large, setup_of}
+use Rattle.ring_setup.specs.Numbers.{grid_of, asked_instrument, asked_hit, is_too_large, level_length, setup_of}
 use Rattle.ring_playing.specs.Play.{heard, heard_of, block_at_rest, from_rest, played}
 
 pub take-replicate : (k n : ℕ) (z : ℤ) → k ≤ n → take k (replicate n z) ≡ replicate k z
@@ -44,6 +46,14 @@ module _ (i : Instrument) (unknown : within 1 last_kind i.grid.kind ≡ false)
   unknown_refused =
       block_refused_lem i older newer work samples pick h (ap accepted first)
       ∙ ap (λ (r : Refusal). block_refused r older newer work samples) first
+
+-- the levels are lent no more than 1024 points
+pub length-low : (n : Numbers) → level_length (grid_of n) ≤ 1024
+length-low n = go (ltb 1024 (points (grid_of n))) refl
+  where
+    go : (t : Bool) → ltb 1024 (points (grid_of n)) ≡ t → level_length (grid_of n) ≤ 1024
+    go true e = simp e (omega arith)
+    go false e = simp e (ltb-false _ _ e)
 
 -- the block that the code plays
 abbrev code : Setup → List ℤ → (pick : ℕ) → AfterBlock
