@@ -65,6 +65,10 @@ def faults():
         found = [name for _, name in check_names.faults_of(text, "page.md")]
         if found != wanted:
             yield f"names, {text!r}: {found}, not {wanted}"
+    if list(check_names.faults_of("`returns-no-such` `no-such-law`", "docs/EDITS.md")) != [(1, "no-such-law")]:
+        yield "names, the page of edits: goals of the prover's alone are not looked for"
+    if list(check_names.faults_of("`returns-no-such`", "page.md")) != [(1, "returns-no-such")]:
+        yield "names, another page: its goals are looked for"
     if list(check_names.faults_of("`no_such_function` [x](no-such.md)", "docs/landings/x.md")) != [(1, "link to no-such.md")]:
         yield "names, a landing's note: its links alone are looked at"
     if "README.md" not in all_pages() or "docs/STATEMENT.md" not in all_pages() or not (ROOT / "README.md").is_file():
