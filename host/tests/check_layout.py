@@ -16,7 +16,7 @@ from arguments import parser_of
 
 def crates(text):
     """The crates that crates.txt lists."""
-    return [line.partition(":")[0].strip() for line in text.splitlines() if ":" in line and not line.startswith("#")]
+    return [line.partition(":")[0].split()[0] for line in text.splitlines() if ":" in line and not line.startswith("#")]
 
 
 def believed(page):

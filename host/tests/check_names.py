@@ -4,10 +4,11 @@
 
 A span of code with a slash, or that ends as a file does, is a path: from the root, the page's folder, crates/, a crate, or a folder of
 host/. NAME, LABEL, FILE and * stand for any name, and .antt, .rt, .edit and .md may be left out. What is built is not looked for: target/,
-.so, .a and .wav files.
+out/, .so, .a and .wav files.
 Of every other span each word of three letters or more must stand in some file of crates/ or host/, comments left out, or be the name of a
 file, folder or edit there; parts joined by :: or . are looked up one by one, and a word that begins by _ is the end of a name.
-A landing's note names what it took away: of the notes only the links are looked at.
+A landing's note names what it took away, and the page of the port what had another spelling: of these only the links are looked at. The
+page of edits has names of the prover's goals.
 """
 
 import functools
@@ -28,9 +29,14 @@ EXCEPTIONS = {
     "gcc": "a compiler", "clang": "a compiler", "g++": "a compiler",
     "valgrind": "a program", "callgrind": "a tool of valgrind", "sox": "a program", "python3": "a program", "echo": "a program",
     "ensures": "a word of Rattle", "requires": "a word of Rattle",
+    "tidy": "a command of the toolchain", "staticlib": "a word of crates.txt",
 }
 FILE = re.compile(r"\.(antt|rt|py|c|h|md|txt|edit|sh)$")
-BUILT = re.compile(r"^target/|\.(so|a|wav)(\.\d+)?$")
+BUILT = re.compile(r"^target/|(^|/)out/|\.(so|a|wav)(\.\d+)?$")
+# Goals have names of the prover's, which stand in no file where it finds the proof itself; docs/EDITS.md has them from its log.
+GOAL = re.compile(r"(returns|loop)(-\w+)+")
+GOALS_OF = "docs/EDITS.md"
+PORT = "docs/PORT.md"
 WORD = re.compile(r"[A-Za-z_0-9][\w'′-]*")
 COMMENT = {".rt": r"//.*", ".antt": r"(?:^|(?<=\s))--(?=\s|$).*"}
 TEXTS = (".rt", ".antt", ".edit", ".py", ".c", ".h", ".sh", "")
@@ -44,8 +50,10 @@ def words():
     """Every word of the sources, comments of Rattle and its logic left out, and every name of a file, folder and edit."""
     found = set()
     for path in [ROOT / "crates.txt", *ROOT.glob("crates/**/*"), *ROOT.glob("host/**/*")]:
+        # a crate's out/ is built, and the test of this check has names that do not exist
+        if "out" in path.relative_to(ROOT).parts:
+            continue
         found.update((path.name, path.stem))
-        # the test of this check has names that do not exist
         if path.is_file() and path.suffix in TEXTS and "data" not in path.parts and path.name != "test_pages.py":
             text = re.sub(COMMENT.get(path.suffix, r"$^"), "", path.read_text(encoding="utf-8", errors="replace"), flags=re.M)
             found.update(WORD.findall(text))
@@ -86,7 +94,7 @@ def missing_in(span, folder):
 def faults_of(text, page):
     """(number, what does not exist) of each line of a page."""
     folder = page.rpartition("/")[0]
-    is_note = folder == "docs/landings"
+    is_note = folder == "docs/landings" or page == PORT
     for number, line in outside_code(text):
         if line is None:
             continue
@@ -95,7 +103,8 @@ def faults_of(text, page):
             if not re.match(r"https?:", target) and path and not (ROOT / folder / path).exists():
                 yield number, f"link to {target}"
         for span in () if is_note else code_spans(line):
-            yield from ((number, name) for name in missing_in(span, folder))
+            if page != GOALS_OF or not GOAL.fullmatch(span):
+                yield from ((number, name) for name in missing_in(span, folder))
 
 
 def main():

@@ -3,8 +3,8 @@ That a wrong snippet is refused is tried too.
 
     python3 check_rattle.py PAGE.md ..
 
-A snippet is the fenced block behind its marker. The crate stands in target/host/snippets, a folder with links to crates/ and target/, so
-that `rt check` proves nothing else where the engine is proved.
+A snippet is the fenced block behind its marker. The crate stands in target/host/snippets, a folder with copies of the crates that it uses
+and of what their checks kept, so that `rt check` proves nothing else where the engine is proved.
 """
 
 import re
@@ -17,6 +17,7 @@ from pages import ROOT
 sys.path.append(str(ROOT / "host" / "reference"))
 
 from arguments import file, parser_of
+from copies import copy_crates
 
 MARKER = "<!-- host/test proves this snippet -->\n"
 CRATE = "snippets"
@@ -29,28 +30,27 @@ def snippets_in(text):
     return re.findall(re.escape(MARKER) + r"```rust\n(.*?)^```$", text, re.S | re.M)
 
 
-def made(snippets):
-    """The folder, made anew."""
-    place = ROOT / "target" / "host" / CRATE
-    shutil.rmtree(place, ignore_errors=True)
-    source = place / "crates" / CRATE / "src"
+def checked(place, snippets):
+    """Whether they are proved, and what was said."""
+    crate = place / "crates" / CRATE
+    shutil.rmtree(crate, ignore_errors=True)
+    source = crate / "src"
     source.mkdir(parents=True)
-    for crate in (ROOT / "crates").iterdir():
-        (place / "crates" / crate.name).symlink_to(crate)
-    (place / "target").symlink_to(ROOT / "target")
-    (place / "crates.txt").write_text((ROOT / "crates.txt").read_text() + f"{CRATE}: {USES}\n")
-    (source / "lib.rt").write_text("".join(f"mod snippet_{number};\n" for number, _ in enumerate(snippets)))
+    (source / "lib.rt").write_text("#![tactic(auto)]\n\n" + "".join(f"mod snippet_{number};\n" for number, _ in enumerate(snippets)))
     for number, text in enumerate(snippets):
         (source / f"snippet_{number}.rt").write_text(text)
-    return place
-
-
-def checked(snippets):
-    """Whether they are proved, and what was said."""
-    place = made(snippets)
-    said = subprocess.run(["rt", "check", CRATE], cwd=place, capture_output=True, text=True)
-    shutil.rmtree(place)
+    said = subprocess.run(["rt", "check"], cwd=crate, capture_output=True, text=True)
     return said.returncode == 0, said.stdout + said.stderr
+
+
+def faults(place, snippets):
+    """What is wrong: snippets that are not proved, and a wrong one that is."""
+    copy_crates(ROOT, place, USES.split(), f"{CRATE}: {USES}\n")
+    is_proved, said = checked(place, snippets)
+    if not is_proved:
+        return said.splitlines()[-20:]
+    is_proved, said = checked(place, [snippets[0].replace(*WRONG)])
+    return ["a wrong snippet is proved"] if is_proved else []
 
 
 def main():
@@ -64,15 +64,14 @@ def main():
     if not all(found) or snippets[0].count(WRONG[0]) != 1:
         print("a page without a snippet, or the first one has not once", repr(WRONG[0]))
         return 1
-    is_proved, said = checked(snippets)
-    if not is_proved:
-        print(*said.splitlines()[-20:], sep="\n")
-        return 1
-    if checked([snippets[0].replace(*WRONG)])[0]:
-        print("a wrong snippet is proved")
-        return 1
-    print(len(snippets), "snippets in Rattle are proved, and a wrong one is refused")
-    return 0
+    place = ROOT / "target" / "host" / CRATE
+    shutil.rmtree(place, ignore_errors=True)
+    try:
+        wrong = faults(place, snippets)
+    finally:
+        shutil.rmtree(place, ignore_errors=True)
+    print(*wrong or [f"{len(snippets)} snippets in Rattle are proved, and a wrong one is refused"], sep="\n")
+    return 1 if wrong else 0
 
 
 if __name__ == "__main__":

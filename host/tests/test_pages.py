@@ -44,7 +44,7 @@ LINES = (
 NAMES = (
     ("`block` of `crates/block/src/lib.rt`, `Calls.block`, `scheme/specs/Calls`, `host/test --calls 1`", []),
     ("`no_such_function`", ["no_such_function"]),
-    ("`block::no_such_part`, `nextAt` and `noSuch`", ["no_such_part", "noSuch"]),
+    ("`block::no_such_part`, `next_at` and `noSuch`", ["no_such_part", "noSuch"]),
     ("`crates/no_such/src`", ["crates/no_such/src"]),
     ("`scheme/specs/NoSuch.antt` and `no_such.py`", ["scheme/specs/NoSuch.antt", "no_such.py"]),
     ("`block (g no-such-law)`", ["no-such-law"]),
@@ -65,6 +65,10 @@ def faults():
         found = [name for _, name in check_names.faults_of(text, "page.md")]
         if found != wanted:
             yield f"names, {text!r}: {found}, not {wanted}"
+    if list(check_names.faults_of("`returns-no-such` `no-such-law`", "docs/EDITS.md")) != [(1, "no-such-law")]:
+        yield "names, the page of edits: goals of the prover's alone are not looked for"
+    if list(check_names.faults_of("`returns-no-such`", "page.md")) != [(1, "returns-no-such")]:
+        yield "names, another page: its goals are looked for"
     if list(check_names.faults_of("`no_such_function` [x](no-such.md)", "docs/landings/x.md")) != [(1, "link to no-such.md")]:
         yield "names, a landing's note: its links alone are looked at"
     if "README.md" not in all_pages() or "docs/STATEMENT.md" not in all_pages() or not (ROOT / "README.md").is_file():
