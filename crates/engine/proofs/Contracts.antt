@@ -5,7 +5,8 @@ use contract.Lifetimes.{Lfts}
 use borrow.Fn.Kinds.{ended_of}
 use borrow.Fn.World.{ArgsD, ResD}
 use denote.Triple.Clauses.{AtExit}
-use Rattle.scheme.specs.Book.{block_call, in_place_call, pluck_call, pluck_with_call, block_outcome, in_place_outcome, pluck_outcome, leaves}
+use Rattle.scheme.specs.Book.{block_call, in_place_call, pluck_call, pluck_with_call, block_outcome, in_place_outcome, pluck_outcome}
+use Rattle.scheme.specs.Book.{leaves}
 use Rattle.scheme.specs.Book.{left_by_block, left_by_in_place, left_by_pluck}
 use Rattle.scheme.specs.Program.{Made, Kept}
 use Rattle.block.specs.contracts.block as block

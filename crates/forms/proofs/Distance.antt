@@ -71,7 +71,8 @@ module _ (T : Scheme) (K : ℤ) where
     next-energy = triangle_step T.U_form T.U_form T.S_form T.nonneg (0<pos 3) K' (T.next X Y) (d ⊡ X) (p ⊡ r) n stepped off
 
     next_level_lem : pos 16 *ℤ U X' X' ⩽ K' *ℤ (pos (suc n * suc (suc n)) *ℤ pos (suc n * suc (suc n)))
-    next_level_lem = go n before (lin 3 (λ e k u. 4 *≤ # 4 ⊗ e ⊴ k ⊗ (u ⊗ u) ⇒ ⊩ # 16 ⊗ e ⊴ k ⊗ ((# 2 ⊗ u) ⊗ (# 2 ⊗ u))) refl (E T X' (d ⊡ X))
+    next_level_lem = go n before (lin 3 (λ e k u. 4 *≤ # 4 ⊗ e ⊴ k ⊗ (u ⊗ u) ⇒ ⊩ # 16 ⊗ e ⊴ k ⊗ ((# 2 ⊗ u) ⊗ (# 2 ⊗ u))) refl
+        (E T X' (d ⊡ X))
         K' (pos (suc n)) next-energy)
       where
         widen : (n : ℕ) → 2 * suc n + n * suc n ≡ suc n * suc (suc n)

@@ -142,7 +142,8 @@ run_past g b h = run_by g b (ap (λ (t : Bool). in_table g && t) (le-ltb b g.row
 
 -- of a kind that is not round
 module _ (k c r b : ℕ) where
-  straight_by : {t : Bool} → (ltb 0 c && (ltb b r && not (eqb k 6))) ≡ t → straight_run k c r b ≡ cond t (run_in (kind_of k) c r b) (run 0 0)
+  straight_by : {t : Bool} → (ltb 0 c && (ltb b r && not (eqb k 6))) ≡ t → straight_run k c r b ≡ cond t (run_in (kind_of k) c r b)
+      (run 0 0)
   unfolding straight_run
   straight_by e = ap (λ (t : Bool). cond t (run_in (kind_of k) c r b) (run 0 0)) e
 

@@ -1,5 +1,7 @@
 -- A level's points as code looks at them.
-use Rattle.std.proofs.Common.{◌≡◌, ℕ, zero, suc, ◌+◌, ◌-◌, ◌*◌, ◌^◌, ◌<◌, ◌≤◌, Bool, true, false, not, ◌&&◌, ◌||◌, T, eqb, ltb, List, length, ℤ, pos, negsuc, nat_abs, sym, refl, ap, ◌∙◌, subst, ap₂, subst₂, le_refl, add_assoc, suc-mul, mul_comm, mul-le-mul, add-one, arith, w64, to_z, of_z, lt-ltb, eq-eqb, eqb-true}
+use Rattle.std.proofs.Common.{◌≡◌, ℕ, zero, suc, ◌+◌, ◌-◌, ◌*◌, ◌^◌, ◌<◌, ◌≤◌, Bool, true, false, not, ◌&&◌, ◌||◌, T, eqb, ltb, List}
+use Rattle.std.proofs.Common.{length, ℤ, pos, negsuc, nat_abs, sym, refl, ap, ◌∙◌, subst, ap₂, subst₂, le_refl, add_assoc, suc-mul}
+use Rattle.std.proofs.Common.{mul_comm, mul-le-mul, add-one, arith, w64, to_z, of_z, lt-ltb, eq-eqb, eqb-true}
 use borrow.Author.Tests.{eqb-false}
 use lib.Arith.{digits_div, digits_mod}
 use lib.Dec.{leb-suc-suc}

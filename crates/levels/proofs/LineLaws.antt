@@ -1,5 +1,6 @@
 -- A line has one row, and its fixed points are ends.
-use Rattle.std.proofs.Common.{◌≡◌, ℕ, ◌+◌, ◌-◌, ◌*◌, ◌<◌, ◌≤◌, true, false, ◌&&◌, ◌||◌, eqb, List, length, ℤ, sym, refl, ap, ◌∙◌, ap₂, true≢false, zero-le, add-zero, zero-add, zero-mul, mul-one, arith, eqb-true}
+use Rattle.std.proofs.Common.{◌≡◌, ℕ, ◌+◌, ◌-◌, ◌*◌, ◌<◌, ◌≤◌, true, false, ◌&&◌, ◌||◌, eqb, List, length, ℤ, sym, refl, ap, ◌∙◌, ap₂}
+use Rattle.std.proofs.Common.{true≢false, zero-le, add-zero, zero-add, zero-mul, mul-one, arith, eqb-true}
 use mathlib.Core.Bool.{or-false}
 use Rattle.types.specs.declared.Grid.{Grid}
 use Rattle.scheme.specs.Lists.{some_below}
@@ -49,7 +50,8 @@ module _ (xs : List ℤ) where
   two_ends : (c : ℕ) → 3 ≤ c → row_not_zero xs 0 c (run 1 (c - 1)) ≡ (not_zero xs 0 || not_zero xs (c - 1))
   two_ends c h = ap₂ ◌||◌ (one_point 0 1 refl) (one_point (0 + (c - 1)) (c - (c - 1)) (omega arith) ∙ ap (not_zero xs) (zero-add (c - 1)))
 
-  line-ends : (K : Kind) (c r : ℕ) → size_in K c r ≡ true → number_of K ≤ 4 → row_not_zero xs 0 c (run_in K c r 0) ≡ ends_not_zero K xs (c - 1)
+  line-ends : (K : Kind) (c r : ℕ) → size_in K c r ≡ true → number_of K ≤ 4 → row_not_zero xs 0 c (run_in K c r 0) ≡ ends_not_zero K xs
+      (c - 1)
   unfolding run_in size_in
   line-ends unknown c r s h = absurd (true≢false (sym s))
   line-ends fixedString c r s h = two_ends c (sized fixedString c r s).columns_low
@@ -77,7 +79,8 @@ module _ (xs : List ℤ) where
       → ends_not_zero (kind_of k) xs last ≡ (not_zero xs 0 || not_zero xs last)
   unfolding size_in
   both_ends_lem c r last =
-      by_number (λ k K. k ≤ 4 → (k ≡ 3 → ⊥) → (k ≡ 2 → ⊥) → size_in K c r ≡ true → ends_not_zero K xs last ≡ (not_zero xs 0 || not_zero xs last))
+      by_number (λ k K. k ≤ 4 → (k ≡ 3 → ⊥) → (k ≡ 2 → ⊥) → size_in K c r ≡ true → ends_not_zero K xs last ≡
+      (not_zero xs 0 || not_zero xs last))
       (λ h e f s. absurd (true≢false (sym s))) (λ h e f s. refl) (λ h e f s. absurd (f refl)) (λ h e f s. absurd (e refl)) (λ h e f s. refl)
       (λ h e f s. absurd (omega arith)) (λ h e f s. absurd (omega arith)) (λ h e f s. absurd (omega arith))
       (λ k p h e f s. absurd (omega arith))

@@ -1,5 +1,6 @@
 -- A row of a round membrane from both of its ends.
-use Rattle.std.proofs.Common.{◌≡◌, ℕ, suc, ◌+◌, ◌-◌, ◌^◌, ◌<◌, ◌≤◌, Bool, true, false, not, ◌&&◌, ltb, List, ℤ, pos, negsuc, nat_abs, sym, refl, ap, ◌∙◌, true≢false, arith, w64, of_z, ltb-false, ltb-true}
+use Rattle.std.proofs.Common.{◌≡◌, ℕ, suc, ◌+◌, ◌-◌, ◌^◌, ◌<◌, ◌≤◌, Bool, true, false, not, ◌&&◌, ltb, List, ℤ, pos, negsuc, nat_abs, sym}
+use Rattle.std.proofs.Common.{refl, ap, ◌∙◌, true≢false, arith, w64, of_z, ltb-false, ltb-true}
 use mathlib.Core.Bool.{and-false}
 use borrow.Author.Tests.{not-true}
 use lib.Bits.{bit_or, or_comm, or_add_and, and_le_r}
@@ -37,7 +38,8 @@ module _ (xs : List ℤ) (s c b : ℕ) where
   abbrev pub clear : ℕ → Bool
   clear a = round_edge c a b && (not (not_zero xs (s + a)) && not (not_zero xs (s + (c - 1 - a))))
 
-  pub clear_is : (a : ℕ) → round_edge c a b ≡ true → (not_zero xs (s + a) ≡ false) × (not_zero xs (s + (c - 1 - a)) ≡ false) → clear a ≡ true
+  pub clear_is : (a : ℕ) → round_edge c a b ≡ true → (not_zero xs (s + a) ≡ false) × (not_zero xs (s + (c - 1 - a)) ≡ false) → clear a ≡
+      true
   clear_is a e z = and_yes e ∙ and_yes (ap not z.0) ∙ ap not z.1
 
   pub left_found : (a : ℕ) → a < c → round_edge c a b ≡ true → not_zero xs (s + a) ≡ true → round_not_zero xs s c b ≡ true

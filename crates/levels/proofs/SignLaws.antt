@@ -1,5 +1,6 @@
 -- The sign bit: of a number, of two at once, and of what tells a number beyond the ceiling.
-use Rattle.std.proofs.Common.{◌≡◌, ℕ, suc, ◌+◌, ◌-◌, ◌%◌, ◌^◌, ◌<◌, ◌≤◌, Bool, true, false, cond, ◌||◌, ltb, ℤ, pos, negsuc, ◌-ℤ◌, sym, refl, ap, ◌∙◌, true≢false, arith, w64, to_z, of_z, ltb-false, ltb-true, le-ltb, le-leb, leb-false, leb-true}
+use Rattle.std.proofs.Common.{◌≡◌, ℕ, suc, ◌+◌, ◌-◌, ◌%◌, ◌^◌, ◌<◌, ◌≤◌, Bool, true, false, cond, ◌||◌, ltb, ℤ, pos, negsuc, ◌-ℤ◌, sym}
+use Rattle.std.proofs.Common.{refl, ap, ◌∙◌, true≢false, arith, w64, to_z, of_z, ltb-false, ltb-true, le-ltb, le-leb, leb-false, leb-true}
 use borrow.Author.Tests.{lt-leb}
 use lib.Bits.{bit_or, or_lt, or_comm, or_add_and, and_le_r}
 use lib.Signed.{mag, lt_z}

@@ -65,7 +65,8 @@ fields_value s (suc x) t h =
 
 of_fields_lem : (s : Bool) (e t : ℕ) → e < 2047
     → nearest_whole (of_fields binary64 s e t) ≡ whole_in (halves_up (signed s (mantissa e t * 2 ^ (e - 1) * D)) (2 ^ 1074))
-of_fields_lem s e t h = by_value D (of_fields binary64 s e t) s (mantissa e t * 2 ^ (e - 1)) (2 ^ 1074) (pow_pos 1074) (fields_value s e t h)
+of_fields_lem s e t h = by_value D (of_fields binary64 s e t) s (mantissa e t * 2 ^ (e - 1)) (2 ^ 1074) (pow_pos 1074)
+    (fields_value s e t h)
 
 -- D times a float below 2³⁶ is its mantissa over a power of two
 mantissa-over : (m x : ℕ) → x ≤ 1058 → m * 2 ^ x * D * 2 ^ (1058 - x) ≡ m * 2 ^ 1074
@@ -188,7 +189,8 @@ module _ (b : ℕ) where
   field_small h = bits_small (omega arith)
 
   pub field_middle : 1006 ≤ b / leading → b / leading ≤ 1023
-      → {d n : ℕ} → d ≡ digits b → n ≡ nearest (leading + d) (2 ^ (1059 - b / leading)) → nearest_whole (of_bits binary64 b) ≡ whole_in (pos n)
+      → {d n : ℕ} → d ≡ digits b → n ≡ nearest (leading + d) (2 ^ (1059 - b / leading)) → nearest_whole (of_bits binary64 b) ≡ whole_in
+      (pos n)
   field_middle low high {d} e f =
       bits_plus (omega arith) (omega arith) (omega arith) e
       (f ∙ ap (λ (x : ℕ). nearest (leading + d) (2 ^ (1059 - x))) (sym (no_sign (omega arith))))

@@ -134,3 +134,6 @@ tables_loaded = record {
 -- T is one
 pub table_loads : loaded_table table ≡ Sound 1024
 table_loads = loads table table_rule.shape
+
+-- what each test of `load_table` says of the answer
+pub ruleset loading = (length_wrong, first_wrong, last_wrong, falling, rising)

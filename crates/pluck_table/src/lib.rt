@@ -4,7 +4,8 @@
 ghost use Rattle.std.specs.Prelude.{◌≡◌};
 ghost use Rattle.pluck_table.specs.Loading.{never_falls, loaded_table};
 
-// What loading a table answers: the place of its last entry, or that it breaks a rule. The definitions `loaded_number` and `loaded_last` tell
+// What loading a table answers: the place of its last entry, or that it breaks a rule. The definitions `loaded_number` and `loaded_last`
+// tell
 // the paper's number and the value of each.
 #[derive(Clone, Copy)]
 pub enum LoadedTable {
@@ -26,7 +27,7 @@ fn never_falls(table: &[u32]) -> bool
 }
 
 // A lent table, looked at. Ruled out: the last entry not looked at; equal neighbours taken as a fall; 1024 entries accepted.
-#[tactic(auto, using(crate::proofs::LoadingLaws::length_wrong, crate::proofs::LoadingLaws::first_wrong, crate::proofs::LoadingLaws::last_wrong, crate::proofs::LoadingLaws::falling, crate::proofs::LoadingLaws::rising))]
+#[tactic(auto, using(crate::proofs::LoadingLaws::loading))]
 pub fn load_table(table: &[u32]) -> LoadedTable
     ensures { result ≡ loaded_table table.now }
 {

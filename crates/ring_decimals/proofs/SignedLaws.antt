@@ -37,20 +37,21 @@ module _ (f : List ℕ) where
       go false e = absurd (let z : ◌≡◌ {A = ℕ} 0 1 = cc in omega arith)
 
 -- by the digits that are read, of the value z
-module _ (f g : List ℕ) (most : ℕ) (z : ℕ → ℤ) (is : is_signed f ≡ unsigned_to most g) (value-is : signed_value f ≡ z (digits_value g)) where
-  read_as : signed_read f ≡ cond (unsigned_to most g) (S.Is (z (digits_value g))) S.Wrong
-  unfolding signed_read
-  read_as =
-      ap (λ (t : Bool). cond t (S.Is (signed_value f)) S.Wrong) is
-      ∙ ap (λ (v : ℤ). cond (unsigned_to most g) (S.Is v) S.Wrong) value-is
+module _ (f g : List ℕ) (most : ℕ) (z : ℕ → ℤ) (is : is_signed f ≡ unsigned_to most g) (value-is : signed_value f ≡ z (digits_value g))
+  where
+    read_as : signed_read f ≡ cond (unsigned_to most g) (S.Is (z (digits_value g))) S.Wrong
+    unfolding signed_read
+    read_as =
+        ap (λ (t : Bool). cond t (S.Is (signed_value f)) S.Wrong) is
+        ∙ ap (λ (v : ℤ). cond (unsigned_to most g) (S.Is v) S.Wrong) value-is
 
-  is_read : {n : ℕ} → unsigned_read most g ≡ U.Is n → signed_read f ≡ S.Is (z n)
-  is_read e =
-      let r = right_read most g e in
-      read_as ∙ ap (λ (t : Bool). cond t (S.Is (z (digits_value g))) S.Wrong) r.0 ∙ ap (λ (n : ℕ). S.Is (z n)) r.1
+    is_read : {n : ℕ} → unsigned_read most g ≡ U.Is n → signed_read f ≡ S.Is (z n)
+    is_read e =
+        let r = right_read most g e in
+        read_as ∙ ap (λ (t : Bool). cond t (S.Is (z (digits_value g))) S.Wrong) r.0 ∙ ap (λ (n : ℕ). S.Is (z n)) r.1
 
-  is_wrong : unsigned_read most g ≡ U.Wrong → signed_read f ≡ S.Wrong
-  is_wrong e = read_as ∙ ap (λ (t : Bool). cond t (S.Is (z (digits_value g))) S.Wrong) (wrong_read most g e)
+    is_wrong : unsigned_read most g ≡ U.Wrong → signed_read f ≡ S.Wrong
+    is_wrong e = read_as ∙ ap (λ (t : Bool). cond t (S.Is (z (digits_value g))) S.Wrong) (wrong_read most g e)
 
 module _ (f : List ℕ) (h : get_or f 0 0 ≡ minus) where
   negative : is_negative f ≡ true

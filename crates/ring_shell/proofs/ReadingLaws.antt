@@ -99,7 +99,8 @@ answer_there there read buffer out size h e o same =
 
 pub printed : {T E : Type 0} (r : Result T E) (remaining old new : Option (List ℕ)) (read buffer out : List ℕ) (size : ℕ) →
     room ≤ length buffer → size ≡ length (written_to buffer read) → out ≡ over (written_to buffer read) buffer →
-    IfSome remaining (SameLine 256 read) → OnOk r (Appends old new (take size out)) → OnOk r (IfSome remaining (λ all. Appends old new (answer all)))
+    IfSome remaining (SameLine 256 read) → OnOk r (Appends old new (take size out)) → OnOk r
+    (IfSome remaining (λ all. Appends old new (answer all)))
 printed (Ok u) None old new read buffer out size h e o same w = tt
 printed (Ok u) (Some all) old new read buffer out size h e o same w =
     subst (Appends old new) (answer_there all read buffer out size h e o same) w

@@ -1,5 +1,6 @@
 -- What the sign of a number makes of another by bits, the raised size, and what a number is rounded to by its size.
-use Rattle.std.proofs.Common.{◌≡◌, ℕ, zero, suc, ◌+◌, ◌-◌, ◌*◌, ◌/◌, ◌%◌, ◌^◌, ◌<◌, ◌≤◌, Bool, true, false, cond, ltb, ℤ, pos, negsuc, ◌-ℤ◌, neg_ℤ, nat_abs, sym, refl, ap, ◌∙◌, true≢false, zero-le, arith, nltb→le, w64, to_z, of_z, le-ltb}
+use Rattle.std.proofs.Common.{◌≡◌, ℕ, zero, suc, ◌+◌, ◌-◌, ◌*◌, ◌/◌, ◌%◌, ◌^◌, ◌<◌, ◌≤◌, Bool, true, false, cond, ltb, ℤ, pos, negsuc, ◌-ℤ◌}
+use Rattle.std.proofs.Common.{neg_ℤ, nat_abs, sym, refl, ap, ◌∙◌, true≢false, zero-le, arith, nltb→le, w64, to_z, of_z, le-ltb}
 use native.Mathlib.Nat as N
 use lib.Bits.{bit_and, bit_xor, and_mask, xor_add_and, xor_zero_r}
 use lib.Signed.{mag, lt_z}

@@ -22,9 +22,12 @@ use Rattle.scheme.specs.MirrorExamples.{MirrorsHold, RunsHold, LowestBeyond}
 
 -- first, so that a definition by which up and down differ is refused by `MirrorImage`
 pub mirrors_hold : MirrorsHold
-unfolding sum_over tabulate some_below count_below only kind_of size_in stable_in fixed_in moving free_in beside neighbours laplacian inner_laplacian
-    numerator round_away next_at next_level inexact_at inexact_in some_beyond sample_of table pluck_at pluck_level fixed_not_zero block_refusal
-    pluck_refusal pluck_with_refusal keeps_rule loaded_table play capped block block_in_place pluck_by pluck pluck_with unrounded_at unrounded_step
+unfolding sum_over tabulate some_below count_below only kind_of size_in stable_in fixed_in moving free_in beside neighbours laplacian
+    inner_laplacian
+    numerator round_away next_at next_level inexact_at inexact_in some_beyond sample_of table pluck_at pluck_level fixed_not_zero
+    block_refusal
+    pluck_refusal pluck_with_refusal keeps_rule loaded_table play capped block block_in_place pluck_by pluck pluck_with unrounded_at
+    unrounded_step
     unrounded_steps goes_on book_block book_pluck sum_block sum_pluck leaves book_call sum_call calls
 mirrors_hold = record {
   halves = refl;
@@ -56,10 +59,13 @@ examples_hold = record {
 }
 
 pub further_hold : FurtherHold
-unfolding sum sum_over tabulate some_below count_below only kind_of size_in stable_in round_edge fixed_in moving free_in beside neighbours laplacian
+unfolding sum sum_over tabulate some_below count_below only kind_of size_in stable_in round_edge fixed_in moving free_in beside neighbours
+    laplacian
     inner_laplacian numerator round_away next_at next_level inexact_at inexact_in some_beyond sample_of float_of table pluck_at pluck_level
-    fixed_not_zero block_refusal pluck_refusal reading_refusal instrument_refusal play capped block block_in_place pluck_by pluck reading weight
-    squares later pair_sum laplacian_sum energy unrounded_at unrounded_step unrounded_steps goes_on book_block book_pluck sum_block sum_pluck leaves
+    fixed_not_zero block_refusal pluck_refusal reading_refusal instrument_refusal play capped block block_in_place pluck_by pluck reading
+    weight
+    squares later pair_sum laplacian_sum energy unrounded_at unrounded_step unrounded_steps goes_on book_block book_pluck sum_block
+    sum_pluck leaves
     book_call sum_call calls of_bits div of_int
 further_hold = record {
   free_end_twice = refl;
@@ -132,8 +138,10 @@ further_hold = record {
 }
 
 pub plates_hold : PlatesHold
-unfolding sum sum_over tabulate some_below only count_below kind_of size_in stable_in round_edge fixed_in moving free_in beside neighbours laplacian
-    inner_laplacian numerator round_away next_at next_level inexact_at inexact_in some_beyond sample_of fixed_not_zero block_refusal pluck_refusal
+unfolding sum sum_over tabulate some_below only count_below kind_of size_in stable_in round_edge fixed_in moving free_in beside neighbours
+    laplacian
+    inner_laplacian numerator round_away next_at next_level inexact_at inexact_in some_beyond sample_of fixed_not_zero block_refusal
+    pluck_refusal
     reading_refusal instrument_refusal play capped block weight squares later pair_sum laplacian_sum energy unrounded_at unrounded_step
     unrounded_steps goes_on book_block sum_block leaves book_call sum_call calls
 plates_hold = record {
@@ -160,9 +168,12 @@ plates_hold = record {
 }
 
 pub lent_hold : LentHold
-unfolding sum_over tabulate some_below count_below only kind_of size_in stable_in fixed_in moving free_in beside neighbours laplacian inner_laplacian
-    numerator round_away next_at next_level inexact_at inexact_in some_beyond sample_of table keeps_rule loaded_table pluck_at pluck_level fixed_not_zero
-    block_refusal pluck_refusal pluck_with_refusal play capped block pluck_by pluck_with unrounded_at unrounded_step unrounded_steps goes_on book_block
+unfolding sum_over tabulate some_below count_below only kind_of size_in stable_in fixed_in moving free_in beside neighbours laplacian
+    inner_laplacian
+    numerator round_away next_at next_level inexact_at inexact_in some_beyond sample_of table keeps_rule loaded_table pluck_at pluck_level
+    fixed_not_zero
+    block_refusal pluck_refusal pluck_with_refusal play capped block pluck_by pluck_with unrounded_at unrounded_step unrounded_steps
+    goes_on book_block
     book_pluck sum_block sum_pluck leaves book_call sum_call calls
 lent_hold = record {
   ordered = refl;
@@ -178,8 +189,10 @@ lent_hold = record {
 }
 
 pub runs_hold : RunsHold
-unfolding sum_over tabulate some_below count_below only kind_of size_in stable_in fixed_in moving free_in beside neighbours laplacian inner_laplacian
-    numerator round_away next_at next_level inexact_at inexact_in some_beyond sample_of table pluck_at pluck_level fixed_not_zero block_refusal
+unfolding sum_over tabulate some_below count_below only kind_of size_in stable_in fixed_in moving free_in beside neighbours laplacian
+    inner_laplacian
+    numerator round_away next_at next_level inexact_at inexact_in some_beyond sample_of table pluck_at pluck_level fixed_not_zero
+    block_refusal
     pluck_refusal pluck_with_refusal keeps_rule loaded_table play capped block block_in_place pluck_by pluck pluck_with leaves calls
 runs_hold = record {
   halves = refl;

@@ -281,7 +281,8 @@ pub record FurtherHold : Type 0 where
       instrument_numbers (instrument 5 2 3 0 0 0 ∷ instrument 5 3 2 0 0 0 ∷ instrument 5 3 64 0 0 0 ∷ instrument 5 64 3 0 0 0
       ∷ instrument 5 64 64 0 0 0 ∷ instrument 5 65 64 0 0 0 ∷ instrument 5 64 65 0 0 0 ∷ [])
       ≡ 2 ∷ 2 ∷ 0 ∷ 0 ∷ 0 ∷ 2 ∷ 2 ∷ []
-  pub round_sizes : instrument_numbers (instrument 6 2 2 0 0 0 ∷ instrument 6 64 64 0 0 0 ∷ instrument 6 65 65 0 0 0 ∷ instrument 6 5 6 0 0 0
+  pub round_sizes : instrument_numbers (instrument 6 2 2 0 0 0 ∷ instrument 6 64 64 0 0 0 ∷ instrument 6 65 65 0 0 0 ∷ instrument 6 5 6 0
+      0 0
       ∷ instrument 6 6 5 0 0 0 ∷ []) ≡ 2 ∷ 0 ∷ 2 ∷ 2 ∷ 2 ∷ []
   pub coefficients :
       instrument_numbers (instrument 1 3 1 65536 0 65536 ∷ instrument 1 3 1 65537 0 0 ∷ instrument 4 3 1 0 65537 0
@@ -297,9 +298,11 @@ pub record FurtherHold : Type 0 where
       refused_by rest rest rest 0 Absent ∷ refused_by five rest rest 0 Absent ∷ refused_by rest five rest 0 Absent
       ∷ refused_by rest rest five 0 Absent ∷ refused_by rest rest (middle3 (pos 0)) 0 Absent ∷ []
       ≡ 0 ∷ 6 ∷ 6 ∷ 6 ∷ 6 ∷ []
-  pub hits : hit_refused_by 0 (pos 0) ∷ hit_refused_by 1 (pos 0) ∷ hit_refused_by 2 (pos 0) ∷ hit_refused_by 3 (pos 0) ∷ hit_refused_by 4 (pos 0) ∷ []
+  pub hits : hit_refused_by 0 (pos 0) ∷ hit_refused_by 1 (pos 0) ∷ hit_refused_by 2 (pos 0) ∷ hit_refused_by 3 (pos 0) ∷ hit_refused_by 4
+      (pos 0) ∷ []
       ≡ 7 ∷ 0 ∷ 0 ∷ 7 ∷ 7 ∷ []
-  pub forces : hit_refused_by 1 (pos ceiling) ∷ hit_refused_by 1 (pos above) ∷ hit_refused_by 1 (minus ceiling) ∷ hit_refused_by 1 (minus above)
+  pub forces : hit_refused_by 1 (pos ceiling) ∷ hit_refused_by 1 (pos above) ∷ hit_refused_by 1 (minus ceiling) ∷ hit_refused_by 1
+      (minus above)
       ∷ [] ≡ 0 ∷ 8 ∷ 0 ∷ 8 ∷ []
   pub pick_ups : refused_by rest rest rest 3 Absent ∷ refused_by rest rest rest 4 Absent ∷ [] ≡ 0 ∷ 9 ∷ []
   pub high_points :
@@ -327,7 +330,8 @@ pub record FurtherHold : Type 0 where
       ≡ 7 ∷ 7 ∷ 0 ∷ 0 ∷ 7 ∷ []
   pub pluck_heights : pluck_refused_by 1 five five 2 1 (pos ceiling) ∷ pluck_refused_by 1 five five 2 1 (pos above)
       ∷ pluck_refused_by 1 five five 2 1 (minus ceiling) ∷ pluck_refused_by 1 five five 2 1 (minus above) ∷ [] ≡ 0 ∷ 8 ∷ 0 ∷ 8 ∷ []
-  pub widths : pluck_refused_by 1 five five 2 0 (pos 0) ∷ pluck_refused_by 1 five five 2 4 (pos 0) ∷ pluck_refused_by 1 five five 2 5 (pos 0) ∷ []
+  pub widths : pluck_refused_by 1 five five 2 0 (pos 0) ∷ pluck_refused_by 1 five five 2 4 (pos 0) ∷ pluck_refused_by 1 five five 2 5
+      (pos 0) ∷ []
       ≡ 10 ∷ 0 ∷ 10 ∷ []
   pub reading_refusals :
       number (reading_refusal (grid 0 4 1) rest 0) ∷ number (reading_refusal (grid 5 4 1) rest 0)
@@ -449,7 +453,8 @@ pub record FurtherHold : Type 0 where
       (level (7 ∷ []))
   -- an odd and an even number of steps
   pub in_place_steps :
-      (struck (level (7 ∷ 7 ∷ 7 ∷ [])) ≡ in_place_left (record { steps = 3; inexact = 2; refusal = Nothing }) (level (0 ∷ 6 ∷ 1 ∷ 0 ∷ 0 ∷ []))
+      (struck (level (7 ∷ 7 ∷ 7 ∷ [])) ≡ in_place_left (record { steps = 3; inexact = 2; refusal = Nothing })
+      (level (0 ∷ 6 ∷ 1 ∷ 0 ∷ 0 ∷ []))
       (level (0 ∷ 5 ∷ 3 ∷ 0 ∷ 0 ∷ [])) (level (0 ∷ 0 ∷ 0 ∷ []))) ×
       (struck (level (7 ∷ 7 ∷ 7 ∷ 7 ∷ [])) ≡ in_place_left (record { steps = 4; inexact = 5; refusal = Nothing })
       (level (0 ∷ 5 ∷ 3 ∷ 0 ∷ 0 ∷ [])) (level (0 ∷ 2 ∷ 5 ∷ 1 ∷ 0 ∷ [])) (level (0 ∷ 0 ∷ 0 ∷ 0 ∷ [])))

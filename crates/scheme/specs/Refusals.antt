@@ -1,5 +1,6 @@
 -- "Refusals from the input", "Refusals from the state": a test for each number, their order, and the checks of each call.
-use Rattle.std.specs.Prelude.{◌≡◌, Bool, true, false, not, ◌&&◌, ◌||◌, cond, List, [], ◌∷◌, ◌++◌, ℕ, ◌-◌, T, leb, ltb, eqb, ℤ, nat_abs, length}
+use Rattle.std.specs.Prelude.{◌≡◌, Bool, true, false, not, ◌&&◌, ◌||◌, cond, List, [], ◌∷◌, ◌++◌, ℕ, ◌-◌, T, leb, ltb, eqb, ℤ, nat_abs}
+use Rattle.std.specs.Prelude.{length}
 use Rattle.types.specs.declared.Settings.{Settings}
 use Rattle.types.specs.declared.Grid.{Grid}
 use Rattle.types.specs.declared.Instrument.{Instrument}

@@ -102,7 +102,7 @@ module _ {p : Plan} (h : Planned p) {u sum old f stiff : ℤ} (given : Updatable
   abbrev kept : ℤ
   kept = pos D -ℤ pos i.settings.s
 
-  -- "in the order of that text: own last value, neighbours, before_last value, force"; "The stiffness term follows the force"
+  -- "in the order of that text: own last value, neighbours, before-last value, force"; "The stiffness term follows the force"
   abbrev in_order : ℤ
   in_order = (pos (2 * D) -ℤ count *ℤ q) *ℤ u +ℤ q *ℤ sum -ℤ kept *ℤ old +ℤ pos D *ℤ f -ℤ stiff
 

@@ -15,7 +15,8 @@ use Rattle.types.specs.declared.Hit.{Hit}
 use Rattle.types.specs.Numbers.{ceiling}
 use Rattle.scheme.specs.Lists.{point}
 use Rattle.scheme.specs.Instruments.{beyond, moving}
-use Rattle.scheme.specs.Step.{laplacian, biharmonic, numerator_of, numerator, round_away, force_of, divisor, is_multiple, next_at, inexact_at}
+use Rattle.scheme.specs.Step.{laplacian, biharmonic, numerator_of, numerator, round_away, force_of, divisor, is_multiple, next_at}
+use Rattle.scheme.specs.Step.{inexact_at}
 use Rattle.plans.specs.declared.Plan.{Plan}
 use Rattle.stretches.specs.declared.Stretch.{Stretch}
 use Rattle.stretches.specs.Pieces.{piece, base_of}

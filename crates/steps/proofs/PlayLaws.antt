@@ -255,5 +255,6 @@ module _ {p : ℕ} {i : Instrument} {h : Hit} {a₀ b₀ c₀ a b c : List ℤ} 
 
   -- a step that is not done leaves the two levels
   pub played-kept : {whole : AfterSteps} {n : ℕ} {r : Steps} {samples : List ℤ} → x.within ≡ false
-      → Played whole n r (older_of p a₀ b₀ c₀) (newer_of p a₀ b₀ c₀) samples → Played whole n r (older_of p a b c) (newer_of p a b c) samples
+      → Played whole n r (older_of p a₀ b₀ c₀) (newer_of p a₀ b₀ c₀) samples → Played whole n r (older_of p a b c) (newer_of p a b c)
+      samples
   played-kept {whole} {n} {r} {samples} e q = coe 1 0 (k. Played whole n r (s.older_kept (inr e) k) (s.newer_kept k) samples) q

@@ -158,7 +158,7 @@ fn free_end(
 // Moving points of a line: its first, if it is one of them, the inner ones, its last.
 fn line_points(plan: Plan, older: &[i64], newer: &[i64], s: Stretch, out: &mut [i64]) -> Progress
     requires ready { Ready plan s.force older.now newer.now × Placed s (length out.old) }
-    requires rows_value { (plan.instrument.grid.rows ≡ 1) × Moves plan.instrument.grid s.from s.to × (s.from < s.to) }
+    requires one_row { (plan.instrument.grid.rows ≡ 1) × Moves plan.instrument.grid s.from s.to × (s.from < s.to) }
     ensures { Advanced plan s older.now newer.now out.old out.new s.from s.to result }
 {
     let n = newer.len();
@@ -183,7 +183,7 @@ fn line_points(plan: Plan, older: &[i64], newer: &[i64], s: Stretch, out: &mut [
 // Moving points of a row of a grid, without stiffness.
 fn grid_run(plan: Plan, older: &[i64], newer: &[i64], s: Stretch, out: &mut [i64]) -> Progress
     requires ready { Ready plan s.force older.now newer.now × Placed s (length out.old) }
-    requires fact { (plan.instrument.grid.rows ≡ 1 → ⊥) × (plan.instrument.settings.m ≡ 0)
+    requires soft_grid { (plan.instrument.grid.rows ≡ 1 → ⊥) × (plan.instrument.settings.m ≡ 0)
         × Moves plan.instrument.grid s.from s.to }
     ensures { Advanced plan s older.now newer.now out.old out.new s.from s.to result }
 {

@@ -78,7 +78,7 @@ fn is_string_within(
     hit: Hit,
 ) -> bool
     requires ready { Ready plan (pos 0) older.now newer.now × (too_strong hit ≡ false) × (plan.instrument.settings.m ≡ 0) }
-    requires rows_value { (plan.instrument.grid.rows ≡ 1) × Moves plan.instrument.grid from to × (from < to) }
+    requires one_row { (plan.instrument.grid.rows ≡ 1) × Moves plan.instrument.grid from to × (from < to) }
     ensures { Tested (next_of plan.instrument hit older.now newer.now) from to result }
 {
     let n = newer.len();
@@ -103,7 +103,7 @@ fn is_grid_within(
     hit: Hit,
 ) -> bool
     requires ready { Ready plan (pos 0) older.now newer.now × (too_strong hit ≡ false) × (plan.instrument.settings.m ≡ 0) }
-    requires fact { (plan.instrument.grid.rows ≡ 1 → ⊥) × Moves plan.instrument.grid from to }
+    requires soft_grid { (plan.instrument.grid.rows ≡ 1 → ⊥) × Moves plan.instrument.grid from to }
     ensures { Tested (next_of plan.instrument hit older.now newer.now) from to result }
 {
     let columns = plan.instrument.grid.columns;

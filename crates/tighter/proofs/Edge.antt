@@ -17,7 +17,8 @@ use Rattle.integers.proofs.Sum.{over-append, over_nonneg}
 use Rattle.forms.proofs.Level.{Level, Still}
 use Rattle.types.specs.declared.Grid.{Grid}
 use Rattle.scheme.specs.Instruments.{Kind, unknown, fixedString, halfFreeString, freeString, bar, membrane, roundMembrane, plate}
-use Rattle.scheme.specs.Instruments.{kind, within, grid_size, size_in, points, at_edge, outer_ring, fixed_in, round_edge, off_centre, moving}
+use Rattle.scheme.specs.Instruments.{kind, within, grid_size, size_in, points, at_edge, outer_ring, fixed_in, round_edge, off_centre}
+use Rattle.scheme.specs.Instruments.{moving}
 use Rattle.scheme.specs.Instruments.{free_in, free_end}
 use Rattle.scheme.specs.Energy.{weight, later, pair_sum}
 use Rattle.scheme.proofs.Laws.Bools.{and_both, or_yes}

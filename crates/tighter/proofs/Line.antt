@@ -166,7 +166,8 @@ module _ (ε : ℤ) (unit : ε *ℤ ε ≡ pos 1) (c u : ℕ → ℤ) (start : c
   -- both ends fixed, m + 2 steps apart
   pub both_ends_lem : (m : ℕ) → c (suc (suc m)) ≡ pos 0 → let l : ℕ = suc (suc m) in
       pos 48 *ℤ sum (suc l) (λ k. c k *ℤ c k) ⩽ pos (5 * (l * l) + 4) *ℤ sum l (λ k. u k *ℤ u k)
-  both_ends_lem m end = let l : ℕ = suc (suc m) in at-end ε unit c u start walk (pos 48) (T l) l (λ k. v l (pos k)) (arch l) m (omega arith) end
+  both_ends_lem m end = let l : ℕ = suc (suc m) in at-end ε unit c u start walk (pos 48) (T l) l (λ k. v l (pos k)) (arch l) m
+      (omega arith) end
 
   -- the last, m + 1 steps away, free: its square counts half
   pub one_end : (m : ℕ) → let l : ℕ = suc m in pos 24 *ℤ (pos 2 *ℤ sum l (λ k. c k *ℤ c k) +ℤ c l *ℤ c l)

@@ -1,6 +1,6 @@
 -- A scheme of tension S and loss s, d = D + s and e = D − s, as a step of forms: three forms that its steps do not raise.
 -- The energy D·G(a,a) + D·G(b,b) − S(a,b). Where the loss is light, d·G(a,a) + e·G(b,b) − S(a,b), which shrinks by d·e exactly.
--- For any loss (d·D + s²)·G(a,a) + (e·D + s²)·G(b,b) − D-as-S(a,b), which bounds s²·G(a,a), and shrinks where the loss is heavy.
+-- For any loss (d·D + s²)·G(a,a) + (e·D + s²)·G(b,b) − D·S(a,b), which bounds s²·G(a,a), and shrinks where the loss is heavy.
 use mathlib.Core.Path.{◌≡◌, refl, sym, ap, ap₂, ◌∙◌}
 use mathlib.Core.Bool.{Bool}
 use Prim.Native.Nat.{ℕ}

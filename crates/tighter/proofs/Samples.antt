@@ -169,4 +169,8 @@ carried : (S : OfSamples) → OfEverySample S → OfProgramSamples S
 carried S all older newer ms kept = each_made (EachSample S) ms (start older newer) kept (all older newer (calls_of ms))
 
 pub program_samples : ProgramSamples
-program_samples = record { sample_bounds = λ b. carried (SampleWithin (numbers b)) (sample_bounds b); voice_samples = carried VoiceSampleWithin voice_samples }
+program_samples = record {
+  sample_bounds = λ b. carried (SampleWithin (numbers b)) (sample_bounds b);
+  voice_samples = carried
+      VoiceSampleWithin voice_samples;
+}

@@ -6,7 +6,8 @@ use Rattle.types.specs.declared.Hit.{Hit}
 use Rattle.scheme.specs.Lists.{point, square}
 use Rattle.scheme.specs.Step.{divisor}
 use Rattle.scheme.specs.Energy.{weight}
-use Rattle.scheme.specs.Book.{scale, book_block, Call, block_call, in_place_call, pluck_call, pluck_with_call, Outcome, steps_of, samples_of, State}
+use Rattle.scheme.specs.Book.{scale, book_block, Call, block_call, in_place_call, pluck_call, pluck_with_call, Outcome, steps_of}
+use Rattle.scheme.specs.Book.{samples_of, State}
 use Rattle.scheme.specs.Book.{start, EachCall}
 use Rattle.scheme.specs.Program.{Made, AllKept, EachMade}
 use Rattle.tighter.specs.Bounds.{Bound, limit, Row, demanded, numbers}
@@ -54,7 +55,7 @@ abbrev pub SampleWithin : Bound → OfSamples
 SampleWithin b i n pick x v = b.Covers i →
     (pos (b.k i n * weight i.grid pick) *ℤ square (pos (beyond_half i n x v))) ≤ℤ limit b i n
 
--- demand 3's: 16 × beyondHalf² ≤ N × n² × (n+1)², at a free end twice that
+-- demand 3's: 16 × beyond_half² ≤ N × n² × (n+1)², at a free end twice that
 abbrev pub SampleBound : Type 0
 SampleBound = OfEverySample (SampleWithin (numbers demanded))
 

@@ -50,7 +50,8 @@ is_nothing-requires c κs = search rules
 
 returns-then-not-is_nothing : tie.Need-returns-then-not-is_nothing
 unfolding block_refusal
-returns-then-not-is_nothing c = let m = c.before.before in refused_by_lem (input m) (state m) tt (input-is m) c.is_nothing.ensures (ap not c.if-not-is_nothing.true)
+returns-then-not-is_nothing c = let m = c.before.before in refused_by_lem (input m) (state m) tt (input-is m) c.is_nothing.ensures
+    (ap not c.if-not-is_nothing.true)
 
 state_refusal-requires : tie.Need-state_refusal-requires
 state_refusal-requires c κs = search rules

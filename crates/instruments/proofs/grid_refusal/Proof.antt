@@ -23,7 +23,8 @@ is_within-requires c κs = tt
 returns-then-not-is_within : tie.Need-returns-then-not-is_within
 returns-then-not-is_within c =
     let s = c.before.before in
-    refused-first UnknownKind WrongSize (kind-test s) (size-test s) (ap not (sym c.before.is_within.ensures) ∙ (ap not c.if-not-is_within.true))
+    refused-first UnknownKind WrongSize (kind-test s) (size-test s)
+    (ap not (sym c.before.is_within.ensures) ∙ (ap not c.if-not-is_within.true))
 
 has_size-requires : tie.Need-has_size-requires
 has_size-requires c κs = tt
@@ -43,4 +44,5 @@ returns-else-has_size c =
     (ap not (sym c.before.has_size.ensures ∙ c.if-has_size.false))
 
 pub grid_refusal_spec : {M : Type 1} → statement M
-grid_refusal_spec = tie.close (tie.spec is_within-requires returns-then-not-is_within has_size-requires returns-then-has_size returns-else-has_size)
+grid_refusal_spec = tie.close (tie.spec is_within-requires returns-then-not-is_within has_size-requires returns-then-has_size
+    returns-else-has_size)

@@ -32,4 +32,5 @@ returns-else-is_nothing c =
 
 pub instrument_refusal_spec : {M : Type 1} → statement M
 instrument_refusal_spec =
-    tie.close (tie.spec grid_refusal-r-requires is_nothing-requires settings_refusal-requires returns-then-is_nothing returns-else-is_nothing)
+    tie.close (tie.spec grid_refusal-r-requires is_nothing-requires settings_refusal-requires returns-then-is_nothing
+    returns-else-is_nothing)

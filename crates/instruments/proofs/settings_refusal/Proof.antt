@@ -34,4 +34,5 @@ returns-else-is_stable c =
     (sym e.before.wrong_coefficient.ensures ∙ e.if-wrong_coefficient.false) (ap not (sym c.before.is_stable.ensures ∙ c.if-is_stable.false))
 
 pub settings_refusal_spec : {M : Type 1} → statement M
-settings_refusal_spec = tie.close (tie.spec wrong_coefficient-requires returns-then-wrong_coefficient is_stable-requires returns-then-is_stable returns-else-is_stable)
+settings_refusal_spec = tie.close (tie.spec wrong_coefficient-requires returns-then-wrong_coefficient is_stable-requires
+    returns-then-is_stable returns-else-is_stable)

@@ -9,7 +9,8 @@ use Rattle.types.specs.declared.Refusal.{Refusal}
 use Rattle.types.specs.declared.Refusal.TheVariants.{WrongLength, PickUp}
 use Rattle.scheme.specs.Instruments.{points, in_table}
 use Rattle.scheme.specs.Step.{some_beyond}
-use Rattle.scheme.specs.Refusals.{last_kind, wrong_length, fixed_not_zero, Check, lowest, grid_checks, length_checks, pick_checks, state_checks}
+use Rattle.scheme.specs.Refusals.{last_kind, wrong_length, fixed_not_zero, Check, lowest, grid_checks, length_checks, pick_checks}
+use Rattle.scheme.specs.Refusals.{state_checks}
 use Rattle.scheme.specs.Refusals.{not_grid_point, reading_refusal}
 use Rattle.scheme.proofs.Laws.Refusals.{right-length}
 use Rattle.instruments.proofs.RefusalLaws.{refused_here, passed_here, passed, refused_by_lem, goes_on_lem, grid_in, long_is}

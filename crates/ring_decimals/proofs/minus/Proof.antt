@@ -34,7 +34,8 @@ overflow_cast-result : tie.Need-overflow_cast-result
 overflow_cast-result c = search rules
 
 overflow_sub-result-2 : tie.Need-overflow_sub-result-2
-overflow_sub-result-2 c = let s = c.before in subst (SFits w64) (sym (computed s.args.n c.if-n-eq0.false s.requires)) (inside s.args.n s.requires)
+overflow_sub-result-2 c = let s = c.before in subst (SFits w64) (sym (computed s.args.n c.if-n-eq0.false s.requires))
+    (inside s.args.n s.requires)
 
 returns : tie.Need-returns
 returns c =

@@ -1,5 +1,6 @@
 -- `round_by` meets its contract: the quotient and the remainder of the raised size, with the sign of n.
-use Rattle.std.proofs.Common.{◌≡◌, ℕ, ◌+◌, ◌/◌, ◌%◌, ◌^◌, ◌≤◌, ℤ, pos, ◌-ℤ◌, nat_abs, ap, ◌∙◌, le_trans, mod-lt, arith, w64, to_z, of_z, rules}
+use Rattle.std.proofs.Common.{◌≡◌, ℕ, ◌+◌, ◌/◌, ◌%◌, ◌^◌, ◌≤◌, ℤ, pos, ◌-ℤ◌, nat_abs, ap, ◌∙◌, le_trans, mod-lt, arith, w64, to_z, of_z}
+use Rattle.std.proofs.Common.{rules}
 use Rattle.bounded.proofs.Num.{back}
 use Rattle.bounded.proofs.Expr.{E, at, ◌⊟◌, fits, is, size, said}
 use Rattle.rounding.specs.Rounding.{with_sign, rounded_by}

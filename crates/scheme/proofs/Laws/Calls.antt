@@ -26,7 +26,8 @@ use Rattle.scheme.specs.Lists.{point}
 use Rattle.scheme.specs.Instruments.{points, fixed}
 use Rattle.scheme.specs.Step.{next_level, inexact_in, some_beyond, sample_of, float_of}
 use Rattle.scheme.specs.Pluck.{pluck_level}
-use Rattle.scheme.specs.Refusals.{wrong_length, fixed_not_zero, broken_table, pluck_checks, block_refusal, pluck_refusal, pluck_with_refusal}
+use Rattle.scheme.specs.Refusals.{wrong_length, fixed_not_zero, broken_table, pluck_checks, block_refusal, pluck_refusal}
+use Rattle.scheme.specs.Refusals.{pluck_with_refusal}
 use Rattle.scheme.specs.Refusals.{reading_refusal}
 use Rattle.scheme.specs.Calls.{accepted, AfterSteps, ended, one_more, play, levels_after, inexact_after, hit_after, StandsBehind}
 use Rattle.scheme.specs.Calls.{StepsStandBehind, AfterBlock, capped, with_work_zero, block_refused, block, overwritten, pluck_refused}
@@ -53,7 +54,8 @@ next_passes i h older newer e = record {
 -- ---- the steps of a block
 
 module _ (i : Instrument) (pick : ℕ) (h : Hit) (older newer : List ℤ) (x : ℤ) (xs : List ℤ) where
-  pub play-ends : some_beyond (next_level i h older newer) ≡ true → play i pick h older newer (x ∷ xs) ≡ ended NextBeyond older newer (x ∷ xs)
+  pub play-ends : some_beyond (next_level i h older newer) ≡ true → play i pick h older newer (x ∷ xs) ≡ ended NextBeyond older newer
+      (x ∷ xs)
   unfolding play
   play-ends e = simp e
 
@@ -91,7 +93,8 @@ stands_behind i pick h older newer (x ∷ xs) = go (some_beyond (next_level i h 
     same zero = refl
     same (suc k) = refl
 
-    go : (t : Bool) → some_beyond next ≡ t → StandsBehind i pick Absent newer next xs rest → StandsBehind i pick h older newer (x ∷ xs) (P t)
+    go : (t : Bool) → some_beyond next ≡ t → StandsBehind i pick Absent newer next xs rest → StandsBehind i pick h older newer (x ∷ xs)
+        (P t)
     go true e w = record {
       older_is = refl;
       newer_is = refl;

@@ -14,7 +14,8 @@ use Rattle.types.specs.declared.Grid.{Grid}
 use Rattle.types.specs.Numbers.{D}
 use Rattle.scheme.specs.Lists.{only}
 use Rattle.scheme.specs.Instruments.{Kind, unknown, fixedString, halfFreeString, freeString, bar, membrane, roundMembrane, plate}
-use Rattle.scheme.specs.Instruments.{kind, within, line_size, grid_size, size_in, stable_in, points, column, row, at_edge, free_in, free_end}
+use Rattle.scheme.specs.Instruments.{kind, within, line_size, grid_size, size_in, stable_in, points, column, row, at_edge, free_in}
+use Rattle.scheme.specs.Instruments.{free_end}
 use Rattle.scheme.specs.Step.{beside}
 use Rattle.scheme.specs.Energy.{weight}
 use Rattle.scheme.proofs.Laws.Bools.{and_both, and_yes, same}

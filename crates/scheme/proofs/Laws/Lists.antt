@@ -60,7 +60,7 @@ pub times-times : (a b : ℤ) (xs : List ℤ) → times (b *ℤ a) xs ≡ times 
 times-times a b [] = refl
 times-times a b (x ∷ xs) = ap₂ ◌∷◌ (ring 3 (λ a b x. (b ⊗ a) ⊗ x ≈ a ⊗ (b ⊗ x)) refl a b x) (times-times a b xs)
 
--- ---- someBelow
+-- ---- some_below
 
 -- none below n passes: at each
 pub none_at : (n : ℕ) (p : ℕ → Bool) → some_below n p ≡ false → (i : ℕ) → i < n → p i ≡ false
@@ -81,7 +81,7 @@ none_below (suc n) p h = neither_or (none_below n p (λ i q. h i (omega arith)))
 pub some_at : (n : ℕ) (p : ℕ → Bool) (i : ℕ) → i < n → p i ≡ true → some_below n p ≡ true
 some_at n p i h e = cases (λ b. b ≡ true) (some_below n p) (λ q. refl) (λ q. absurd (true≢false (sym e ∙ none_at n p q i h)))
 
--- ---- countBelow
+-- ---- count_below
 
 -- one more
 pub count_next : (p : ℕ → Bool) (n : ℕ) → count_below (n + 1) p ≡ count_below n p + cond (p n) 1 0

@@ -119,7 +119,8 @@ pluck_checks_even : (g : Grid) (older newer : List ℤ) (c w : ℕ) (a : ℤ)
     → pluck_checks g (wrong_length g (length (negated older)) || wrong_length g (length (negated newer))) c w (neg_ℤ a)
     ≡ pluck_checks g (wrong_length g (length older) || wrong_length g (length newer)) c w a
 pluck_checks_even g older newer c w a = λ x.
-    grid_checks last_plucked g ++ (length_checks (wrong_length g (length-map older neg_ℤ x) || wrong_length g (length-map newer neg_ℤ x)) ++ (
+    grid_checks last_plucked g ++ (length_checks (wrong_length g (length-map older neg_ℤ x) || wrong_length g (length-map newer neg_ℤ x))
+    ++ (
     hit_even g (At c a) x ++ width_checks g w))
 
 pub pluck-refusal_even : (g : Grid) (older newer : List ℤ) (c w : ℕ) (a : ℤ)

@@ -30,7 +30,8 @@ neg-gap : (a b k : ℕ) → 2 * b ≤ 2 * a + k → 2 * a ≤ 2 * b + k → 2 * 
 neg-gap zero b k h l = omega arith
 neg-gap (suc a) b k h l = gap b (suc a) k l h
 
-neg_near : (m k q : ℕ) → (2 * (k * q) ≤ 2 * suc m + k) × (2 * suc m ≤ 2 * (k * q) + k) → 2 * nat_abs (pos k *ℤ neg_ℤ (pos q) -ℤ negsuc m) ≤ k
+neg_near : (m k q : ℕ) → (2 * (k * q) ≤ 2 * suc m + k) × (2 * suc m ≤ 2 * (k * q) + k) → 2 * nat_abs (pos k *ℤ neg_ℤ (pos q) -ℤ negsuc m)
+    ≤ k
 neg_near m k zero w = omega arith
 neg_near m k (suc q) w = neg-gap (k * suc q) (suc m) k w.1 w.0
 

@@ -18,7 +18,8 @@ use Rattle.scheme.specs.Pluck.{pluck_level}
 use Rattle.scheme.specs.Refusals.{wrong_length, block_refusal, pluck_refusal, pluck_with_refusal}
 use Rattle.scheme.specs.Calls.{accepted, AfterSteps, play, levels_after, inexact_after, capped, AfterBlock, AfterPluck, block}
 use Rattle.scheme.specs.Calls.{block_in_place, pluck_by, pluck, pluck_with}
-use Rattle.scheme.specs.Book.{fresh, book_block, book_pluck, sum_block, sum_pluck, Call, block_call, in_place_call, pluck_call, pluck_with_call}
+use Rattle.scheme.specs.Book.{fresh, book_block, book_pluck, sum_block, sum_pluck, Call, block_call, in_place_call, pluck_call}
+use Rattle.scheme.specs.Book.{pluck_with_call}
 use Rattle.scheme.specs.Book.{leaves, book_call, sum_call, State, state_after, called, calls, Outcome, EachCall}
 use Rattle.scheme.specs.Passing.{InstrumentPasses}
 use Rattle.scheme.proofs.Laws.Refusals.{accepted_is, instrument_passes, block_passes}

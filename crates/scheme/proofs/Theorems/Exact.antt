@@ -20,7 +20,8 @@ use Rattle.scheme.specs.Step.{laplacian, biharmonic, numerator_of, numerator, ro
 use Rattle.scheme.specs.Step.{is_multiple, inexact_at, inexact_in}
 use Rattle.scheme.specs.Calls.{accepted, Levels, levels_after, inexact_after, capped}
 use Rattle.scheme.specs.Book.{LastStep, no_step, step_of, Book, fresh, scale, unrounded_at, unrounded_step, unrounded_steps, goes_on}
-use Rattle.scheme.specs.Book.{book_block, sum_block, sum_pluck, sum_call, Call, block_call, in_place_call, pluck_call, pluck_with_call, Outcome}
+use Rattle.scheme.specs.Book.{book_block, sum_block, sum_pluck, sum_call, Call, block_call, in_place_call, pluck_call, pluck_with_call}
+use Rattle.scheme.specs.Book.{Outcome}
 use Rattle.scheme.specs.Book.{steps_of, inexact_of, refusal_of, State, start, state_after, called, calls, EachCall}
 use Rattle.scheme.specs.Program.{Made, after_all, EachMade}
 use Rattle.scheme.specs.Exact.{book_scale, Unrounded, NoneInexact, ExactSince, ExactFromStart, ProgramExactSince}

@@ -44,7 +44,8 @@ times-negated : (z : ℤ) (xs : List ℤ) → times z (negated xs) ≡ negated (
 times-negated z [] = refl
 times-negated z (x ∷ xs) = ap₂ ◌∷◌ (ring 2 (λ z x. z ⊗ (⊝ x) ≈ ⊝ (z ⊗ x)) refl z x) (times-negated z xs)
 
-unrounded_mirrored : (i : Instrument) (h : Hit) (b : Book) → unrounded_step i (mirror_hit h) (mirror_book b) ≡ mirror_book (unrounded_step i h b)
+unrounded_mirrored : (i : Instrument) (h : Hit) (b : Book) → unrounded_step i (mirror_hit h) (mirror_book b) ≡ mirror_book
+    (unrounded_step i h b)
 unfolding unrounded_step unrounded_at
 unrounded_mirrored i h b = λ x. record {
   n = suc b.n;

@@ -17,7 +17,8 @@ refused-requires : tie.Need-refused-requires
 refused-requires c κs = search rules
 
 returns-then-some_outside : tie.Need-returns-then-some_outside
-returns-then-some_outside c = c.refused.ensures ∙ sym (applies Coefficient _ _ refl c.before.before.some_outside.ensures c.if-some_outside.true)
+returns-then-some_outside c = c.refused.ensures ∙ sym (applies Coefficient _ _ refl c.before.before.some_outside.ensures
+    c.if-some_outside.true)
 
 settings-settings-requires : tie.Need-settings-settings-requires
 settings-settings-requires c κs = search rules

@@ -28,4 +28,5 @@ unfolding size_in
 returns-in_default-2 c = simp (kind_none c.before.args.g.kind (λ l. omega arith))
 
 pub has_size_spec : {M : Type 1} → statement M
-has_size_spec = tie.close (tie.spec is_sized-requires is_grid_sized-requires returns-in-1-to-4 returns-in-5-to-7 returns-in_default returns-in_default-2)
+has_size_spec = tie.close (tie.spec is_sized-requires is_grid_sized-requires returns-in-1-to-4 returns-in-5-to-7 returns-in_default
+    returns-in_default-2)

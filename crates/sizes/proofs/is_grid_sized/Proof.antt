@@ -21,7 +21,8 @@ is_sized-requires-in_default : tie.Need-is_sized-requires-in_default
 is_sized-requires-in_default c κs = tt
 
 returns-in_default : tie.Need-returns-in_default
-returns-in_default c = let p = c.before.before.requires in c.is_sized-in_default.ensures ∙ sym (grid-size _ _ _ c.before.in_default.in_default-own.rest.1 p.0 p.1)
+returns-in_default c = let p = c.before.before.requires in c.is_sized-in_default.ensures ∙ sym
+    (grid-size _ _ _ c.before.in_default.in_default-own.rest.1 p.0 p.1)
 
 pub is_grid_sized_spec : {M : Type 1} → statement M
 is_grid_sized_spec = tie.close (tie.spec is_sized-requires is_sized-requires-in_default returns-in-6 returns-in_default)

@@ -11,7 +11,8 @@ is_within-requires-then-is_within : tie.Need-is_within-requires-then-is_within
 is_within-requires-then-is_within c κs = tt
 
 returns-then-is_within : tie.Need-returns-then-is_within
-returns-then-is_within c = c.is_within-then-is_within.ensures ∙ sym (and_yes (sym c.before.before.is_within.ensures ∙ c.before.if-is_within.true))
+returns-then-is_within c = c.is_within-then-is_within.ensures ∙ sym
+    (and_yes (sym c.before.before.is_within.ensures ∙ c.before.if-is_within.true))
 
 returns-else-is_within : tie.Need-returns-else-is_within
 returns-else-is_within c = sym (and_no _ (sym c.before.is_within.ensures ∙ c.if-is_within.false))

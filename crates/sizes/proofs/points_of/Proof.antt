@@ -38,7 +38,8 @@ returns-then-has_size : tie.Need-returns-then-has_size
 returns-then-has_size c = in_table_lem c.before (search mul_comm)
 
 returns-else-has_size : tie.Need-returns-else-has_size
-returns-else-has_size c = sym (ap (λ (t : Bool). cond t (points c.before.before.args.g) 0) (sym c.before.has_size.ensures ∙ c.if-has_size.false))
+returns-else-has_size c = sym (ap (λ (t : Bool). cond t (points c.before.before.args.g) 0)
+    (sym c.before.has_size.ensures ∙ c.if-has_size.false))
 
 pub points_of_spec : {M : Type 1} → statement M
 points_of_spec = tie.close (tie.spec has_size-requires overflow_mul-result returns-then-has_size returns-else-has_size)

@@ -71,4 +71,5 @@ returns c =
 
 pub stretch_end_spec : {M : Type 1} → statement M
 stretch_end_spec =
-    tie.close (tie.spec enum_known-hit enum_told-1 returns-in_default returns-then-point-a overflow_add-result returns-then-a-e returns-then-point-a-2 clamped-requires returns)
+    tie.close (tie.spec enum_known-hit enum_told-1 returns-in_default returns-then-point-a overflow_add-result returns-then-a-e
+    returns-then-point-a-2 clamped-requires returns)

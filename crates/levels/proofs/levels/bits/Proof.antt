@@ -51,4 +51,5 @@ returns c = ap nat_abs (up_at c) ∙ ap bits_of (sym (not-below c.args.v (below 
 
 pub bits_spec : {M : Type 1} → statement M
 bits_spec =
-    tie.close (tie.spec overflow_sub-result overflow_cast-result overflow_sub-result-then-v-lt0 returns-then-v-lt0 overflow_cast-result-2 returns)
+    tie.close (tie.spec overflow_sub-result overflow_cast-result overflow_sub-result-then-v-lt0 returns-then-v-lt0 overflow_cast-result-2
+    returns)

@@ -1,5 +1,6 @@
 -- `is_line_unfixed` meets its contract: the ends that the kind fixes.
-use Rattle.std.proofs.Common.{◌≡◌, ℕ, ◌-◌, ◌^◌, ◌<◌, ◌≤◌, ◌||◌, ltb, length, ℤ, nat_abs, sym, refl, ap, ◌∙◌, ap₂, arith, w64, to_z, of_z, rules}
+use Rattle.std.proofs.Common.{◌≡◌, ℕ, ◌-◌, ◌^◌, ◌<◌, ◌≤◌, ◌||◌, ltb, length, ℤ, nat_abs, sym, refl, ap, ◌∙◌, ap₂, arith, w64, to_z, of_z}
+use Rattle.std.proofs.Common.{rules}
 use lib.Signed.{mag}
 use Rattle.bounded.proofs.Num.{back}
 use Rattle.scheme.specs.Lists.{point}
@@ -71,7 +72,8 @@ returns-in_default c =
     let a = s.args in
     ap₂ ◌||◌ (c.is_not_zero-in_default.ensures ∙ read s 0 c.is_not_zero-arg-in_default-1.given)
     (c.is_not_zero-in_default-2.ensures ∙ read s (s.args.g.columns - 1) c.is_not_zero-arg-in_default-2-1.given)
-    ∙ sym (by-ends s refl ∙ both_ends_lem a.xs.now _ _ _ a.g.kind s.requires.1 m.in_default.in_default-own.rest.0.1 m.in_default.in_default-own.rest.1 s.requires.0)
+    ∙ sym (by-ends s refl ∙ both_ends_lem a.xs.now _ _ _ a.g.kind s.requires.1 m.in_default.in_default-own.rest.0.1
+    m.in_default.in_default-own.rest.1 s.requires.0)
 
 pub is_line_unfixed_spec : {M : Type 1} → statement M
 is_line_unfixed_spec =

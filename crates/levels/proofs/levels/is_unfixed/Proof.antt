@@ -30,7 +30,8 @@ points_of-requires c κs = tt
 
 returns-then-xs-points_of : tie.Need-returns-then-xs-points_of
 unfolding unfixed
-returns-then-xs-points_of c = sym (and_yes (size c.before.before) ∙ and_no _ (ne_eqb _ _ (λ e. c.if-xs-points_of.true (e ∙ sym (points-is c.before)))))
+returns-then-xs-points_of c = sym (and_yes (size c.before.before) ∙ and_no _
+    (ne_eqb _ _ (λ e. c.if-xs-points_of.true (e ∙ sym (points-is c.before)))))
 
 module _ (c : tie.Else-xs-points_of) where
   abbrev g : Grid

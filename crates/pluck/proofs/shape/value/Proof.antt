@@ -87,4 +87,5 @@ returns c =
 pub value_spec : {M : Type 1} → statement M
 value_spec =
     tie.close
-    (tie.spec overflow_sub-j overflow_mul-j offset_bounds-table-j bounds-table-j overflow_cast-t overflow_mul-result nonzero_div-result returns)
+    (tie.spec overflow_sub-j overflow_mul-j offset_bounds-table-j bounds-table-j overflow_cast-t overflow_mul-result nonzero_div-result
+    returns)

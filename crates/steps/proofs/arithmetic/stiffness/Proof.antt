@@ -32,4 +32,5 @@ returns : tie.Need-returns
 returns c = let s = at-stiff c in is (N.stiff# s.requires.0 s.requires.1) tt ∙ N.stiffness_is s.requires.0 s.requires.1
 
 pub stiffness_spec : {M : Type 1} → statement M
-stiffness_spec = tie.close (tie.spec overflow_mul-result overflow_mul-result-2 overflow_sub-result overflow_mul-result-3 overflow_add-result returns)
+stiffness_spec = tie.close (tie.spec overflow_mul-result overflow_mul-result-2 overflow_sub-result overflow_mul-result-3
+    overflow_add-result returns)

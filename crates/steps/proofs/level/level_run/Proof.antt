@@ -149,7 +149,8 @@ returns-then-not-p c =
     stepped-not p (rows_stop p (inv t) (below t) (here t) refl (left o) beyond) beyond
 
 -- its answer, once it was looked at
-abbrev looked : tie.After-struct_known-in-loop-row-1 invariant-loop-row decreases-loop-row → tie.After-out-1 invariant-loop-row decreases-loop-row
+abbrev looked : tie.After-struct_known-in-loop-row-1 invariant-loop-row decreases-loop-row → tie.After-out-1 invariant-loop-row
+    decreases-loop-row
 looked c = c.before.before.before
 
 overflow_add-inexact : tie.Need-overflow_add-inexact invariant-loop-row decreases-loop-row

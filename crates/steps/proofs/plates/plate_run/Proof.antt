@@ -77,7 +77,8 @@ returns-then-not-p c =
     )
 
 -- its answer, once it was looked at
-abbrev looked : tie.After-struct_known-in-loop-at-2-1 invariant-loop-at decreases-loop-at → tie.After-out-1 invariant-loop-at decreases-loop-at
+abbrev looked : tie.After-struct_known-in-loop-at-2-1 invariant-loop-at decreases-loop-at → tie.After-out-1 invariant-loop-at
+    decreases-loop-at
 looked c = c.before.before.before
 
 overflow_add-inexact : tie.Need-overflow_add-inexact invariant-loop-at decreases-loop-at

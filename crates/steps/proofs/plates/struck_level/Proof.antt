@@ -19,12 +19,14 @@ use Rattle.steps.proofs.plates.struck_level.Statement.{statement}
 use Rattle.steps.proofs.plates.struck_level.Tie as tie
 
 abbrev invariant-loop-row : tie.invariant-loop-row
-invariant-loop-row plan older₀ newer out₀ hit write in_place columns ring sums₀ inexact₀ other₀ here₀ row₀ start₀ older out sums inexact other
+invariant-loop-row plan older₀ newer out₀ hit write in_place columns ring sums₀ inexact₀ other₀ here₀ row₀ start₀ older out sums inexact
+    other
     here row start =
     PlateRows plan.instrument hit write in_place older₀ newer out₀ older out sums other here row start inexact
 
 abbrev decreases-loop-row : tie.decreases-loop-row
-decreases-loop-row plan older₀ newer out₀ hit write in_place columns ring sums₀ inexact₀ other₀ here₀ row₀ start₀ older out sums inexact other
+decreases-loop-row plan older₀ newer out₀ hit write in_place columns ring sums₀ inexact₀ other₀ here₀ row₀ start₀ older out sums inexact
+    other
     here row start = ring - row
 
 -- what the caller showed

@@ -39,7 +39,13 @@ module _ (c : tie.After-stretch_at-s invariant-loop-at decreases-loop-at) where
 
   struck : Struck s.args.plan s.args.hit s.args.older.now s.args.newer.now s.args.row s.args.out.now
       loop.loop-at.out loop.loop-at.at loop.loop-at.inexact c.stretch_at-s.result
-  struck = record { moves = s.requires.1.1.1.moves; inv = loop.loop-at.invariant.0; more = c.loop-at-test.true; is = c.stretch_at-s.ensures }
+  struck = record {
+    moves = s.requires.1.1.1.moves;
+    inv = loop.loop-at.invariant.0;
+    more = c.loop-at-test.true;
+    is =
+        c.stretch_at-s.ensures;
+  }
 
 -- once the stretch is done
 abbrev done : tie.After-out-in-loop-at-1 invariant-loop-at decreases-loop-at → tie.After-stretch_at-s invariant-loop-at decreases-loop-at
@@ -114,7 +120,8 @@ returns-then-not-p c =
     )
 
 -- its answer, once it was looked at
-abbrev looked : tie.After-struct_known-in-loop-at-2-1 invariant-loop-at decreases-loop-at → tie.After-out-in-loop-at-1 invariant-loop-at decreases-loop-at
+abbrev looked : tie.After-struct_known-in-loop-at-2-1 invariant-loop-at decreases-loop-at → tie.After-out-in-loop-at-1 invariant-loop-at
+    decreases-loop-at
 looked c = c.before.before.before
 
 overflow_add-inexact : tie.Need-overflow_add-inexact invariant-loop-at decreases-loop-at

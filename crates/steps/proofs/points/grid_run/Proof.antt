@@ -109,7 +109,8 @@ shape_of-out-then-not-p : tie.Need-shape_of-out-then-not-p invariant-loop-at dec
 shape_of-out-then-not-p c = search rules
 
 -- its answer, once it was looked at
-abbrev done : tie.After-struct_known-in-loop-at-2-1 invariant-loop-at decreases-loop-at → tie.After-out-1 invariant-loop-at decreases-loop-at
+abbrev done : tie.After-struct_known-in-loop-at-2-1 invariant-loop-at decreases-loop-at → tie.After-out-1 invariant-loop-at
+    decreases-loop-at
 done c = c.before.before.before
 
 returns-then-not-p : tie.Need-returns-then-not-p invariant-loop-at decreases-loop-at

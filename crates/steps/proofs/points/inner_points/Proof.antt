@@ -31,4 +31,5 @@ returns : tie.Need-returns
 returns c = c.bar_run.ensures
 
 pub inner_points_spec : {M : Type 1} → statement M
-inner_points_spec = tie.close (tie.spec line_run-requires shape_of-out-then-plan-eq0 returns-then-plan-eq0 bar_run-requires shape_of-out returns)
+inner_points_spec = tie.close (tie.spec line_run-requires shape_of-out-then-plan-eq0 returns-then-plan-eq0 bar_run-requires shape_of-out
+    returns)

@@ -158,7 +158,8 @@ shape_of-out-else-rounded-eq0 c = search rules
 returns-else-rounded-eq0 : tie.Need-returns-else-rounded-eq0
 returns-else-rounded-eq0 c =
     let r = c.before.before.before.before.before in
-    written r false (remainder_some (n r) (d (within r).before) (omega arith) (λ e. c.if-rounded-eq0.false (ap (of_z w64) (remainder_is r ∙ e))))
+    written r false (remainder_some (n r) (d (within r).before) (omega arith)
+    (λ e. c.if-rounded-eq0.false (ap (of_z w64) (remainder_is r ∙ e))))
 
 pub next_point_spec : {M : Type 1} → statement M
 next_point_spec =

@@ -24,4 +24,5 @@ returns : tie.Need-returns
 returns c = c.is_string_within.ensures
 
 pub is_row_within_spec : {M : Type 1} → statement M
-is_row_within_spec = tie.close (tie.spec is_grid_within-requires returns-then-plan-ne1 returns-then-from-to is_string_within-requires returns)
+is_row_within_spec = tie.close (tie.spec is_grid_within-requires returns-then-plan-ne1 returns-then-from-to is_string_within-requires
+    returns)
