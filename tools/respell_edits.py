@@ -30,6 +30,12 @@ PATHS = {
 PRELUDE = "use Rattle.std.specs.Prelude.{"
 # By hand: where a text is laid out otherwise, or a word is of another name. Edit -> pairs (file, old, new).
 BY_HAND = {
+    "crates/pluck/must-fail/point_after_the_run_put.edit": [
+        ("src/shape.rt", "let inside = d < shape.run.to", "let inside = d <= shape.run.to"),
+    ],
+    "crates/pluck/true-variants/point_after_the_run_put.edit": [
+        ("src/shape.rt", "let inside = d < shape.run.to - shape.centre;", "let inside = shape.run.to - shape.centre > d;"),
+    ],
     "crates/ring_decimals/must-fail/empty_field_as_0.edit": [
         ("src/lib.rt", "let empty = digits.len() == 0;", "let empty = digits.len() < 0;"),
     ],

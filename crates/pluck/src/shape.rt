@@ -46,7 +46,8 @@ fn put_both(shape: Shape, d: usize, v: i64, level: &mut [i64])
     if d <= shape.centre - shape.run.from {
         level[shape.centre - d] = v;
     }
-    if d < shape.run.to - shape.centre {
+    let inside = d < shape.run.to - shape.centre;
+    if inside {
         level[shape.centre + d] = v;
     }
 }
