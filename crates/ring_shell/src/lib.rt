@@ -85,7 +85,7 @@ fn room() -> [u8; 98320]
 }
 
 // Writes what `ring` prints where the reader is its standard input. A read that fails ends it with that error before anything is written,
-// a write that fails where it fails.
+// a write that fails where it fails. Ruled out: nothing written; the answer to no bytes. What is left of the reader is not said.
 pub fn print_answer<R: Read, W: Write>(input: &mut R, output: &mut W) -> io::Result<()>
     ensures { OnOk result (IfSome (R.remaining input.old) (λ all. Appends (W.contents output.old) (W.contents output.new) (answer all))) }
 {
