@@ -203,7 +203,7 @@ CopyPlucksAlike = (g : Grid) (older newer : List ℤ) (c w : ℕ) (a : ℤ) → 
 
 -- ---- the float reading
 
--- what a call answers that r refuses, or that answers x
+-- what a call answers: what refuses it, or x where nothing does
 abbrev pub answered : {A : Type 0} → Result Unit Refusal → A → Result A Refusal
 answered (Ok done) x = Ok x
 answered (Err r) x = Err r

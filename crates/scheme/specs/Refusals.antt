@@ -14,7 +14,7 @@ use Rattle.scheme.specs.Lists.{point, some_below}
 use Rattle.scheme.specs.Instruments.{kind, beyond, points, within, in_table, stable_in, fixed, moving}
 use Rattle.scheme.specs.Step.{some_beyond}
 
--- the paper's number of each, 0 for none, is `number` of crate types
+-- the paper's number of each is `number` of crate types, that of an outcome, 0 for none, `number_of`
 
 -- the last kind, and the last that a pluck admits
 abbrev pub last_kind : ℕ

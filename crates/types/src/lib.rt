@@ -41,7 +41,7 @@ impl Settings {
     }
 }
 
-// The kinds, by the names of the C header. Each that an instrument may have is cast to its number there.
+// The kinds, in the order of their numbers, by the names of the C header; every number from 8 on is of an unknown one, as 0 is.
 #[derive(Clone, Copy, PartialEq, Eq)]
 pub enum Kind {
     Unknown,
@@ -145,7 +145,7 @@ impl Refusal {
     }
 }
 
-// Whether a call is carried out, or what refuses it.
+// That a call is carried out, or what refuses it.
 pub type Outcome = Result<(), Refusal>;
 
 // The number of an outcome, 0 where the call is carried out. Ruled out: 1 for a call that is carried out; 0 for a refused one.
