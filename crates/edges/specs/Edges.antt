@@ -5,10 +5,6 @@ use Rattle.scheme.specs.Lists.{tabulate}
 use Rattle.kinds.specs.declared.runs.Run.{Run}
 use Rattle.kinds.specs.Runs.{row_run}
 
--- 64 rows have places
-abbrev pub kept_rows : ℕ → ℕ
-kept_rows rows = cond (ltb rows 64) rows 64
-
 -- the point in a column of a row, in 16 bits
 abbrev pub point_at : (columns row column : ℕ) → ℕ
 point_at columns row column = (row * columns + column) % 65536

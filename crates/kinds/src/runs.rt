@@ -12,6 +12,10 @@ pub struct Run {
     pub to: usize,
 }
 
+impl Run {
+    pub const NONE: Run = Run { from: 0, to: 0 };
+}
+
 // Whether column a of row b is at the edge of a round membrane of c columns.
 // 4a(c − 1 − a) is what (2a − c + 1)² lacks of (c − 1)²: by it the test has no sign, and takes no branch.
 fn is_round_edge(c: usize, a: usize, b: usize) -> bool
@@ -26,10 +30,7 @@ fn is_round_edge(c: usize, a: usize, b: usize) -> bool
 fn is_on_square(c: usize, a: usize, b: usize) -> bool
     ensures { result ≡ on_square c a b }
 {
-    if 64 < c {
-        return false;
-    }
-    if a < c { b < c } else { false }
+    c <= 64 && a < c && b < c
 }
 
 // Whether column a of row b is a fixed point of a round membrane of c columns, of 64 at most.
@@ -37,25 +38,20 @@ fn is_on_square(c: usize, a: usize, b: usize) -> bool
 pub fn is_round_fixed(c: usize, a: usize, b: usize) -> bool
     ensures { result ≡ (on_square c a b && round_edge c a b) }
 {
-    if is_on_square(c, a, b) {
-        is_round_edge(c, a, b)
-    } else {
-        false
-    }
+    is_on_square(c, a, b) && is_round_edge(c, a, b)
 }
 
 // Row b of a rectangular membrane or of a plate, of c columns and r rows.
+#[tactic(auto, unfolding(crate::specs::Runs::inner_run))]
 fn inner_run(c: usize, r: usize, b: usize) -> Run
     requires { (1 ≤ c) × (b < r) }
     ensures { result ≡ inner_run c r b }
 {
-    if b == 0 {
-        return Run { from: 0, to: 0 };
+    if b == 0 || b + 1 == r {
+        Run::NONE
+    } else {
+        Run { from: 1, to: c - 1 }
     }
-    if b + 1 == r {
-        return Run { from: 0, to: 0 };
-    }
-    Run { from: 1, to: c - 1 }
 }
 
 // Row b of c columns and r rows of a kind that is not round, whatever its size.
@@ -64,10 +60,10 @@ pub fn straight_run(kind: u64, c: usize, r: usize, b: usize) -> Run
     ensures { result ≡ straight_run kind c r b }
 {
     if c == 0 {
-        return Run { from: 0, to: 0 };
+        return Run::NONE;
     }
     if r <= b {
-        return Run { from: 0, to: 0 };
+        return Run::NONE;
     }
     let last = c - 1;
     match kind {
@@ -75,6 +71,6 @@ pub fn straight_run(kind: u64, c: usize, r: usize, b: usize) -> Run
         Grid::STRING_FIXED_FREE => Run { from: 1, to: c },
         Grid::STRING_FREE => Run { from: 0, to: c },
         Grid::MEMBRANE_RECTANGULAR | Grid::PLATE => inner_run(c, r, b),
-        _ => Run { from: 0, to: 0 },
+        _ => Run::NONE,
     }
 }

@@ -2,6 +2,11 @@
 use Rattle.std.proofs.Common.{◌≡◌, ℕ, zero, suc, ◌+◌, ◌-◌, ◌*◌, ◌^◌, ◌<◌, ◌≤◌, Bool, true, false, not, ◌&&◌, ◌||◌, T, eqb, ltb, List}
 use Rattle.std.proofs.Common.{length, ℤ, pos, negsuc, nat_abs, sym, refl, ap, ◌∙◌, subst, ap₂, subst₂, le_refl, add_assoc, suc-mul}
 use Rattle.std.proofs.Common.{mul_comm, mul-le-mul, add-one, arith, w64, to_z, of_z, lt-ltb, eq-eqb, eqb-true}
+use Rattle.std.specs.Prelude.{nat_lt, unsigned_abs, slice_range}
+use Rattle.std.specs.List.{list_any}
+use Rattle.std.proofs.lemmas.List.Folds.{list_any_more}
+use Rattle.std.proofs.Common.{take, drop, length-drop}
+use Rattle.std.proofs.lemmas.List.{get_or-drop}
 use borrow.Author.Tests.{eqb-false}
 use lib.Arith.{digits_div, digits_mod}
 use lib.Dec.{leb-suc-suc}
@@ -9,7 +14,7 @@ use lib.Signed.{mag, lt_z}
 use Rattle.bounded.proofs.Num.{back}
 use Rattle.types.specs.declared.Grid.{Grid}
 use Rattle.scheme.proofs.Laws.Bools.{cases}
-use Rattle.scheme.specs.Lists.{some_below}
+use Rattle.scheme.specs.Lists.{point, some_below}
 use Rattle.scheme.specs.Instruments.{beyond, Kind, roundMembrane, points, column, row, round_edge, fixed_in, fixed}
 use Rattle.scheme.specs.Refusals.{fixed_not_zero}
 use Rattle.scheme.specs.Instruments.{in_table}
@@ -43,6 +48,24 @@ bits_not_zero (negsuc n) f = lt-ltb 0 (suc n) (omega arith)
 pub bits_test : (z : ℤ) → mag z < 2 ^ 63 → not (eqb (of_z w64 z) 0) ≡ ltb 0 (nat_abs z)
 bits_test z h = cases (λ (b : Bool). not b ≡ ltb 0 (nat_abs z)) (eqb (of_z w64 z) 0)
     (λ e. sym (bits_zero z h (eqb-true (of_z w64 z) 0 e))) (λ e. sym (bits_not_zero z (eqb-false (of_z w64 z) 0 e)))
+
+-- ---- some of the points from one on is not 0, as a part of the level has it
+
+any_first : (p : ℤ → Bool) (ys : List ℤ) (n : ℕ) → n ≤ length ys → list_any p (take n ys) ≡ some_below n (λ k. p (point ys k))
+unfolding some_below
+any_first p ys zero h = refl
+any_first p ys (suc n) h =
+    ap (λ (m : ℕ). list_any p (take m ys)) (sym (add-one n)) ∙ list_any_more p ys n (pos 0) (omega arith) ∙
+    ap (λ (t : Bool). t || p (point ys n)) (any_first p ys n (omega arith))
+
+pub some_of : (xs : List ℤ) (a n : ℕ) → a + n ≤ length xs
+    → list_any (λ v. nat_lt 0 (unsigned_abs v)) (slice_range xs a (a + n)) ≡ some_not_zero xs a n
+unfolding some_not_zero
+some_of xs a n h =
+    let test : ℤ → Bool = λ v. nat_lt 0 (unsigned_abs v) in
+    let m : a + n - a ≡ n = omega arith in
+    ap (λ (k : ℕ). list_any test (take k (drop a xs))) m ∙ any_first test (drop a xs) n (omega (arith, length-drop a xs)) ∙
+    some_ext n (λ k q. ap test (get_or-drop a xs k (pos 0)))
 
 -- ---- a fixed point that is not 0: row by row, outside each row's run
 

@@ -1,5 +1,5 @@
 -- Signs by bits, and points of a level that are not 0. Vocabulary between the engine's crates: no call that a maker embeds cites it.
-use Rattle.std.specs.Prelude.{ℕ, suc, ◌+◌, ◌-◌, ◌*◌, ◌^◌, Bool, false, ◌&&◌, ◌||◌, List, length, ℤ, pos, negsuc, ◌==◌, nat_le, nat_lt}
+use Rattle.std.specs.Prelude.{ℕ, ◌+◌, ◌-◌, ◌*◌, ◌^◌, Bool, false, ◌&&◌, ◌||◌, List, length, ℤ, ◌==◌, nat_le, nat_lt}
 use Rattle.std.specs.Prelude.{unsigned_abs}
 use Rattle.types.specs.declared.Grid.{Grid}
 use Rattle.scheme.specs.Lists.{point, some_below}
@@ -7,11 +7,6 @@ use Rattle.scheme.specs.Instruments.{Kind, unknown, fixedString, halfFreeString,
 use Rattle.scheme.specs.Instruments.{points, in_table, round_edge, fixed}
 use Rattle.scheme.specs.Refusals.{fixed_not_zero}
 use Rattle.kinds.specs.declared.runs.Run.{Run}
-
--- a number's bits, in two's complement of 64
-abbrev pub bits_of : ℤ → ℕ
-bits_of (pos n) = n
-bits_of (negsuc n) = 2 ^ 64 - suc n
 
 -- bits with the sign bit
 abbrev pub signed : ℕ → Bool

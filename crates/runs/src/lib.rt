@@ -14,14 +14,12 @@ fn round_run(c: usize, b: usize) -> Run
     requires { (c ≤ 64) × (b < c) }
     ensures { result ≡ round_run c b }
 {
-    let mut a = 0;
-    while a < c {
+    for a in 0..c {
         if !is_round_fixed(c, a, b) {
             return Run { from: a, to: c - a };
         }
-        a += 1;
     }
-    Run { from: 0, to: 0 }
+    Run::NONE
 }
 
 // Row b of c columns and r rows of a kind, whatever its size: that of a grid of the table, which is not tested for again.
@@ -31,13 +29,11 @@ pub fn row_run(kind: u64, c: usize, r: usize, b: usize) -> Run
 {
     match kind {
         Grid::MEMBRANE_ROUND => {
-            if 64 < c {
-                return Run { from: 0, to: 0 };
+            if c <= 64 && b < c {
+                round_run(c, b)
+            } else {
+                Run::NONE
             }
-            if c <= b {
-                return Run { from: 0, to: 0 };
-            }
-            round_run(c, b)
         }
         _ => straight_run(kind, c, r, b),
     }
@@ -46,7 +42,7 @@ pub fn row_run(kind: u64, c: usize, r: usize, b: usize) -> Run
 fn is_in(run: Run, a: usize) -> bool
     ensures { result ≡ in_run run a }
 {
-    if run.from <= a { a < run.to } else { false }
+    (run.from..run.to).contains(&a)
 }
 
 // Whether a point moves, by the run of its row; none does where the table does not have the grid's size.
@@ -60,8 +56,5 @@ pub fn is_moving(g: Grid, point: usize) -> bool
     let columns = g.columns;
     let row = point / columns;
     let a = point % columns;
-    if g.rows <= row {
-        return false;
-    }
-    is_in(row_run(g.kind, columns, g.rows, row), a)
+    row < g.rows && is_in(row_run(g.kind, columns, g.rows, row), a)
 }

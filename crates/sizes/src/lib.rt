@@ -11,18 +11,14 @@ use types::{Grid, Settings};
 pub fn is_within(a: usize, b: usize, n: usize) -> bool
     ensures { result ≡ within a b n }
 {
-    if a <= n { n <= b } else { false }
+    (a..=b).contains(&n)
 }
 
 // Whether there are 3..most columns and low..high rows.
 fn is_sized(columns: usize, most: usize, rows: usize, low: usize, high: usize) -> bool
     ensures { result ≡ (within 3 most columns && within low high rows) }
 {
-    if is_within(3, most, columns) {
-        is_within(low, high, rows)
-    } else {
-        false
-    }
+    is_within(3, most, columns) && is_within(low, high, rows)
 }
 
 // The same of kinds 5 to 7: a round membrane has as many rows as columns.
