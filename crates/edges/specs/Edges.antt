@@ -11,7 +11,7 @@ point_at columns row column = (row * columns + column) % 65536
 
 -- one end of the run of a row, as a point
 abbrev pub edge_of : Grid → (Run → ℕ) → (row : ℕ) → ℕ
-edge_of g end row = point_at g.columns row (end (row_run g.kind g.columns g.rows row))
+edge_of g end row = point_at g.columns row (end (row_run g row))
 
 -- what place k is for: the first moving point of row k, or from 64 on the point after the last of row k − 64
 abbrev pub edge_at : Grid → ℕ → ℕ

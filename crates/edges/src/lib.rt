@@ -22,7 +22,7 @@ pub fn row_edges(g: Grid, edges: &mut [u16; 128])
     ensures { edges.new ≡ edges_of g edges.old }
 {
     for row in 0..g.rows.min(64) {
-        let run = row_run(g.kind, g.columns, g.rows, row);
+        let run = row_run(g, row);
         edges[row] = point_at(g.columns, row, run.from);
         edges[64 + row] = point_at(g.columns, row, run.to);
     }

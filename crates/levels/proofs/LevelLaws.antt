@@ -15,14 +15,15 @@ use Rattle.bounded.proofs.Num.{back}
 use Rattle.types.specs.declared.Grid.{Grid}
 use Rattle.scheme.proofs.Laws.Bools.{cases}
 use Rattle.scheme.specs.Lists.{point, some_below}
-use Rattle.scheme.specs.Instruments.{beyond, Kind, roundMembrane, points, column, row, round_edge, fixed_in, fixed}
+use Rattle.types.specs.declared.Kind.{Kind}
+use Rattle.types.specs.declared.Kind.TheVariants.{MembraneRound}
+use Rattle.scheme.specs.Instruments.{beyond, kind, points, column, row, round_edge, fixed_in, fixed}
 use Rattle.scheme.specs.Refusals.{fixed_not_zero}
 use Rattle.scheme.specs.Instruments.{in_table}
 use Rattle.scheme.proofs.Laws.Bools.{and_yes}
 use Rattle.kinds.specs.Runs.{run_of}
 use Rattle.levels.specs.Levels.{not_zero, some_not_zero, row_not_zero, round_not_zero, row_unfixed, unfixed}
 use Rattle.kinds.proofs.SearchLaws.{some_ext, some_rows, some_outside_lem}
-use Rattle.sizes.proofs.KindLaws.{kind_is}
 use Rattle.kinds.proofs.RunLaws.{fixed-run, run_bounds}
 
 -- ---- beyond the ceiling, as code tests it
@@ -89,11 +90,11 @@ module _ (g : Grid) (xs : List ℤ) where
       (some_ext (g.columns - r.to) (λ a q. ap (not_zero xs) (sym (add_assoc (b * g.columns) r.to a))))
 
   -- of a round membrane by its edge
-  pub round_row : g.kind ≡ 6 → (b : ℕ) → row_unfixed g xs b ≡ round_not_zero xs (b * g.columns) g.columns b
+  pub round_row : kind g ≡ MembraneRound → (b : ℕ) → row_unfixed g xs b ≡ round_not_zero xs (b * g.columns) g.columns b
   unfolding fixed_in
   round_row e b = some_ext g.columns (λ a q. ap (λ (t : Bool). t && not_zero xs (b * g.columns + a))
-      (ap (λ (K : Kind). fixed_in K g.columns g.rows (column g (b * g.columns + a)) (row g (b * g.columns + a)))
-      (kind_is roundMembrane e) ∙ ap₂ (round_edge g.columns) (digits_mod b q) (digits_div b q)))
+      (ap (λ (K : Kind). fixed_in K g.columns g.rows (column g (b * g.columns + a)) (row g (b * g.columns + a))) e
+      ∙ ap₂ (round_edge g.columns) (digits_mod b q) (digits_div b q)))
 
   pub rows_test : length xs ≡ points g → fixed_not_zero g xs ≡ some_below g.rows (row_unfixed g xs)
   unfolding fixed_not_zero

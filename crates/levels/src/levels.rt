@@ -8,7 +8,7 @@ ghost use Rattle.levels.specs.Levels.{signed, some_not_zero, row_not_zero, round
 
 use kinds::{Run, is_round_fixed, straight_run};
 use sizes::{has_size, points_of};
-use types::{Grid, Settings};
+use types::{Grid, Kind, Settings};
 
 // Ruled out: the ceiling itself taken as beyond; below zero, all but the points beyond.
 pub fn is_beyond(v: i64) -> bool
@@ -85,16 +85,14 @@ fn is_row_unfixed(g: Grid, xs: &[i64], row: usize) -> bool
     requires { (in_table g ≡ true) × (row < g.rows) × (length xs.now ≡ points g) }
     ensures { result ≡ row_unfixed g xs.now row }
 {
-    let columns = g.columns;
-    let kind = g.kind;
-    let start = row * columns;
-    match kind {
-        Grid::MEMBRANE_ROUND => round_not_zero(xs, start, columns, row),
-        _ => row_not_zero(xs, start, columns, straight_run(kind, columns, g.rows, row)),
+    let start = row * g.columns;
+    match Kind::from(g.kind) {
+        Kind::MembraneRound => round_not_zero(xs, start, g.columns, row),
+        _ => row_not_zero(xs, start, g.columns, straight_run(g, row)),
     }
 }
 
-// 12, of a level that is as long as the grid.
+// 12, row by row.
 fn rows_not_zero(g: Grid, xs: &[i64]) -> bool
     requires { (in_table g ≡ true) × (length xs.now ≡ points g) }
     ensures { result ≡ fixed_not_zero g xs.now }
@@ -107,31 +105,25 @@ fn rows_not_zero(g: Grid, xs: &[i64]) -> bool
     false
 }
 
-// 12 of a line, whose fixed points are the ends that its kind fixes.
-fn is_line_unfixed(g: Grid, xs: &[i64]) -> bool
-    requires { (in_table g ≡ true) × (g.kind ≤ 4) × (length xs.now ≡ points g) }
+// 12, of a level that is as long as the grid: of a line by the ends that its kind fixes.
+fn fixed_not_zero(g: Grid, xs: &[i64]) -> bool
+    requires { (in_table g ≡ true) × (length xs.now ≡ points g) }
     ensures { result ≡ fixed_not_zero g xs.now }
 {
-    let kind = g.kind;
-    let last = g.columns - 1;
-    match kind {
-        Grid::STRING_FREE => false,
-        Grid::STRING_FIXED_FREE => is_not_zero(&xs[0]),
-        _ => is_not_zero(&xs[0]) | is_not_zero(&xs[last]),
+    match Kind::from(g.kind) {
+        Kind::StringFree => false,
+        Kind::StringFixedFree => is_not_zero(&xs[0]),
+        Kind::StringFixed | Kind::Bar => is_not_zero(&xs[0]) || is_not_zero(&xs[g.columns - 1]),
+        _ => rows_not_zero(g, xs),
     }
 }
 
 // 12, of a level as long as a grid whose size the table has; of any other the answer is no.
 // Ruled out: a run's first columns looked at in place of those after it; as many rows looked at as there are columns;
 // the right of a round membrane's row by its row.
+#[tactic(auto, using(crate::proofs::LevelLaws::unfixed_is), unfolding(crate::specs::Levels::unfixed))]
 pub fn is_unfixed(g: Grid, xs: &[i64]) -> bool
     ensures { result ≡ unfixed g xs.now }
 {
-    if !has_size(g) || xs.len() != points_of(g) {
-        false
-    } else if g.kind <= Grid::BAR {
-        is_line_unfixed(g, xs)
-    } else {
-        rows_not_zero(g, xs)
-    }
+    has_size(g) && xs.len() == points_of(g) && fixed_not_zero(g, xs)
 }

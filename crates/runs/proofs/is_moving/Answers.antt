@@ -25,8 +25,8 @@ by-run g i size e = sym (and_yes size ∙ moving-at g i size ∙ ap (λ (r : Run
 pub nonzero_div-row : goal.nonzero_div-row
 nonzero_div-row c = some _ (sym c.has_size.ensures ∙ c.if-not-has_size.false)
 
-pub nonzero_rem-a : goal.nonzero_rem-a
-nonzero_rem-a c = some _ (sym c.has_size.ensures ∙ c.if-not-has_size.false)
+pub nonzero_rem-column : goal.nonzero_rem-column
+nonzero_rem-column c = some _ (sym c.has_size.ensures ∙ c.if-not-has_size.false)
 
 pub returns-then-row-g : goal.returns-then-row-g
 returns-then-row-g c =

@@ -1,10 +1,8 @@
 -- `round_not_zero` meets its contract: a row's edge is looked at from both ends, and the search stops where a column moves.
 use mathlib.Core.Path.{ap}
-use Rattle.std.proofs.Common.{◌≡◌, ◌+◌, ◌-◌, ◌<◌, ◌≤◌, ℕ, Bool, true, ◌&&◌, SFits, w64, not, sym, ◌∙◌, arith, rules, lt-ltb, le-leb}
+use Rattle.std.proofs.Common.{◌≡◌, ◌+◌, ◌-◌, true, SFits, w64, not, sym, arith, rules}
 use borrow.Author.Tests.{not-true, not-false}
 use Rattle.scheme.specs.Lists.{point}
-use Rattle.scheme.specs.Instruments.{round_edge}
-use Rattle.scheme.proofs.Laws.Bools.{and_yes}
 use Rattle.kinds.proofs.RoundLaws.{edge_said}
 use Rattle.kinds.proofs.SearchLaws.{passed-more}
 use Rattle.levels.specs.Levels.{round_not_zero}
