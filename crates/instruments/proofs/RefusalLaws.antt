@@ -10,37 +10,37 @@ use lib.Dec.{T, eqb, ltb, ltb→lt}
 use Rattle.types.specs.declared.Grid.{Grid}
 use Rattle.types.specs.declared.Instrument.{Instrument}
 use Rattle.types.specs.declared.Refusal.{Refusal}
-use Rattle.types.specs.declared.Refusal.TheVariants.{Nothing}
 use Rattle.types.specs.Numbers.{number}
 use Rattle.scheme.specs.Instruments.{points, in_table}
 use Rattle.scheme.specs.Refusals.{wrong_length, Check, ◌⇒◌, lowest, grid_checks, instrument_checks}
 use Rattle.scheme.specs.Calls.{accepted}
 use Rattle.scheme.proofs.Laws.Refusals.{refusing, NoneApplies, none_applies, accepted_is}
 use Rattle.instruments.specs.Refused.{not_long}
+use Rattle.std.specs.Prelude.{Result, Ok}
 
 -- ---- one check before others, and two checks: the answer by what each test said
 
-module _ (x : Refusal) (cs : List Check) (t : Bool) where
+module _ (x : Result Unit Refusal) (cs : List Check) (t : Bool) where
   pub refused_here : t ≡ true → x ≡ lowest (t ⇒ x ∷ cs)
   refused_here e = sym (ap (λ (b : Bool). lowest (b ⇒ x ∷ cs)) e)
 
   pub passed_here : {r : Refusal} → t ≡ false → r ≡ lowest cs → r ≡ lowest (t ⇒ x ∷ cs)
   passed_here e f = f ∙ sym (ap (λ (b : Bool). lowest (b ⇒ x ∷ cs)) e)
 
-module _ (x y : Refusal) (t u : Bool) where
+module _ (x y : Result Unit Refusal) (t u : Bool) where
   pub refused-first : t ≡ true → x ≡ lowest (t ⇒ x ∷ u ⇒ y ∷ [])
   refused-first = refused_here x (u ⇒ y ∷ []) t
 
   pub refused_second : t ≡ false → u ≡ true → y ≡ lowest (t ⇒ x ∷ u ⇒ y ∷ [])
   refused_second e f = passed_here x (u ⇒ y ∷ []) t e (refused_here y [] u f)
 
-  pub refused_neither : t ≡ false → u ≡ false → Nothing ≡ lowest (t ⇒ x ∷ u ⇒ y ∷ [])
+  pub refused_neither : t ≡ false → u ≡ false → (Ok tt) ≡ lowest (t ⇒ x ∷ u ⇒ y ∷ [])
   refused_neither e f = passed_here x (u ⇒ y ∷ []) t e (passed_here y [] u f refl)
 
 -- ---- one list of checks after another
 
 -- the first of two answers that refuses
-abbrev first_of : Refusal → Refusal → Refusal
+abbrev first_of : Result Unit Refusal → Result Unit Refusal → Result Unit Refusal
 first_of a b = cond (accepted a) b a
 
 pub lowest-append : (cs ds : List Check) → T (refusing cs) → lowest (cs ++ ds) ≡ first_of (lowest cs) (lowest ds)
