@@ -11,20 +11,15 @@ use instruments::{is_nothing, wrong_length};
 use levels::{is_unfixed, some_beyond};
 use types::{Grid, Hit, Instrument, Refusal};
 
-fn either(a: bool, b: bool) -> bool
-    ensures { result ≡ (a || b) }
-{
-    if a { true } else { b }
-}
-
 // 11 and 12 of two levels.
+#[tactic(auto, unfolding(crate::specs::State::state_refusal))]
 fn state_refusal(g: Grid, older: &[i64], newer: &[i64]) -> Refusal
     ensures { result ≡ state_refusal g older.now newer.now }
 {
-    if either(some_beyond(older), some_beyond(newer)) {
+    if some_beyond(older) || some_beyond(newer) {
         return Refusal::PointBeyond;
     }
-    if either(is_unfixed(g, older), is_unfixed(g, newer)) {
+    if is_unfixed(g, older) || is_unfixed(g, newer) {
         return Refusal::FixedNotZero;
     }
     Refusal::Nothing
@@ -34,13 +29,7 @@ fn state_refusal(g: Grid, older: &[i64], newer: &[i64]) -> Refusal
 fn wrong_lengths(g: Grid, older: usize, newer: usize, wrong: bool) -> bool
     ensures { result ≡ (not_long g older || not_long g newer || wrong) }
 {
-    if wrong_length(g, older) {
-        return true;
-    }
-    if newer != older {
-        return true;
-    }
-    wrong
+    wrong_length(g, older) || newer != older || wrong
 }
 
 // A block's 1, 2, 4 to 9, 11 and 12: `wrong` is 6's test of what is lent beside the two levels.

@@ -5,7 +5,7 @@ ghost use Rattle.scheme.specs.Refusals.{lowest, hit_checks, pick_checks, width_c
 
 use levels::is_beyond;
 use runs::is_moving;
-use sizes::{is_within, points_of};
+use sizes::points_of;
 use types::{Grid, Hit, Refusal};
 
 // 7 and 8.
@@ -43,7 +43,7 @@ pub(crate) fn width_refusal(g: Grid, half_width: usize) -> Refusal
     requires { in_table g ≡ true }
     ensures { result ≡ lowest (width_checks g half_width) }
 {
-    if is_within(1, g.columns - 1, half_width) {
+    if (1..g.columns).contains(&half_width) {
         Refusal::Nothing
     } else {
         Refusal::HalfWidth

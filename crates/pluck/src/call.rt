@@ -8,63 +8,65 @@ ghost use Rattle.scheme.specs.Calls.{pluck_left};
 ghost use Rattle.scheme.specs.Calls as Calls;
 ghost use Rattle.instruments.specs.Refused.{not_long};
 
-use crate::shape::{Shape, fill};
+use crate::shape::Shape;
 use crate::table::TABLE;
 use checks::pluck_refusal;
 use instruments::is_nothing;
 use kinds::straight_run;
 use sizes::points_of;
-use slices::copy;
 use types::{Grid, Refusal};
+
+// A pluck that is asked for.
+#[derive(Clone, Copy)]
+pub(crate) struct Request {
+    pub grid: Grid,
+    pub centre: usize,
+    pub half_width: usize,
+    pub height: i64,
+}
 
 // 6, of two levels of so many points.
 fn wrong_levels(g: Grid, older: usize, newer: usize) -> bool
     ensures { result ≡ (not_long g older || not_long g newer) }
 {
     let points = points_of(g);
-    (older != points) | (newer != points)
+    older != points || newer != points
 }
 
-// What refuses a pluck of two levels of so many points, its table apart.
-pub(crate) fn refusal_of(
-    g: Grid,
-    older: usize,
-    newer: usize,
-    centre: usize,
-    half_width: usize,
-    height: i64,
-) -> Refusal
-    ensures { result ≡ pluck_refusal g older newer centre half_width height }
-{
-    let wrong = wrong_levels(g, older, newer);
-    pluck_refusal(g, wrong, centre, half_width, height)
-}
+impl Request {
+    // What refuses it for two levels of so many points, its table apart.
+    pub(crate) fn refusal(self, older: usize, newer: usize) -> Refusal
+        ensures { result ≡ pluck_refusal self.grid older newer self.centre self.half_width self.height }
+    {
+        let wrong = wrong_levels(self.grid, older, newer);
+        pluck_refusal(
+            self.grid,
+            wrong,
+            self.centre,
+            self.half_width,
+            self.height,
+        )
+    }
 
-// A pluck that nothing refuses, by any table that keeps the rule of a shape; last is the place of its last entry.
-pub(crate) fn carry_out(
-    g: Grid,
-    table: &[u32],
-    last: usize,
-    older: &mut [i64],
-    newer: &mut [i64],
-    centre: usize,
-    half_width: usize,
-    height: i64,
-)
-    requires { ShapeRule table.now × (last ≡ 1024)
-        × (pluck_refusal g (length older.old) (length newer.old) centre half_width height ≡ Nothing) }
-    ensures { (older.new ≡ pluck_level table.now g centre half_width height)
-        × (newer.new ≡ pluck_level table.now g centre half_width height) }
-{
-    let run = straight_run(g.kind, g.columns, g.rows, 0);
-    let shape = Shape {
-        run,
-        centre,
-        width: half_width,
-        height,
-    };
-    fill(shape, table, last, older);
-    copy(older, newer);
+    // Carried out where nothing refuses it, by any table that keeps the rule of a shape.
+    pub(crate) fn carry_out(self, table: &[u32; 1025], older: &mut [i64], newer: &mut [i64])
+        requires { ShapeRule table.now
+            × (pluck_refusal self.grid (length older.old) (length newer.old) self.centre self.half_width self.height ≡ Nothing) }
+        ensures { (older.new ≡ pluck_level table.now self.grid self.centre self.half_width self.height)
+            × (newer.new ≡ pluck_level table.now self.grid self.centre self.half_width self.height) }
+    {
+        let g = self.grid;
+        let run = straight_run(g.kind, g.columns, g.rows, 0);
+        let shape = Shape {
+            table,
+            run,
+            centre: self.centre,
+            width: self.half_width,
+            height: self.height,
+        };
+        shape.fill(older);
+        newer.copy_from_slice(older);
+    }
 }
 
 // Both levels overwritten with the shape of the pluck; or what refuses it, and both as they were.
@@ -80,11 +82,16 @@ pub fn pluck(
     ensures { pluck_left result older.new newer.new
         ≡ Calls.pluck g older.old newer.old centre half_width height }
 {
-    let refusal = refusal_of(g, older.len(), newer.len(), centre, half_width, height);
+    let request = Request {
+        grid: g,
+        centre,
+        half_width,
+        height,
+    };
+    let refusal = request.refusal(older.len(), newer.len());
     if !is_nothing(refusal) {
         return refusal;
     }
-    let table = TABLE;
-    carry_out(g, &table, 1024, older, newer, centre, half_width, height);
+    request.carry_out(&TABLE, older, newer);
     Refusal::Nothing
 }

@@ -3,7 +3,7 @@ ghost use Rattle.std.specs.Prelude.{◌≡◌};
 ghost use Rattle.scheme.specs.Calls.{pluck_left};
 ghost use Rattle.scheme.specs.Calls as Calls;
 
-use crate::call::{carry_out, refusal_of};
+use crate::call::Request;
 use instruments::is_nothing;
 use pluck_table::{LoadedTable, load_table};
 use types::{Grid, Refusal};
@@ -22,14 +22,22 @@ pub fn pluck_with(
     ensures { pluck_left result older.new newer.new
         ≡ Calls.pluck_with g older.old newer.old centre half_width height table.now }
 {
-    let refusal = refusal_of(g, older.len(), newer.len(), centre, half_width, height);
+    let request = Request {
+        grid: g,
+        centre,
+        half_width,
+        height,
+    };
+    let refusal = request.refusal(older.len(), newer.len());
     if !is_nothing(refusal) {
         return refusal;
     }
-    let loaded = load_table(table);
-    let LoadedTable::Sound { last } = loaded else {
+    let LoadedTable::Sound { .. } = load_table(table) else {
         return Refusal::BrokenTable;
     };
-    carry_out(g, table, last, older, newer, centre, half_width, height);
+    let Ok(sound) = <&[u32; 1025]>::try_from(table) else {
+        return Refusal::BrokenTable;
+    };
+    request.carry_out(sound, older, newer);
     Refusal::Nothing
 }
