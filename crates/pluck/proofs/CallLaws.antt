@@ -30,20 +30,9 @@ use Rattle.scheme.proofs.Laws.Refusals.{pluck_passes}
 use Rattle.kinds.specs.Runs.{in_run, straight_run, run_of}
 use Rattle.sizes.proofs.KindLaws.{line-size}
 use Rattle.kinds.proofs.RunLaws.{run_is, straight_is, moving-run, run_bounds}
-use Rattle.instruments.specs.Refused.{not_long}
-use Rattle.instruments.proofs.RefusalLaws.{lowest-append, long_is}
-use Rattle.checks.proofs.RefusalLaws.{pluck_same}
+use Rattle.instruments.proofs.RefusalLaws.{lowest-append}
 use Rattle.pluck.specs.declared.shape.Shape.{Shape}
 use Rattle.pluck.specs.Shapes.{shape_at}
-
--- ---- what refuses a pluck, by the lengths as the code tests them
-
-pub refusal_is : (g : Grid) (older newer c w : ℕ) (a : ℤ)
-    → lowest (pluck_checks g (not_long g older || not_long g newer) c w a) ≡ pluck_refusal g older newer c w a
-unfolding pluck_refusal
-refusal_is g older newer c w a =
-    pluck_same g (not_long g older || not_long g newer) (wrong_length g older || wrong_length g newer) c w a
-    (λ size. ap₂ ◌||◌ (long_is g older size) (long_is g newer size))
 
 -- ---- what refuses a pluck by a lent table: first what refuses any, then loading
 

@@ -3,7 +3,8 @@ ghost use Rattle.std.specs.Prelude.{◌≡◌};
 ghost use Rattle.scheme.specs.Calls.{pluck_left};
 ghost use Rattle.scheme.specs.Calls as Calls;
 
-use crate::call::Request;
+use crate::call::carry_out;
+use checks::Pluck;
 use instruments::is_nothing;
 use pluck_table::{LoadedTable, load_table};
 use types::{Grid, Refusal};
@@ -22,13 +23,13 @@ pub fn pluck_with(
     ensures { pluck_left result older.new newer.new
         ≡ Calls.pluck_with g older.old newer.old centre half_width height table.now }
 {
-    let request = Request {
+    let p = Pluck {
         grid: g,
         centre,
         half_width,
         height,
     };
-    let refusal = request.refusal(older.len(), newer.len());
+    let refusal = p.refusal(older.len(), newer.len());
     if !is_nothing(refusal) {
         return refusal;
     }
@@ -38,6 +39,6 @@ pub fn pluck_with(
     let Ok(sound) = <&[u32; 1025]>::try_from(table) else {
         return Refusal::BrokenTable;
     };
-    request.carry_out(sound, older, newer);
+    carry_out(p, sound, older, newer);
     Refusal::Nothing
 }

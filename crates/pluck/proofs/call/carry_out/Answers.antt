@@ -2,7 +2,7 @@
 use Rattle.std.proofs.Common.{◌≡◌, sym, ap, ◌∙◌, length, refl}
 use Rattle.scheme.proofs.Laws.Lists.{length-tabulate}
 use Rattle.pluck.proofs.CallLaws.{some, narrow, stored, stored_low, as_long, starts, ends, inside, level_is}
-use Rattle.pluck.proofs.call.Request.carry_out.Goals as goal
+use Rattle.pluck.proofs.call.carry_out.Goals as goal
 
 pub invariant_of-shape : goal.invariant_of-shape
 invariant_of-shape c =
