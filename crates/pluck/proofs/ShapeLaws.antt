@@ -25,7 +25,7 @@ module _ (s : Shape) (i : ℕ) where
   away = distance_from s.centre i
 
   abbrev value : ℤ
-  value = pluck_value s.table.now s.width s.height away
+  value = pluck_value s.table.entries.now s.width s.height away
 
   at : {t : Bool} → (in_run s.run i && leb away s.width) ≡ t → shape_at s i ≡ cond t value (pos 0)
   unfolding shape_at
@@ -148,15 +148,15 @@ module _ (s : Shape) (n : ℕ) where
           put_here (leb k on_left) (c - k) v xs i (omega arith) (le-leb k on_left (omega arith)) (omega arith) in
           either c i before after
 
-      at-distance : k ≤ s.width → v ≡ pluck_value s.table.now s.width s.height k → point both i ≡ shape_at s i
+      at-distance : k ≤ s.width → v ≡ pluck_value s.table.entries.now s.width s.height k → point both i ≡ shape_at s i
       at-distance w g =
-          let v-is = g ∙ ap (λ (d : ℕ). pluck_value s.table.now s.width s.height d) (sym e) in
+          let v-is = g ∙ ap (λ (d : ℕ). pluck_value s.table.entries.now s.width s.height d) (sym e) in
           either s.run.from i
           (λ a. either s.run.to i (λ b. out (λ p. b) ∙ after_run s i b)
           (λ b. put_in a b ∙ v-is ∙ in_shape s i a b (omega (arith, e))))
           (λ a. out (λ p. absurd (omega arith)) ∙ before-run s i a)
 
-    raised_more : k ≤ s.width → v ≡ pluck_value s.table.now s.width s.height k → Rising both (k + 1)
+    raised_more : k ≤ s.width → v ≡ pluck_value s.table.entries.now s.width s.height k → Rising both (k + 1)
     raised_more w g = record {
       long = length_put (ltb k on_right) (c + k) v left ∙ length_put (leb k on_left) (c - k) v xs ∙ m.long;
       near = λ i l h. either k (distance_from c i) (λ p. at-distance i l (omega arith) w g)
@@ -165,6 +165,6 @@ module _ (s : Shape) (n : ℕ) where
     }
 
   -- the same of what a call left
-  pub raised_put : {xs ys : List ℤ} {k : ℕ} {v : ℤ} → Rising xs k → k ≤ s.width → v ≡ pluck_value s.table.now s.width s.height k
+  pub raised_put : {xs ys : List ℤ} {k : ℕ} {v : ℤ} → Rising xs k → k ≤ s.width → v ≡ pluck_value s.table.entries.now s.width s.height k
       → ys ≡ put_both s k v xs → Rising ys (k + 1)
   raised_put {xs} {ys} {k} {v} m w g e = subst (λ (zs : List ℤ). Rising zs (k + 1)) (sym e) (raised_more xs k v m w g)

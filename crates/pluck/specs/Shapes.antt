@@ -10,7 +10,7 @@ use Rattle.pluck.specs.declared.shape.Shape.{Shape}
 unfoldable pub shape_at : Shape → ℕ → ℤ
 shape_at s i =
     let d = distance_from s.centre i in
-    cond (in_run s.run i && leb d s.width) (pluck_value s.table.now s.width s.height d) (pos 0)
+    cond (in_run s.run i && leb d s.width) (pluck_value s.table.entries.now s.width s.height d) (pos 0)
 
 -- 1024/w in parts of 2³², rounded up: w − d of them give the place in the table (`place_is`)
 abbrev pub step_of : ℕ → ℕ

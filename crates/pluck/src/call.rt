@@ -1,28 +1,23 @@
 // The call by the table T: its checks, and both levels. A call by a lent table shares them.
 ghost use Rattle.std.specs.Prelude.{◌≡◌, length};
-ghost use Rattle.types.specs.declared.Refusal.TheVariants.{Nothing};
-ghost use Rattle.pluck_table.specs.Table.{ShapeRule};
 ghost use Rattle.scheme.specs.Refusals.{pluck_refusal};
 ghost use Rattle.scheme.specs.Pluck.{pluck_level};
 ghost use Rattle.scheme.specs.Calls.{pluck_left};
 ghost use Rattle.scheme.specs.Calls as Calls;
 
 use crate::shape::Shape;
-use crate::table::TABLE;
+use crate::table::{TABLE, Table};
 use checks::Pluck;
-use instruments::is_nothing;
 use kinds::straight_run;
-use types::{Grid, Refusal};
+use types::{Grid, Outcome};
 
-// Carried out where nothing refuses it, by any table that keeps the rule of a shape.
-pub(crate) fn carry_out(p: Pluck, table: &[u32; 1025], older: &mut [i64], newer: &mut [i64])
-    requires { ShapeRule table.now
-        × (pluck_refusal p.grid (length older.old) (length newer.old) p.centre p.half_width p.height ≡ Nothing) }
-    ensures { (older.new ≡ pluck_level table.now p.grid p.centre p.half_width p.height)
-        × (newer.new ≡ pluck_level table.now p.grid p.centre p.half_width p.height) }
+// A pluck that nothing refuses, carried out by any table that keeps the rule of a shape.
+pub(crate) fn carry_out(p: Pluck, table: Table<'_>, older: &mut [i64], newer: &mut [i64])
+    requires { pluck_refusal p.grid (length older.old) (length newer.old) p.centre p.half_width p.height ≡ Ok tt }
+    ensures { (older.new ≡ pluck_level table.entry.entries.now p.grid p.centre p.half_width p.height)
+        × (newer.new ≡ pluck_level table.entry.entries.now p.grid p.centre p.half_width p.height) }
 {
-    let g = p.grid;
-    let run = straight_run(g.kind, g.columns, g.rows, 0);
+    let run = straight_run(p.grid, 0);
     let shape = Shape {
         table,
         run,
@@ -36,6 +31,7 @@ pub(crate) fn carry_out(p: Pluck, table: &[u32; 1025], older: &mut [i64], newer:
 
 // Both levels overwritten with the shape of the pluck; or what refuses it, and both as they were.
 // Ruled out: newer left as it was; the index of the table taken with 1023 for 1024; a refused pluck answered as carried out.
+#[tactic(auto, unfolding(scheme::specs::Calls::pluck, scheme::specs::Calls::pluck_by))]
 pub fn pluck(
     g: Grid,
     older: &mut [i64],
@@ -43,7 +39,7 @@ pub fn pluck(
     centre: usize,
     half_width: usize,
     height: i64,
-) -> Refusal
+) -> Outcome
     ensures { pluck_left result older.new newer.new
         ≡ Calls.pluck g older.old newer.old centre half_width height }
 {
@@ -53,10 +49,11 @@ pub fn pluck(
         half_width,
         height,
     };
-    let refusal = p.refusal(older.len(), newer.len());
-    if !is_nothing(refusal) {
-        return refusal;
-    }
-    carry_out(p, &TABLE, older, newer);
-    Refusal::Nothing
+    p.refusal(older.len(), newer.len())?;
+    let table = Table {
+        entries: &TABLE,
+        last: 1024,
+    };
+    carry_out(p, table, older, newer);
+    Ok(())
 }

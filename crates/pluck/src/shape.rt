@@ -1,12 +1,9 @@
 // The shape of a pluck: what its rule gives at each point of a line, by a table that keeps the rule of a shape.
 ghost use Rattle.std.specs.Prelude.{◌≡◌, ◌≤◌, ◌<◌, nat_abs, length};
 ghost use Rattle.types.specs.Numbers.{ceiling};
-ghost use Rattle.pluck_table.specs.Table.{ShapeRule};
 
+use crate::table::Table;
 use kinds::Run;
-
-// The place of a table's last entry.
-const LAST: usize = 1024;
 
 // A place in the table is counted in parts of an entry.
 const PARTS: usize = 4294967296;
@@ -14,12 +11,11 @@ const PARTS: usize = 4294967296;
 // A table, the moving points of a line, and a pluck's centre, half width and height: what the refusals let pass.
 #[derive(Clone, Copy)]
 pub(crate) struct Shape<'a> {
-    pub table: &'a [u32; 1025],
+    pub table: Table<'a>,
     pub run: Run,
     pub centre: usize,
     pub width: usize,
     pub height: i64,
-    ghost rule: { ShapeRule table.now },
     ghost some: { 1 ≤ width },
     ghost narrow: { width ≤ 1024 },
     ghost low: { nat_abs height ≤ ceiling },
@@ -32,20 +28,20 @@ impl Shape<'_> {
     ghost use Rattle.scheme.specs.Pluck.{pluck_value};
     ghost use Rattle.pluck.specs.Shapes.{step_of, put_both, shape_at};
 
-    // From the place of one distance to that of the next: LAST/width entries, rounded up.
+    // From the place of one distance to that of the next: last/width entries, rounded up.
     fn step(&self) -> usize
         ensures { result ≡ step_of self.now.width }
     {
-        LAST * (PARTS / self.width + 1)
+        self.table.last * (PARTS / self.width + 1)
     }
 
     // A moving point at distance d: its place is width − d steps from the first entry.
     fn value(&self, step: usize, d: usize) -> i64
         requires { (step ≡ step_of self.now.width) × (d ≤ self.now.width) }
-        ensures { result ≡ pluck_value self.now.table.now self.now.width self.now.height d }
+        ensures { result ≡ pluck_value self.now.table.entries.now self.now.width self.now.height d }
     {
         let j = (self.width - d) * step / PARTS;
-        let t = self.table[j] as i64;
+        let t = self.table.entries[j] as i64;
         self.height * t / 65536
     }
 

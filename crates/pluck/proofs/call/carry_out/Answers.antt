@@ -6,10 +6,9 @@ use Rattle.pluck.proofs.call.carry_out.Goals as goal
 
 pub invariant_of-shape : goal.invariant_of-shape
 invariant_of-shape c =
-    let none = c.requires.1 in
+    let none = c.requires in
     let run = c.straight_run-run in
     record {
-      rule = c.requires.0;
       some = some _ _ _ _ _ _ none;
       narrow = narrow _ _ _ _ _ _ none;
       low = stored_low _ _ _ _ _ _ none;
@@ -18,12 +17,12 @@ invariant_of-shape c =
     }
 
 pub fill-requires : goal.fill-requires
-fill-requires c = inside _ _ _ _ _ _ c.requires.1 c.straight_run-run.result c.straight_run-run.ensures
+fill-requires c = inside _ _ _ _ _ _ c.requires c.straight_run-run.result c.straight_run-run.ensures
 
 pub copy_from_slice-requires : goal.copy_from_slice-requires
-copy_from_slice-requires c = as_long _ _ _ _ _ _ c.requires.1 ∙ sym (ap length c.fill.ensures ∙ length-tabulate _ _)
+copy_from_slice-requires c = as_long _ _ _ _ _ _ c.requires ∙ sym (ap length c.fill.ensures ∙ length-tabulate _ _)
 
 pub returns : goal.returns
 returns c =
-    let filled = c.fill.ensures ∙ level_is _ _ _ _ _ _ c.requires.1 _ c.straight_run-run.ensures refl refl (stored _ _ _ _ _ _ c.requires.1) in
+    let filled = c.fill.ensures ∙ level_is _ _ _ _ _ _ c.requires _ c.straight_run-run.ensures refl refl (stored _ _ _ _ _ _ c.requires) in
     (filled, c.copy_from_slice.ensures.after ∙ filled)

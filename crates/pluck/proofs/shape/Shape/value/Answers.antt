@@ -1,5 +1,5 @@
 -- `value` meets its contract: the place is in the table, no product passes 2⁶³, and the quotient is cut toward zero.
-use Rattle.std.proofs.Common.{ℕ, ◌-◌, ◌*◌, ◌/◌, ◌≡◌, ◌≤◌, ◌<◌, ap, ◌∙◌, slice_index_or, pos, ◌*ℤ◌}
+use Rattle.std.proofs.Common.{ℕ, ◌-◌, ◌*◌, ◌/◌, ◌≡◌, ◌≤◌, ◌<◌, ap, ◌∙◌, slice_index_or, arith, pos, ◌*ℤ◌}
 use lib.Signed.{quot_z}
 use Rattle.bounded.proofs.Expr.{E, at, num, ◌⊠◌, ◌÷◌, fits, is}
 use Rattle.types.specs.Numbers.{ceiling}
@@ -18,7 +18,7 @@ module _ (s : Shape) (step d : ℕ) (is-step : step ≡ step_of s.width) where
   inside = in_table s.width d step is-step s.some s.narrow
 
   abbrev entry# : E
-  entry# = at (pos (slice_index_or s.table.now place 0)) 65536 (entry_high _ s.rule place inside)
+  entry# = at (pos (slice_index_or s.table.entries.now place 0)) 65536 (entry_high _ s.table.rule place inside)
 
   abbrev product# : E
   product# = at s.height ceiling s.low ⊠ entry#
@@ -27,7 +27,7 @@ module _ (s : Shape) (step d : ℕ) (is-step : step ≡ step_of s.width) where
   value# = product# ÷ num 65536
 
 pub bounds-self-j : goal.bounds-self-j
-bounds-self-j c = inside c.args.self.now c.args.step c.args.d c.requires.0
+bounds-self-j c = let s = c.args.self.now in omega (arith, inside s c.args.step c.args.d c.requires.0, s.table.rule.long)
 
 pub overflow_mul-result : goal.overflow_mul-result
 overflow_mul-result c = fits (product# c.args.self.now c.args.step c.args.d c.requires.0) tt
@@ -36,5 +36,5 @@ pub returns : goal.returns
 returns c =
     let s = c.args.self.now in
     is (value# s c.args.step c.args.d c.requires.0) tt ∙
-    ap (λ (j : ℕ). quot_z (s.height *ℤ pos (slice_index_or s.table.now j 0)) (pos 65536))
+    ap (λ (j : ℕ). quot_z (s.height *ℤ pos (slice_index_or s.table.entries.now j 0)) (pos 65536))
     (place_by_steps s.width c.args.d c.args.step c.requires.0 s.some s.narrow)
