@@ -1,11 +1,12 @@
 -- The numbers before the first that is sought, and the lists between them.
-use mathlib.Core.Path.{◌≡◌, refl, sym, ap}
+use mathlib.Core.Path.{◌≡◌, refl, sym, ap, ◌∙◌}
 use mathlib.Core.Bool.{Bool, true, false, cond}
 use mathlib.Core.List.{List, [], ◌∷◌}
 use Prim.Native.Nat.{ℕ, zero, suc, ◌+◌, ◌≤◌, ◌<◌}
 use native.Mathlib.Omega.{arith}
 use lib.Dec.{eqb}
 use lib.ListN.{length, take, drop}
+use lib.Seq.{take_all}
 use Rattle.std.specs.Prelude.{Some, None}
 use Rattle.std.specs.List.{position, position_or_len}
 use Rattle.std.proofs.lemmas.Grind.{common_steps}
@@ -31,9 +32,10 @@ no_longer s (b ∷ bs) = go (eqb b s) (no_longer s bs)
     go true h = omega arith
     go false h = omega arith
 
+-- where the first stands, or nowhere
 module _ (s : ℕ) (l : List ℕ) where
-  pub first_some : (n : ℕ) → Some n ≡ position (λ b. eqb b s) l → n ≡ length (before s l)
-  first_some n e = grind (arith, common_steps, until s l, e)
+  pub first_some : {n : ℕ} → Some n ≡ position (λ b. eqb b s) l → (n ≡ length (before s l)) × (n < length l)
+  first_some {n} e = (grind (arith, common_steps, until s l, e), grind (arith, common_steps, e))
 
   pub first_none : None ≡ position (λ b. eqb b s) l → length l ≡ length (before s l)
   first_none e = grind (arith, common_steps, until s l, no_longer s l, e)
@@ -62,6 +64,10 @@ before-first s (suc n) (b ∷ bs) = go (eqb b s) (before-first s n bs)
     go true e = refl
     go false e = ap (λ (r : List ℕ). b ∷ r) e
 
+-- all of them, where none is
+pub before_all : (s : ℕ) (l : List ℕ) → length l ≤ length (before s l) → before s l ≡ l
+before_all s l h = sym (before-take s l) ∙ take_all (length (before s l)) l h
+
 -- ---- the lists between
 
 -- none is s: one list
@@ -89,3 +95,16 @@ split_more s (b ∷ bs) h = go (eqb b s) h (split_more s bs)
         cond t ([] ∷ split_on s bs) (on_first b (split_on s bs)) ≡ first ∷ split_on s (drop (suc (length first)) (b ∷ bs))
     go true h e = refl
     go false h e = ap (on_first b) (e (omega arith))
+
+-- by where the first that is s stands
+module _ (s : ℕ) (l : List ℕ) where
+  pub split_none : None ≡ position (λ b. eqb b s) l → split_on s l ≡ l ∷ []
+  split_none e = split_last s l (omega (arith, first_none s l e))
+
+  pub split_some : {n : ℕ} → Some n ≡ position (λ b. eqb b s) l → split_on s l ≡ take n l ∷ split_on s (drop (n + 1) l)
+  split_some {n} e =
+      let f = first_some s l e in
+      let same : suc (length (before s l)) ≡ n + 1 = omega (arith, f.0) in
+      split_more s l (omega (arith, f.0, f.1))
+      ∙ ap (λ (k : List ℕ). k ∷ split_on s (drop (suc (length (before s l))) l)) (sym (before-take s l) ∙ ap (λ (k : ℕ). take k l) (sym f.0))
+      ∙ ap (λ (k : ℕ). take n l ∷ split_on s (drop k l)) same

@@ -1,58 +1,31 @@
 // The fields of a line.
-ghost use Rattle.std.specs.Prelude.{◌≡◌, ◌≤◌, length};
-ghost use Rattle.ring_line.specs.Reading.{FieldRead, NineRead};
+ghost use Rattle.std.specs.Prelude.{◌≡◌, ◌∷◌, [], MatchOption, false};
+ghost use Rattle.ring_line.specs.Requests.{fields, well_formed};
+ghost use Rattle.ring_line.specs.Reading.{Read};
 
-use crate::search::length_before;
-use ring_decimals::{Unsigned, read_unsigned};
+use crate::search::first;
+use ring_decimals::read_unsigned;
 
 const SPACE: u8 = 32;
 
-// A number and where the next field begins, or no number that a space ends. The definition `FieldRead` tells what each says of the line.
-#[derive(Drop)]
-enum Field {
-    Is { value: u64, next: usize },
-    Wrong,
-}
-
-// The field that begins at a place.
-fn read_field(line: &[u8], at: usize) -> Field
-    requires { at ≤ length line.now }
-    ensures { FieldRead line.now at result }
+// The first field and what comes after its space, where one ends it.
+fn split_first(line: &[u8]) -> Option<(&[u8], &[u8])>
+    ensures { MatchOption result (fields line.now ≡ line.now ∷ []) (λ parts. fields line.now ≡ parts.0.now ∷ fields parts.1.now) }
 {
-    let end = at + length_before(&line[at..], SPACE);
-    if end == line.len() {
-        return Field::Wrong;
-    }
-    match read_unsigned(&line[at..end]) {
-        Unsigned::Is(value) => Field::Is {
-            value,
-            next: end + 1,
-        },
-        Unsigned::Wrong => Field::Wrong,
-    }
+    let end = first(line, SPACE)?;
+    Some((&line[..end], &line[end + 1..]))
 }
 
-// Where the tenth field begins, or no nine numbers. The definition `NineRead` tells what each says of the line.
-#[derive(Drop)]
-pub(crate) enum Rest {
-    At(usize),
-    Wrong,
-}
-
-// The values of the first nine fields, a space after each, and where the tenth begins.
-pub(crate) fn read_nine(line: &[u8], values: &mut [u64; 9]) -> Rest
-    requires { length values.old ≡ 9 }
-    ensures { NineRead line.now values.new result }
+// The values of the first nine fields, a space after each, and what comes after them.
+pub(crate) fn read_nine(line: &[u8]) -> Option<([u64; 9], &[u8])>
+    ensures { MatchOption result (well_formed (fields line.now) ≡ false) (λ nine. Read line.now 9 nine.0 nine.1.now) }
 {
-    let mut at = 0;
-    let mut i = 0;
-    while i < 9 {
-        let Field::Is { value, next } = read_field(line, at) else {
-            return Rest::Wrong;
-        };
-        values[i] = value;
-        at = next;
-        i += 1;
+    let mut values = [0u64; 9];
+    let mut rest = line;
+    for value in values.iter_mut() {
+        let (field, after) = split_first(rest)?;
+        *value = read_unsigned(field)?;
+        rest = after;
     }
-    Rest::At(at)
+    Some((values, rest))
 }

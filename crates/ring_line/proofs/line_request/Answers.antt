@@ -1,28 +1,22 @@
 -- Nine numbers, then the force, then the limit of the steps.
 use Rattle.std.proofs.Common.{rules, arith, ◌≡◌, ◌∙◌, sym, ap, w64, to_z, of_z}
-use Rattle.ring_decimals.specs.Decimals.{signed_read}
-use Rattle.ring_decimals.proofs.DecimalLaws.{tail_is}
-use Rattle.ring_line.specs.declared.asked.Request.TheVariants.{Run}
+use Rattle.std.specs.Prelude.{Some}
 use Rattle.ring_line.specs.Reading.{ten}
 use Rattle.ring_line.proofs.RequestLaws.{turned_down, force_turned_down, steps_turned_down, taken}
 use Rattle.ring_line.proofs.line_request.Goals as goal
 
-pub returns-in_default : goal.returns-in_default
-returns-in_default c = turned_down _ c.in_default.ensures
+pub returns-in_err-values : goal.returns-in_err-values
+returns-in_err-values c = c.from_residual.ensures ∙ turned_down _ c.in_err-values.ensures
 
-pub returns-in_default-read_signed : goal.returns-in_default-read_signed
-returns-in_default-read_signed c =
-    let line = c.args.line.now in
-    let force = sym c.in_default-read_signed.ensures in
-    force_turned_down line _ c.in-At.at c.in-At.ensures (sym (ap signed_read (tail_is line c.in-At.at)) ∙ force)
+pub returns-in_err-force : goal.returns-in_err-force
+returns-in_err-force c =
+    c.from_residual-in_err-force.ensures ∙ force_turned_down _ _ _ c.in_ok-values.ensures (sym c.in_err-force.ensures)
 
 pub returns-then-values-gt8192 : goal.returns-then-values-gt8192
-returns-then-values-gt8192 c = steps_turned_down c.args.line.now _ c.in-At.at c.in-At.ensures (omega arith)
+returns-then-values-gt8192 c = steps_turned_down _ _ _ c.in_ok-values.ensures (omega arith)
 
 pub returns : goal.returns
 returns c =
-    let line = c.args.line.now in
-    let force = sym c.in-Is.ensures in
-    let whole : to_z w64 (of_z w64 c.in-Is.force) ≡ c.in-Is.force = search rules in
-    ap Run (c.numbers_of.ensures ∙ ap (ten c.read_nine.new.values) whole)
-    ∙ taken line _ c.in-At.at c.in-At.ensures _ (sym (ap signed_read (tail_is line c.in-At.at)) ∙ force) (omega arith)
+    let whole : to_z w64 (of_z w64 c.in_ok-force.force) ≡ c.in_ok-force.force = search rules in
+    ap Some (c.numbers_of.ensures ∙ ap (ten c.in_ok-values.values) whole)
+    ∙ taken _ _ _ c.in_ok-values.ensures _ (sym c.in_ok-force.ensures) (omega arith)
