@@ -95,16 +95,3 @@ split_more s (b ∷ bs) h = go (eqb b s) h (split_more s bs)
         cond t ([] ∷ split_on s bs) (on_first b (split_on s bs)) ≡ first ∷ split_on s (drop (suc (length first)) (b ∷ bs))
     go true h e = refl
     go false h e = ap (on_first b) (e (omega arith))
-
--- by where the first that is s stands
-module _ (s : ℕ) (l : List ℕ) where
-  pub split_none : None ≡ position (λ b. eqb b s) l → split_on s l ≡ l ∷ []
-  split_none e = split_last s l (omega (arith, first_none s l e))
-
-  pub split_some : {n : ℕ} → Some n ≡ position (λ b. eqb b s) l → split_on s l ≡ take n l ∷ split_on s (drop (n + 1) l)
-  split_some {n} e =
-      let f = first_some s l e in
-      let same : suc (length (before s l)) ≡ n + 1 = omega (arith, f.0) in
-      split_more s l (omega (arith, f.0, f.1))
-      ∙ ap (λ (k : List ℕ). k ∷ split_on s (drop (suc (length (before s l))) l)) (sym (before-take s l) ∙ ap (λ (k : ℕ). take k l) (sym f.0))
-      ∙ ap (λ (k : ℕ). take n l ∷ split_on s (drop k l)) same

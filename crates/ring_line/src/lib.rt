@@ -2,18 +2,16 @@
 #![tactic(auto)]
 
 mod asked;
-mod fields;
-mod search;
 
-ghost use Rattle.std.specs.Prelude.{◌≡◌};
+ghost use Rattle.std.specs.Prelude.{◌≡◌, nat_eq, position};
 ghost use Rattle.ring_line.specs.Lists.{before};
 ghost use Rattle.ring_line.specs.Requests.{line_feed, line_request, request_of};
 ghost use Rattle.ring_line.specs.Reading.{ten};
 
-use crate::fields::read_nine;
-use crate::search::first;
 pub use asked::Numbers;
-use ring_decimals::read_signed;
+use ring_decimals::{read_signed, read_unsigned};
+
+const SPACE: u8 = 32;
 
 const LINE_FEED: u8 = 10;
 
@@ -40,19 +38,29 @@ fn numbers_of(values: [u64; 9], force: i64) -> Numbers
 fn line_request(line: &[u8]) -> Option<Numbers>
     ensures { result ≡ line_request line.now }
 {
-    let (values, rest) = read_nine(line)?;
-    let force = read_signed(rest)?;
+    let mut fields = line.splitn(10, |byte| *byte == SPACE);
+    let mut values = [0u64; 9];
+    for value in values.iter_mut() {
+        *value = read_unsigned(fields.next()?)?;
+    }
+    let force = read_signed(fields.next()?)?;
     if 8192 < values[7] {
         return None;
     }
     Some(numbers_of(values, force))
 }
 
+fn line_feed_in(bytes: &[u8]) -> Option<usize>
+    ensures { result ≡ position (λ b. nat_eq b line_feed) bytes.now }
+{
+    bytes.iter().position(|byte| *byte == LINE_FEED)
+}
+
 // The bytes before the first line feed; all of them where none is.
 fn first_line(bytes: &[u8]) -> &[u8]
     ensures { result.now ≡ before line_feed bytes.now }
 {
-    match first(bytes, LINE_FEED) {
+    match line_feed_in(bytes) {
         Some(end) => &bytes[..end],
         None => bytes,
     }
