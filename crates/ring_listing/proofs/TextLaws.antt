@@ -29,6 +29,7 @@ put_put {a} {b} {c} {s} {t} p q =
       ends = omega (arith, p.ends, q.ends, length-append s t);
       holds = q.holds ∙ ap (λ (l : List ℕ). l ++ t) p.holds ∙ append_assoc (take a.length a.buffer.now) s t;
       kept = q.kept ∙ subst⁻¹ (λ (k : ℕ). drop k b.buffer.now ≡ drop k a.buffer.now) q.ends (kept_on b.length (length t) a.buffer.now b.buffer.now p.kept);
+      same = q.same ∙ p.same;
       long = q.long ∙ p.long;
     }
 
@@ -36,7 +37,7 @@ pub put_same : {a b : Text} {s t : List ℕ} → s ≡ t → Put a s b → Put a
 put_same {a} {b} e p = subst (λ (l : List ℕ). Put a l b) e p
 
 pub put_nothing : (a : Text) → Put a [] a
-put_nothing a = record { ends = omega arith; holds = sym (append-nil (take a.length a.buffer.now)); kept = refl; long = refl }
+put_nothing a = record { ends = omega arith; holds = sym (append-nil (take a.length a.buffer.now)); kept = refl; same = refl; long = refl }
 
 -- a text from the start, and the whole buffer
 pub put_over : {a b : Text} {s : List ℕ} → a.length ≡ 0 → Put a s b → (b.length ≡ length s) × (b.buffer.now ≡ over s a.buffer.now)

@@ -30,8 +30,7 @@ impl<'a> Text<'a> {
 
     fn put_bytes(&mut self, bytes: &[u8])
         requires { Room self.old bytes.now }
-        ensures same { self.new.buffer.ghost_name ≡ self.old.buffer.ghost_name }
-        ensures put { Put self.old bytes.now self.new }
+        ensures { Put self.old bytes.now self.new }
     {
         let end = self.length + bytes.len();
         self.buffer[self.length..end].copy_from_slice(bytes);
@@ -40,8 +39,7 @@ impl<'a> Text<'a> {
 
     fn put_decimal(&mut self, n: u64)
         requires { Room self.old (decimal n) }
-        ensures same { self.new.buffer.ghost_name ≡ self.old.buffer.ghost_name }
-        ensures put { Put self.old (decimal n) self.new }
+        ensures { Put self.old (decimal n) self.new }
     {
         let mut digits = [0u8; 20];
         let count = io::decimal(n, &mut digits);
@@ -50,8 +48,7 @@ impl<'a> Text<'a> {
 
     fn put_sign(&mut self, value: i16)
         requires { Room self.old (sign value) }
-        ensures same { self.new.buffer.ghost_name ≡ self.old.buffer.ghost_name }
-        ensures put { Put self.old (sign value) self.new }
+        ensures { Put self.old (sign value) self.new }
     {
         if value < 0 {
             self.put_bytes(b"-");
@@ -60,8 +57,7 @@ impl<'a> Text<'a> {
 
     fn put_signed(&mut self, value: i16)
         requires { Room self.old (signed_decimal value) }
-        ensures same { self.new.buffer.ghost_name ≡ self.old.buffer.ghost_name }
-        ensures put { Put self.old (signed_decimal value) self.new }
+        ensures { Put self.old (signed_decimal value) self.new }
     {
         self.put_sign(value);
         self.put_decimal(u64::from(value.unsigned_abs()));
@@ -70,8 +66,7 @@ impl<'a> Text<'a> {
     // A line of two numbers.
     fn put_pair(&mut self, number: u64, value: i16)
         requires { Room self.old (pair_line number value) }
-        ensures same { self.new.buffer.ghost_name ≡ self.old.buffer.ghost_name }
-        ensures put { Put self.old (pair_line number value) self.new }
+        ensures { Put self.old (pair_line number value) self.new }
     {
         self.put_decimal(number);
         self.put_bytes(b" ");
@@ -82,7 +77,6 @@ impl<'a> Text<'a> {
     // A line for each sample.
     pub(crate) fn put_steps(&mut self, samples: &[i16])
         requires { (length samples.now ≤ 8192) × (self.old.length + 12 * length samples.now ≤ length self.old.buffer.now) }
-        ensures same { self.new.buffer.ghost_name ≡ self.old.buffer.ghost_name }
         ensures upper_bound { self.new.length ≤ self.old.length + 12 * length samples.now }
         ensures put { Put self.old (step_lines (length samples.now) samples.now) self.new }
     {
@@ -94,8 +88,7 @@ impl<'a> Text<'a> {
     // The last line.
     pub(crate) fn put_done(&mut self, count: u64, refusal: u64)
         requires { (refusal < 100) × Room self.old (done_line count refusal) }
-        ensures same { self.new.buffer.ghost_name ≡ self.old.buffer.ghost_name }
-        ensures put { Put self.old (done_line count refusal) self.new }
+        ensures { Put self.old (done_line count refusal) self.new }
     {
         self.put_bytes(b"done ");
         self.put_pair(count, refusal as i16);

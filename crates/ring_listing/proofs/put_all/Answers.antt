@@ -24,14 +24,14 @@ pub returns-clause-value : goal.returns-clause-value
 returns-clause-value c =
     let w = within (length c.args.out.now) (length c.args.samples.now) c.args.count c.args.refusal c.requires in
     let steps = put_same (lines_first _ _ w.there) c.put_steps.ensures.put in
-    c.len.ensures ∙ (put_over c.new-text.ensures.length (put_put steps c.put_done.ensures.put)).0
+    c.len.ensures ∙ (put_over c.new-text.ensures.length (put_put steps c.put_done.ensures)).0
 
 pub returns-clause-out_after : goal.returns-clause-out_after
 returns-clause-out_after c =
     let w = within (length c.args.out.now) (length c.args.samples.now) c.args.count c.args.refusal c.requires in
     let steps = put_same (lines_first _ _ w.there) c.put_steps.ensures.put in
-    let after = (put_over c.new-text.ensures.length (put_put steps c.put_done.ensures.put)).1 in
-    let same = c.put_done.ensures.same ∙ c.put_steps.ensures.same ∙ c.new-text.ensures.same in
+    let after = (put_over c.new-text.ensures.length (put_put steps c.put_done.ensures)).1 in
+    let same = c.put_done.ensures.same ∙ c.put_steps.ensures.put.same ∙ c.new-text.ensures.same in
     let text : List ℕ = listing c.args.count c.args.samples.now c.args.refusal in
     let whole : c.put_done.new.self.buffer.now ≡ over text c.args.out.now = after ∙ ap (over text) c.new-text.ensures.value in
     search (rules, same, whole)

@@ -7,5 +7,5 @@ pub put_bytes-requires : goal.put_bytes-requires
 put_bytes-requires c =
     omega (arith, ap length (c.decimal-count.ensures.digits ∙ spelled _ c.args.n c.decimal-count.ensures.len), c.requires)
 
-pub returns-clause-put : goal.returns-clause-put
-returns-clause-put c = put_same (c.decimal-count.ensures.digits ∙ spelled _ _ c.decimal-count.ensures.len) c.put_bytes.ensures.put
+pub returns : goal.returns
+returns c = put_same (c.decimal-count.ensures.digits ∙ spelled _ _ c.decimal-count.ensures.len) c.put_bytes.ensures

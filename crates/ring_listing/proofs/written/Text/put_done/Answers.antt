@@ -11,12 +11,12 @@ put_bytes-requires c = omega (arith, done_parts c.args.count c.args.refusal)
 
 pub put_pair-requires : goal.put_pair-requires
 put_pair-requires c =
-    let p = c.put_bytes.ensures.put in
+    let p = c.put_bytes.ensures in
     let pair = ap (pair_line c.args.count) (to_z_pos w16 c.args.refusal (omega arith)) in
     omega (arith, p.ends, p.long, done_parts c.args.count c.args.refusal, ap length pair)
 
-pub returns-clause-put : goal.returns-clause-put
+pub returns : goal.returns
 unfolding done_line text
-returns-clause-put c =
+returns c =
     let pair = ap (pair_line c.args.count) (to_z_pos w16 c.args.refusal (omega arith)) in
-    put_put c.put_bytes.ensures.put (put_same pair c.put_pair.ensures.put)
+    put_put c.put_bytes.ensures (put_same pair c.put_pair.ensures)

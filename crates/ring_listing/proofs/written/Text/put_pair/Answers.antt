@@ -11,25 +11,25 @@ put_decimal-requires c = omega (arith, pair_parts c.args.number c.args.value)
 
 pub put_bytes-requires : goal.put_bytes-requires
 put_bytes-requires c =
-    let p = c.put_decimal.ensures.put in omega (arith, pair_parts c.args.number c.args.value, p.ends, p.long)
+    let p = c.put_decimal.ensures in omega (arith, pair_parts c.args.number c.args.value, p.ends, p.long)
 
 pub put_signed-requires : goal.put_signed-requires
 put_signed-requires c =
-    let p = c.put_decimal.ensures.put in
-    let q = c.put_bytes.ensures.put in
+    let p = c.put_decimal.ensures in
+    let q = c.put_bytes.ensures in
     let value = ap (λ (z : ℤ). length (signed_decimal z)) (to_z-of_z w16 c.args.value c.ranges.value) in
     omega (arith, value, pair_parts c.args.number c.args.value, p.ends, p.long, q.ends, q.long)
 
 pub put_bytes-requires-2 : goal.put_bytes-requires-2
 put_bytes-requires-2 c =
-    let p = c.put_decimal.ensures.put in
-    let q = c.put_bytes.ensures.put in
-    let r = c.put_signed.ensures.put in
+    let p = c.put_decimal.ensures in
+    let q = c.put_bytes.ensures in
+    let r = c.put_signed.ensures in
     let value = ap (λ (z : ℤ). length (signed_decimal z)) (to_z-of_z w16 c.args.value c.ranges.value) in
     omega (arith, value, pair_parts c.args.number c.args.value, p.ends, p.long, q.ends, q.long, r.ends, r.long)
 
-pub returns-clause-put : goal.returns-clause-put
+pub returns : goal.returns
 unfolding pair_line text
-returns-clause-put c =
-    let value = put_same (ap signed_decimal (to_z-of_z w16 c.args.value c.ranges.value)) c.put_signed.ensures.put in
-    put_put c.put_decimal.ensures.put (put_put c.put_bytes.ensures.put (put_put value c.put_bytes-2.ensures.put))
+returns c =
+    let value = put_same (ap signed_decimal (to_z-of_z w16 c.args.value c.ranges.value)) c.put_signed.ensures in
+    put_put c.put_decimal.ensures (put_put c.put_bytes.ensures (put_put value c.put_bytes-2.ensures))

@@ -1,5 +1,5 @@
 -- A line for each sample passed.
-use Rattle.std.proofs.Common.{rules, arith, ◌≡◌, ℕ, suc, ◌+◌, ◌^◌, ◌<◌, ℤ, pos, negsuc, nat_abs, get_or, refl, sym, ap, ◌∙◌, subst}
+use Rattle.std.proofs.Common.{rules, arith, ◌≡◌, ℕ, suc, ◌+◌, ◌^◌, ◌<◌, ℤ, pos, negsuc, nat_abs, get_or, sym, ap, ◌∙◌, subst}
 use Rattle.std.proofs.Common.{w16, to_z, of_z}
 use native.Mathlib.Numerals.{add-one}
 use lib.Signed.{mag}
@@ -22,7 +22,7 @@ line z f i = ap (pair_line (i + 1)) (to_z-of_z w16 z f) ∙ ap (λ (k : ℕ). pa
 
 pub loop-i-init : goal.loop-i-init
 unfolding step_lines
-loop-i-init c = record { same = refl; low = omega arith; lines = put_nothing _ }
+loop-i-init c = record { low = omega arith; lines = put_nothing _ }
 
 pub put_pair-requires : goal.put_pair-requires
 put_pair-requires c =
@@ -36,8 +36,7 @@ loop-i-preserved c =
     let fits : SFits w16 (get_or c.args.samples.now c.loop-i.i (pos 0)) = search rules in
     let before = c.loop-i.invariant in
     record {
-      same = c.put_pair.ensures.same ∙ before.same;
-      low = omega (arith, before.low, pair_ends _ _ (omega arith) (low _ fits) c.put_pair.ensures.put);
+      low = omega (arith, before.low, pair_ends _ _ (omega arith) (low _ fits) c.put_pair.ensures);
       lines = put_same (ap (λ (k : ℕ). step_lines k c.args.samples.now) (sym (add-one c.loop-i.i)))
-          (put_put before.lines (put_same (line _ fits c.loop-i.i) c.put_pair.ensures.put));
+          (put_put before.lines (put_same (line _ fits c.loop-i.i) c.put_pair.ensures));
     }
