@@ -1,2 +1,3 @@
 pub mod DecimalLaws
 pub mod SignedLaws
+pub mod ParseLaws

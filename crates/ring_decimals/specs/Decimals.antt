@@ -1,10 +1,6 @@
 -- Numbers of signed 64 bits as decimal digits.
-use Rattle.std.specs.Prelude.{Bool, true, ◌&&◌, cond, ℕ, ◌+◌, ◌-◌, ◌*◌, ◌^◌, ltb, leb, eqb, ℤ, pos, neg_ℤ, length, drop, get_or}
+use Rattle.std.specs.Prelude.{Bool, true, Option, Some, None, ◌&&◌, cond, ℕ, ◌+◌, ◌-◌, ◌*◌, ◌^◌, ltb, leb, eqb, ℤ, pos, neg_ℤ, length, drop, get_or}
 use mathlib.Core.List.{List, [], ◌∷◌, foldl}
-use Rattle.ring_decimals.specs.declared.Unsigned.{Unsigned}
-use Rattle.ring_decimals.specs.declared.Unsigned.TheVariants as U
-use Rattle.ring_decimals.specs.declared.Signed.{Signed}
-use Rattle.ring_decimals.specs.declared.Signed.TheVariants as S
 
 -- every element passes the test
 unfoldable pub all : {A : Type 0} → (A → Bool) → List A → Bool
@@ -47,9 +43,9 @@ signed_value f = cond (is_negative f) (neg_ℤ (pos (digits_value (drop 1 f)))) 
 -- ---- what is read: vocabulary between the crates of `ring`
 
 -- a field as a number of at most `most`
-unfoldable pub unsigned_read : ℕ → List ℕ → Unsigned
-unsigned_read most f = cond (unsigned_to most f) (U.Is (digits_value f)) U.Wrong
+unfoldable pub unsigned_read : ℕ → List ℕ → Option ℕ
+unsigned_read most f = cond (unsigned_to most f) (Some (digits_value f)) None
 
 -- a field as a number that may be negative
-unfoldable pub signed_read : List ℕ → Signed
-signed_read f = cond (is_signed f) (S.Is (signed_value f)) S.Wrong
+unfoldable pub signed_read : List ℕ → Option ℤ
+signed_read f = cond (is_signed f) (Some (signed_value f)) None

@@ -2,21 +2,20 @@
 use mathlib.Core.Path.{◌≡◌, refl, sym, ap, ◌∙◌}
 use mathlib.Core.Bool.{Bool, true, false, cond}
 use mathlib.Core.List.{List, [], ◌∷◌}
-use Prim.Native.Nat.{ℕ, zero, suc, ◌+◌, ◌-◌, ◌≤◌, ◌<◌}
+use Prim.Native.Nat.{ℕ, zero, suc, ◌+◌, ◌≤◌, ◌<◌}
 use native.Mathlib.Numerals.{add-one}
 use native.Mathlib.Omega.{arith}
 use borrow.Author.Count.{below_none, below_more}
 use borrow.Author.Tests.{eq-eqb, ne_eqb, le-leb, lt-leb}
 use lib.Dec.{eqb}
 use lib.ListN.{length, take, drop, set, get_or, length-drop}
-use lib.Seq.{drop-cons, drop-drop, get_or-set_same, get_or-set_other}
+use lib.Seq.{drop-cons, get_or-set_same, get_or-set_other}
 use Rattle.scheme.proofs.Laws.Bools.{and_yes, and_no}
 use Rattle.ring_decimals.specs.Decimals.{all, digits_value, is_unsigned, is_signed}
-use Rattle.ring_line.specs.Lists.{before, on_first, split_on}
+use Rattle.ring_line.specs.Lists.{on_first, split_on}
 use Rattle.ring_line.specs.Requests.{space, fields, field, well_formed}
 use Rattle.ring_line.specs.Reading.{Read}
 use Rattle.ring_decimals.proofs.DecimalLaws.{and_no_second}
-use Rattle.ring_line.proofs.ListLaws.{before-take, split_last, split_more}
 
 -- ---- well formed or not
 
@@ -84,23 +83,15 @@ some_field s (b ∷ bs) = go (eqb b s) (split_on s bs)
     go false [] = omega arith
     go false (f ∷ fs) = omega arith
 
--- the next field ends at a place
-module _ (line values : List ℕ) (i at : ℕ) (r : Read line i values at)
-    (end : ℕ) (z : end ≡ at + length (before space (drop at line))) where
+-- after the first i fields
+module _ (line values : List ℕ) (i : ℕ) (rest : List ℕ) (r : Read line i values rest) where
   abbrev fs : List (List ℕ)
   fs = fields line
 
-  -- from the next field on
-  abbrev rest : List ℕ
-  rest = drop at line
-
-  rest-length : length rest ≡ length line - at
-  rest-length = length-drop at line
-
-  -- it is the last
-  module _ (h : length line ≤ end) where
+  -- the next field is the last
+  module _ (e : fields rest ≡ rest ∷ []) where
     last : drop i fs ≡ rest ∷ []
-    last = r.rest ∙ split_last space rest (omega (arith, rest-length))
+    last = r.others ∙ e
 
     pub last_length : length fs ≡ i + 1
     last_length = omega (arith, length-drop i fs, ap length last)
@@ -111,47 +102,36 @@ module _ (line values : List ℕ) (i at : ℕ) (r : Read line i values at)
     pub too_few : i < 9 → well_formed fs ≡ false
     too_few b = not-ten fs (λ e. omega (arith, last_length))
 
-  -- it is not
-  module _ (h : end < length line) where
-    more : drop i fs ≡ before space rest ∷ fields (drop (suc (length (before space rest))) rest)
-    more = r.rest ∙ split_more space rest (omega (arith, rest-length))
+  -- others come after it
+  module _ (f after : List ℕ) (e : fields rest ≡ f ∷ fields after) where
+    more : drop i fs ≡ f ∷ fields after
+    more = r.others ∙ e
 
     more-length : i + 1 < length fs
-    more-length = omega (arith, length-drop i fs, ap length more, some_field space (drop (suc (length (before space rest))) rest))
+    more-length = omega (arith, length-drop i fs, ap length more, some_field space after)
 
-    more_is : field fs i ≡ take (end - at) rest
-    more_is = at_is fs i [] more ∙ sym (before-take space rest) ∙ ap (λ (k : ℕ). take k rest) same
-      where
-        same : length (before space rest) ≡ end - at
-        same = omega arith
+    more_is : field fs i ≡ f
+    more_is = at_is fs i [] more
 
     pub too_many : 9 ≤ i → well_formed fs ≡ false
     too_many b = not-ten fs (λ e. omega (arith, more-length))
 
-    pub wrong_field : i < 9 → is_unsigned (take (end - at) rest) ≡ false → well_formed fs ≡ false
+    pub wrong_field : i < 9 → is_unsigned f ≡ false → well_formed fs ≡ false
     wrong_field b e = not_unsigned fs (not-all-take is_unsigned [] 9 fs i b (omega (arith, more-length)) (ap is_unsigned more_is ∙ e))
 
-    pub read_more : (v : ℕ) → i < length values → let f = take (end - at) rest in is_unsigned f ≡ true → digits_value f ≡ v →
-        Read line (i + 1) (set values i v) (end + 1)
+    pub read_more : (v : ℕ) → i < length values → is_unsigned f ≡ true → digits_value f ≡ v → Read line (i + 1) (set values i v) after
     read_more v b e d =
         record {
-          inside = omega arith;
-          rest = rw (add-one i) (after_is fs i [] more ∙ ap fields next-rest);
+          others = rw (add-one i) (after_is fs i [] more);
           each = below_more _ i r.each (ap is_unsigned more_is ∙ e);
           value = below_more _ i earlier (get_or-set_same values i v 0 b ∙ sym this);
         }
       where
-        place : at + suc (length (before space rest)) ≡ end + 1
-        place = omega arith
-
-        next-rest : drop (suc (length (before space rest))) rest ≡ drop (end + 1) line
-        next-rest = drop-drop (suc (length (before space rest))) at line ∙ ap (λ (k : ℕ). drop k line) place
-
         this : digits_value (field fs i) ≡ v
         this = ap digits_value more_is ∙ d
 
         earlier : (k : ℕ) → k < i → get_or (set values i v) k 0 ≡ digits_value (field fs k)
         earlier k q = get_or-set_other values i k v 0 (λ e. omega arith) ∙ r.value k q
 
-pub read_none : (line values : List ℕ) → Read line 0 values 0
-read_none line values = record { inside = omega arith; rest = refl; each = below_none _; value = below_none _ }
+pub read_none : (line values : List ℕ) → Read line 0 values line
+read_none line values = record { others = refl; each = below_none _; value = below_none _ }

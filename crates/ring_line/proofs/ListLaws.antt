@@ -1,11 +1,12 @@
 -- The numbers before the first that is sought, and the lists between them.
-use mathlib.Core.Path.{◌≡◌, refl, sym, ap}
+use mathlib.Core.Path.{◌≡◌, refl, sym, ap, ◌∙◌}
 use mathlib.Core.Bool.{Bool, true, false, cond}
 use mathlib.Core.List.{List, [], ◌∷◌}
 use Prim.Native.Nat.{ℕ, zero, suc, ◌+◌, ◌≤◌, ◌<◌}
 use native.Mathlib.Omega.{arith}
 use lib.Dec.{eqb}
 use lib.ListN.{length, take, drop}
+use lib.Seq.{take_all}
 use Rattle.std.specs.Prelude.{Some, None}
 use Rattle.std.specs.List.{position, position_or_len}
 use Rattle.std.proofs.lemmas.Grind.{common_steps}
@@ -31,9 +32,10 @@ no_longer s (b ∷ bs) = go (eqb b s) (no_longer s bs)
     go true h = omega arith
     go false h = omega arith
 
+-- where the first stands, or nowhere
 module _ (s : ℕ) (l : List ℕ) where
-  pub first_some : (n : ℕ) → Some n ≡ position (λ b. eqb b s) l → n ≡ length (before s l)
-  first_some n e = grind (arith, common_steps, until s l, e)
+  pub first_some : {n : ℕ} → Some n ≡ position (λ b. eqb b s) l → (n ≡ length (before s l)) × (n < length l)
+  first_some {n} e = (grind (arith, common_steps, until s l, e), grind (arith, common_steps, e))
 
   pub first_none : None ≡ position (λ b. eqb b s) l → length l ≡ length (before s l)
   first_none e = grind (arith, common_steps, until s l, no_longer s l, e)
@@ -61,6 +63,10 @@ before-first s (suc n) (b ∷ bs) = go (eqb b s) (before-first s n bs)
         cond t [] (b ∷ before s (take n bs)) ≡ take (suc n) (cond t [] (b ∷ before s bs))
     go true e = refl
     go false e = ap (λ (r : List ℕ). b ∷ r) e
+
+-- all of them, where none is
+pub before_all : (s : ℕ) (l : List ℕ) → length l ≤ length (before s l) → before s l ≡ l
+before_all s l h = sym (before-take s l) ∙ take_all (length (before s l)) l h
 
 -- ---- the lists between
 

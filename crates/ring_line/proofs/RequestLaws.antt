@@ -2,32 +2,31 @@
 use mathlib.Core.Path.{◌≡◌, refl, sym, ap, ◌∙◌}
 use mathlib.Core.Bool.{Bool, true, false, ◌&&◌, cond}
 use mathlib.Core.List.{List, [], ◌∷◌}
-use Prim.Native.Nat.{ℕ, ◌+◌, ◌-◌, ◌^◌, ◌≤◌, ◌<◌}
+use Prim.Native.Nat.{ℕ, ◌-◌, ◌^◌, ◌≤◌, ◌<◌}
 use native.Mathlib.Omega.{arith}
 use borrow.Author.Tests.{le-leb, lt-leb, leb-true, leb-false, eqb-true, ne_eqb}
 use lib.Dec.{ltb, leb, eqb, lit<}
 use lib.IntN.{ℤ}
-use lib.ListN.{length, take, drop, get_or, length-drop}
+use lib.ListN.{length, take, get_or}
 use lib.Seq.{take_all, length-take-le}
 use Rattle.scheme.proofs.Laws.Bools.{and_both}
-use Rattle.ring_decimals.specs.declared.Signed.TheVariants.{Is, Wrong}
+use Rattle.std.specs.Prelude.{Option, Some, None}
 use Rattle.ring_decimals.specs.Decimals.{all, minus, is_digit, digits_value, unsigned_to, is_unsigned, is_signed, signed_value, signed_read}
 use Rattle.ring_decimals.proofs.DecimalLaws.{digit_range}
 use Rattle.ring_decimals.proofs.SignedLaws.{signed_wrong, signed-right}
-use Rattle.ring_line.specs.declared.asked.Request.{Request}
-use Rattle.ring_line.specs.declared.asked.Request.TheVariants.{Input, Run}
+use Rattle.ring_line.specs.declared.asked.Numbers.{Numbers}
 use Rattle.ring_line.specs.Lists.{before}
 use Rattle.ring_line.specs.Requests.{line_feed, space, fields, field, well_formed, numbers, line_request, request_of}
 use Rattle.ring_line.specs.Reading.{ten, Read}
 use Rattle.ring_line.specs.Claims.{FirstBytesTell}
-use Rattle.ring_line.proofs.ListLaws.{before-take, before-first}
+use Rattle.ring_line.proofs.ListLaws.{before-first, split_last, split_more}
 use Rattle.ring_line.proofs.FieldLaws.{all_take, not-signed, not-steps, all_right, last_length, last_is, too_many}
 
 -- ---- a line
 
-pub turned_down : (line : List ℕ) → well_formed (fields line) ≡ false → Input ≡ line_request line
+pub turned_down : (line : List ℕ) → well_formed (fields line) ≡ false → None ≡ line_request line
 unfolding line_request
-turned_down line e = sym (ap (λ (t : Bool). cond t (Run (numbers (fields line))) Input) e)
+turned_down line e = sym (ap (λ (t : Bool). cond t (Some (numbers (fields line))) None) e)
 
 -- ---- the tenth field has no space
 
@@ -55,39 +54,40 @@ signed-whole (b ∷ bs) e = go (eqb b minus) refl e
 
 -- ---- nine fields were read
 
-module _ (line values : List ℕ) (at : ℕ) (r : Read line 9 values at) where
+module _ (line values rest : List ℕ) (r : Read line 9 values rest) where
   abbrev fs : List (List ℕ)
   fs = fields line
 
-  abbrev rest : List ℕ
-  rest = drop at line
+  -- whether the tenth is the last
+  abbrev ends : Bool
+  ends = leb (length rest) (length (before space rest))
 
-  -- where the tenth ends
-  abbrev end : ℕ
-  end = at + length (before space rest)
+  alone : ends ≡ true → fields rest ≡ rest ∷ []
+  alone k = split_last space rest (leb-true _ _ k)
 
-  last : length line ≤ end → field fs 9 ≡ rest
-  last h = last_is line values 9 at r end refl h
+  more : ends ≡ false → well_formed fs ≡ false
+  more k = too_many line values 9 rest r _ _ (split_more space rest (leb-false _ _ k)) (omega arith)
 
-  pub force_turned_down : signed_read rest ≡ Wrong → Input ≡ line_request line
-  force_turned_down e = turned_down line (go (leb (length line) (end)) refl)
+  pub force_turned_down : signed_read rest ≡ None → None ≡ line_request line
+  force_turned_down e = turned_down line (go ends refl)
     where
-      go : (t : Bool) → leb (length line) (end) ≡ t → well_formed fs ≡ false
-      go true k = not-signed fs (ap is_signed (last (leb-true _ _ k)) ∙ signed_wrong rest e)
-      go false k = too_many line values 9 at r end refl (leb-false _ _ k) (omega arith)
+      go : (t : Bool) → ends ≡ t → well_formed fs ≡ false
+      go true k = not-signed fs (ap is_signed (last_is line values 9 rest r (alone k)) ∙ signed_wrong rest e)
+      go false k = more k
 
-  pub steps_turned_down : 8192 < get_or values 7 0 → Input ≡ line_request line
+  pub steps_turned_down : 8192 < get_or values 7 0 → None ≡ line_request line
   steps_turned_down b = turned_down line (not-steps fs (omega (arith, r.value 7 (lit< tt))))
 
-  pub taken : (v : ℤ) → signed_read rest ≡ Is v → get_or values 7 0 ≤ 8192 → Run (ten values v) ≡ line_request line
+  pub taken : (v : ℤ) → signed_read rest ≡ Some v → get_or values 7 0 ≤ 8192 → Some (ten values v) ≡ line_request line
   unfolding line_request
   taken v e b =
       let f = signed-right rest e in
-      let h : length line ≤ end = omega (arith, ap length (signed-whole rest f.0), length-drop at line) in
-      let fields-ten : length fs ≡ 10 = last_length line values 9 at r end refl h in
+      let alone : fields rest ≡ rest ∷ [] = split_last space rest (omega (arith, ap length (signed-whole rest f.0))) in
+      let last = last_is line values 9 rest r alone in
+      let fields-ten : length fs ≡ 10 = last_length line values 9 rest r alone in
       let low : digits_value (field fs 7) ≤ 8192 = omega (arith, r.value 7 (lit< tt)) in
-      let ok = all_right fs fields-ten (all_take is_unsigned [] 9 fs r.each) (ap is_signed (last h) ∙ f.0) low in
-      let value : v ≡ signed_value (field fs 9) = sym (ap signed_value (last h) ∙ f.1) in
+      let ok = all_right fs fields-ten (all_take is_unsigned [] 9 fs r.each) (ap is_signed last ∙ f.0) low in
+      let value : v ≡ signed_value (field fs 9) = sym (ap signed_value last ∙ f.1) in
       let same : ten values v ≡ numbers fs =
       λ j. record {
         kind = r.value 0 (lit< tt) j;
@@ -101,23 +101,22 @@ module _ (line values : List ℕ) (at : ℕ) (r : Read line 9 values at) where
         point = r.value 8 (lit< tt) j;
         force = value j;
       } in
-      ap Run same ∙ sym (ap (λ (t : Bool). cond t (Run (numbers fs)) Input) ok)
+      ap Some same ∙ sym (ap (λ (t : Bool). cond t (Some (numbers fs)) None) ok)
 
 -- ---- the first line
 
-module _ (bytes : List ℕ) (n : ℕ) (z : n ≡ length (before line_feed bytes)) where
-  pub too_long : 255 < n → Input ≡ request_of bytes
+module _ (bytes line : List ℕ) (e : line ≡ before line_feed bytes) where
+  pub too_long : 255 < length line → None ≡ request_of bytes
   unfolding request_of
   too_long h =
       let l = before line_feed bytes in
-      sym (ap (λ (t : Bool). cond t (line_request l) Input) (lt-leb (length l) 255 (omega arith)))
+      sym (ap (λ (t : Bool). cond t (line_request l) None) (lt-leb (length l) 255 (omega (arith, ap length e))))
 
-  pub first-line : n ≤ 255 → line_request (take n bytes) ≡ request_of bytes
+  pub short : length line ≤ 255 → line_request line ≡ request_of bytes
   unfolding request_of
-  first-line h =
+  short h =
       let l = before line_feed bytes in
-      ap (λ (k : ℕ). line_request (take k bytes)) z ∙ ap line_request (before-take line_feed bytes) ∙
-      sym (ap (λ (t : Bool). cond t (line_request l) Input) (le-leb (length l) 255 (omega arith)))
+      ap line_request e ∙ sym (ap (λ (t : Bool). cond t (line_request l) None) (le-leb (length l) 255 (omega (arith, ap length e))))
 
 -- ---- the first bytes
 
@@ -125,8 +124,8 @@ pub first_bytes_tell : FirstBytesTell
 unfolding request_of
 first_bytes_tell bytes = ap told (before-first line_feed 256 bytes) ∙ cases (before line_feed bytes)
   where
-    told : List ℕ → Request
-    told l = cond (leb (length l) 255) (line_request l) Input
+    told : List ℕ → Option Numbers
+    told l = cond (leb (length l) 255) (line_request l) None
 
     cases : (l : List ℕ) → told (take 256 l) ≡ told l
     cases l = go (leb (length l) 255) refl
@@ -136,5 +135,5 @@ first_bytes_tell bytes = ap told (before-first line_feed 256 bytes) ∙ cases (b
         go false e =
             let h : 256 ≤ length l = omega (arith, leb-false (length l) 255 e) in
             let f = take 256 l in
-            ap (λ (t : Bool). cond t (line_request f) Input) (lt-leb (length f) 255 (omega (arith, length-take-le 256 l h)))
-            ∙ sym (ap (λ (t : Bool). cond t (line_request l) Input) e)
+            ap (λ (t : Bool). cond t (line_request f) None) (lt-leb (length f) 255 (omega (arith, length-take-le 256 l h)))
+            ∙ sym (ap (λ (t : Bool). cond t (line_request l) None) e)

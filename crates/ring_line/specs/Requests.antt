@@ -1,9 +1,7 @@
 -- What the program `ring` is asked for: "ten decimals, digits only, single spaces between".
-use Rattle.std.specs.Prelude.{Bool, ◌&&◌, cond, List, [], ℕ, leb, eqb, length, take, get_or}
+use Rattle.std.specs.Prelude.{Bool, ◌&&◌, cond, Option, Some, None, List, [], ℕ, leb, eqb, length, take, get_or}
 use Rattle.ring_decimals.specs.Decimals.{all, digits_value, is_unsigned, is_signed, signed_value}
 use Rattle.ring_line.specs.declared.asked.Numbers.{Numbers}
-use Rattle.ring_line.specs.declared.asked.Request.{Request}
-use Rattle.ring_line.specs.declared.asked.Request.TheVariants.{Input, Run}
 use Rattle.ring_line.specs.Lists.{before, split_on}
 
 -- ---- bytes
@@ -44,14 +42,14 @@ numbers fs =
       force = signed_value (field fs 9);
     }
 
--- "Other lines .. print `input`, decided before all else"
-unfoldable pub line_request : List ℕ → Request
-line_request line = cond (well_formed (fields line)) (Run (numbers (fields line))) Input
+-- the ten numbers; none of "Other lines .. print `input`, decided before all else"
+unfoldable pub line_request : List ℕ → Option Numbers
+line_request line = cond (well_formed (fields line)) (Some (numbers (fields line))) None
 
 -- "the first line of standard input, at most 255 bytes up to a line feed or the end"
 abbrev pub first_line : List ℕ → List ℕ
 first_line bytes = before line_feed bytes
 
 -- what the first line of these bytes asks for
-unfoldable pub request_of : List ℕ → Request
-request_of bytes = cond (leb (length (first_line bytes)) 255) (line_request (first_line bytes)) Input
+unfoldable pub request_of : List ℕ → Option Numbers
+request_of bytes = cond (leb (length (first_line bytes)) 255) (line_request (first_line bytes)) None

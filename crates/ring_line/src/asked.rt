@@ -1,4 +1,4 @@
-// The answer, and the ten numbers in the order of the line.
+// The ten numbers in the order of the line.
 
 #[derive(Clone, Copy)]
 pub struct Numbers {
@@ -12,12 +12,4 @@ pub struct Numbers {
     pub steps: usize,
     pub point: usize,
     pub force: i64,
-}
-
-// What a line asks for: to print `input`, or to run on ten numbers. The definition `request_of` tells which, and `numbers` the values;
-// `text_for` of the crate shell tells what is printed for each.
-#[derive(Drop)]
-pub enum Request {
-    Input,
-    Run(Numbers),
 }

@@ -2,17 +2,16 @@
 #![tactic(auto)]
 
 mod asked;
-mod fields;
-mod search;
 
-ghost use Rattle.std.specs.Prelude.{◌≡◌};
-ghost use Rattle.ring_line.specs.Requests.{line_request, request_of};
+ghost use Rattle.std.specs.Prelude.{◌≡◌, nat_eq, position};
+ghost use Rattle.ring_line.specs.Lists.{before};
+ghost use Rattle.ring_line.specs.Requests.{line_feed, line_request, request_of};
 ghost use Rattle.ring_line.specs.Reading.{ten};
 
-use crate::fields::{Rest, read_nine};
-use crate::search::length_before;
-pub use asked::{Numbers, Request};
-use ring_decimals::{Signed, read_signed};
+pub use asked::Numbers;
+use ring_decimals::{read_signed, read_unsigned};
+
+const SPACE: u8 = 32;
 
 const LINE_FEED: u8 = 10;
 
@@ -20,45 +19,62 @@ const LINE_FEED: u8 = 10;
 fn numbers_of(values: [u64; 9], force: i64) -> Numbers
     ensures { result ≡ ten values force }
 {
+    let [kind, columns, rows, q, m, s, pick, steps, point] = values;
     Numbers {
-        kind: values[0],
-        columns: values[1] as usize,
-        rows: values[2] as usize,
-        q: values[3],
-        m: values[4],
-        s: values[5],
-        pick: values[6] as usize,
-        steps: values[7] as usize,
-        point: values[8] as usize,
+        kind,
+        columns: columns as usize,
+        rows: rows as usize,
+        q,
+        m,
+        s,
+        pick: pick as usize,
+        steps: steps as usize,
+        point: point as usize,
         force,
     }
 }
 
 // What a whole line asks for. Where more than ten fields stand, what begins with the tenth is no number: a space is no digit.
-fn line_request(line: &[u8]) -> Request
+fn line_request(line: &[u8]) -> Option<Numbers>
     ensures { result ≡ line_request line.now }
 {
+    let mut fields = line.splitn(10, |byte| *byte == SPACE);
     let mut values = [0u64; 9];
-    let Rest::At(at) = read_nine(line, &mut values) else {
-        return Request::Input;
-    };
-    let Signed::Is(force) = read_signed(&line[at..]) else {
-        return Request::Input;
-    };
-    if 8192 < values[7] {
-        return Request::Input;
+    for value in values.iter_mut() {
+        *value = read_unsigned(fields.next()?)?;
     }
-    Request::Run(numbers_of(values, force))
+    let force = read_signed(fields.next()?)?;
+    if 8192 < values[7] {
+        return None;
+    }
+    Some(numbers_of(values, force))
 }
 
-// What the first line of the bytes asks for; the first 256 bytes of the input are enough (`FirstBytesTell`).
+fn line_feed_in(bytes: &[u8]) -> Option<usize>
+    ensures { result ≡ position (λ b. nat_eq b line_feed) bytes.now }
+{
+    bytes.iter().position(|byte| *byte == LINE_FEED)
+}
+
+// The bytes before the first line feed; all of them where none is.
+fn first_line(bytes: &[u8]) -> &[u8]
+    ensures { result.now ≡ before line_feed bytes.now }
+{
+    match line_feed_in(bytes) {
+        Some(end) => &bytes[..end],
+        None => bytes,
+    }
+}
+
+// The ten numbers of the first line of the bytes, or none where the line is answered by `input`. The definition `request_of` tells which,
+// and `numbers` the values; the first 256 bytes of the input are enough (`FirstBytesTell`).
 // Ruled out: a line of 256 bytes taken; 8193 steps taken.
-pub fn request(bytes: &[u8]) -> Request
+pub fn request(bytes: &[u8]) -> Option<Numbers>
     ensures { result ≡ request_of bytes.now }
 {
-    let end = length_before(bytes, LINE_FEED);
-    if 255 < end {
-        return Request::Input;
+    let line = first_line(bytes);
+    if 255 < line.len() {
+        return None;
     }
-    line_request(&bytes[..end])
+    line_request(line)
 }

@@ -14,7 +14,8 @@ use lib.Signed.{lt_z}
 use Rattle.io.specs.Digits.{hex_digit_ascii, last_digits, IsDigitCount}
 use Rattle.ring_line.specs.Lists.{text}
 use Rattle.ring_listing.specs.Text.{digit, digits_in, decimal, signed_decimal, pair_line, done_line, over}
-use Rattle.ring_listing.specs.Put.{sign, Put}
+use Rattle.ring_listing.specs.declared.written.Text.{Text}
+use Rattle.ring_listing.specs.Put.{sign, Put, Room}
 
 -- ---- one text after the other
 
@@ -22,25 +23,28 @@ use Rattle.ring_listing.specs.Put.{sign, Put}
 kept_on : (m n : ℕ) (a b : List ℕ) → drop m b ≡ drop m a → drop (m + n) b ≡ drop (m + n) a
 kept_on m n a b e = sym (drop-drop n m b) ∙ ap (drop n) e ∙ drop-drop n m a
 
-pub put_put : {a b c : List ℕ} {at m r : ℕ} {s t : List ℕ} → Put a at s m b → Put b m t r c → Put a at (s ++ t) r c
-put_put {a} {b} {at = at} {m} {r} {s} {t} p q =
+pub put_put : {a b c : Text} {s t : List ℕ} → Put a s b → Put b t c → Put a (s ++ t) c
+put_put {a} {b} {c} {s} {t} p q =
     record {
       ends = omega (arith, p.ends, q.ends, length-append s t);
-      holds = q.holds ∙ ap (λ (l : List ℕ). l ++ t) p.holds ∙ append_assoc (take at a) s t;
-      kept = q.kept ∙ subst⁻¹ (λ (k : ℕ). drop k b ≡ drop k a) q.ends (kept_on m (length t) a b p.kept);
+      holds = q.holds ∙ ap (λ (l : List ℕ). l ++ t) p.holds ∙ append_assoc (take a.length a.buffer.now) s t;
+      kept = q.kept ∙ subst⁻¹ (λ (k : ℕ). drop k b.buffer.now ≡ drop k a.buffer.now) q.ends (kept_on b.length (length t) a.buffer.now b.buffer.now p.kept);
+      same = q.same ∙ p.same;
+      long = q.long ∙ p.long;
     }
 
-pub put_same : {a b : List ℕ} {at r : ℕ} {s t : List ℕ} → s ≡ t → Put a at s r b → Put a at t r b
-put_same {a} {b} {at} {r} e p = subst (λ (l : List ℕ). Put a at l r b) e p
+pub put_same : {a b : Text} {s t : List ℕ} → s ≡ t → Put a s b → Put a t b
+put_same {a} {b} e p = subst (λ (l : List ℕ). Put a l b) e p
 
-pub put_nothing : (a : List ℕ) (at : ℕ) → Put a at [] at a
-put_nothing a at = record { ends = omega arith; holds = sym (append-nil (take at a)); kept = refl }
+pub put_nothing : (a : Text) → Put a [] a
+put_nothing a = record { ends = omega arith; holds = sym (append-nil (take a.length a.buffer.now)); kept = refl; same = refl; long = refl }
 
--- a text at the start, and the whole buffer
-pub put_over : {a b : List ℕ} {r : ℕ} {s : List ℕ} → Put a 0 s r b → (r ≡ length s) × (b ≡ over s a)
-put_over {a} {b} {r} {s} p =
-    let long : r ≡ length s = omega (arith, p.ends) in
-    (long, sym (take-append-drop r b) ∙ ap₂ ◌++◌ p.holds p.kept ∙ ap (λ (k : ℕ). s ++ drop k a) long)
+-- a text from the start, and the whole buffer
+pub put_over : {a b : Text} {s : List ℕ} → a.length ≡ 0 → Put a s b → (b.length ≡ length s) × (b.buffer.now ≡ over s a.buffer.now)
+put_over {a} {b} {s} z p =
+    let long : b.length ≡ length s = omega (arith, p.ends, z) in
+    let first : take b.length b.buffer.now ≡ s = p.holds ∙ ap (λ (k : ℕ). take k a.buffer.now ++ s) z in
+    (long, sym (take-append-drop b.length b.buffer.now) ∙ ap₂ ◌++◌ first p.kept ∙ ap (λ (k : ℕ). s ++ drop k a.buffer.now) long)
 
 -- ---- the digits of a number
 
@@ -122,6 +126,9 @@ unfolding signed_decimal text
 signed_parts (pos n) = refl
 signed_parts (negsuc n) = refl
 
+pub signed_long : (v : ℤ) → length (signed_decimal v) ≡ length (sign v) + length (decimal (nat_abs v))
+signed_long v = omega (arith, ap length (signed_parts v), length-append (sign v) (decimal (nat_abs v)))
+
 pub signed-length : (v : ℤ) → nat_abs v < 100000 → length (signed_decimal v) ≤ 6
 unfolding signed_decimal text
 signed-length (pos n) h = omega (arith, decimal-length 4 n h)
@@ -138,10 +145,10 @@ module _ (number : ℕ) (v : ℤ) (h : number < 10000) (k : nat_abs v < 100000) 
   pair_length : length (pair_line number v) ≤ 12
   pair_length = omega (arith, pair_parts number v, decimal-length 3 number h, signed-length v k)
 
-  pub pair_fits : (at room : ℕ) → at + 12 ≤ room → at + length (pair_line number v) ≤ room
-  pair_fits at room l = omega (arith, pair_length)
+  pub pair_fits : (t : Text) → t.length + 12 ≤ length t.buffer.now → Room t (pair_line number v)
+  pair_fits t l = omega (arith, pair_length)
 
-  pub pair_ends : {a b : List ℕ} {at r : ℕ} → Put a at (pair_line number v) r b → r ≤ at + 12
+  pub pair_ends : {a b : Text} → Put a (pair_line number v) b → b.length ≤ a.length + 12
   pair_ends p = omega (arith, p.ends, pair_length)
 
 pub done_parts : (count refusal : ℕ) → length (done_line count refusal) ≡ 5 + length (pair_line count (pos refusal))

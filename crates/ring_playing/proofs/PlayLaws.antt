@@ -1,7 +1,7 @@
 -- What is played: sizes, unknown kinds, and the block at rest.
 use mathlib.Core.Path.{◌≡◌, refl, sym, ap, ◌∙◌, subst⁻¹}
 use mathlib.Core.Logic.{⊎_elim}
-use mathlib.Core.Bool.{Bool, true, false}
+use mathlib.Core.Bool.{Bool, true, false, cond}
 use mathlib.Core.List.{List, ◌∷◌}
 use Prim.Native.Nat.{ℕ, zero, suc, ◌≤◌}
 use native.Mathlib.Omega.{arith}
@@ -21,8 +21,9 @@ use Rattle.scheme.proofs.Laws.Refusals.{accepted_is}
 use Rattle.scheme.proofs.Laws.Calls.{block-done, block_refused_lem, stands_behind}
 use Rattle.ring_line.specs.declared.asked.Numbers.{Numbers}
 use Rattle.ring_setup.specs.declared.Setup.{Setup}
-use Rattle.ring_setup.specs.Numbers.{grid_of, asked_instrument, asked_hit, is_too_large, level_length, setup_of}
+use Rattle.ring_setup.specs.Numbers.{grid_of, asked_instrument, asked_hit, is_too_large, level_length, asked_setup, setup_of}
 use Rattle.ring_playing.specs.Play.{heard, heard_of, block_at_rest, from_rest, played}
+use Rattle.std.specs.Prelude.{Option, Result, Ok, Err}
 
 pub take-replicate : (k n : ℕ) (z : ℤ) → k ≤ n → take k (replicate n z) ≡ replicate k z
 take-replicate zero n z h = refl
@@ -30,22 +31,21 @@ take-replicate (suc k) zero z h = absurd (omega arith)
 take-replicate (suc k) (suc n) z h = ap (λ (l : List ℤ). z ∷ l) (take-replicate k n z (omega arith))
 
 -- a block over the first points of levels at rest
-pub over-rest : (i : Instrument) (k : ℕ) (older newer work samples : List ℤ) (pick : ℕ) (h : Hit)
-    → older ≡ replicate 1024 (pos 0) → newer ≡ replicate 1024 (pos 0) → work ≡ replicate 1024 (pos 0) → k ≤ 1024
-    → block i (take k older) (take k newer) (take k work) samples pick h ≡ block_at_rest i k samples pick h
-over-rest i k older newer work samples pick h eo en ew low = simp (eo, en, ew, take-replicate k 1024 (pos 0) low)
+pub over-rest : (i : Instrument) (k : ℕ) (samples : List ℤ) (pick : ℕ) (h : Option Hit) → k ≤ 1024 →
+    let level = take k (replicate 1024 (pos 0)) in block i level level level samples pick h ≡ block_at_rest i k samples pick h
+over-rest i k samples pick h low = simp (take-replicate k 1024 (pos 0) low)
 
 -- an unknown kind is refused whatever else is asked or lent
 module _ (i : Instrument) (unknown : within 1 last_kind i.grid.kind ≡ false)
-    (older newer work samples : List ℤ) (pick : ℕ) (h : Hit) where
-  first : block_refusal i older newer (wrong_length i.grid (length work)) pick h ≡ UnknownKind
+    (older newer work samples : List ℤ) (pick : ℕ) (h : Option Hit) where
+  first : block_refusal i older newer (wrong_length i.grid (length work)) pick h ≡ Err UnknownKind
   unfolding block_refusal
   first = simp unknown
 
-  pub unknown_refused : block i older newer work samples pick h ≡ block_refused UnknownKind older newer work samples
+  pub unknown_refused : block i older newer work samples pick h ≡ block_refused (Err UnknownKind) older newer work samples
   unknown_refused =
       block_refused_lem i older newer work samples pick h (ap accepted first)
-      ∙ ap (λ (r : Refusal). block_refused r older newer work samples) first
+      ∙ ap (λ (r : Result Unit Refusal). block_refused r older newer work samples) first
 
 -- the levels are lent no more than 1024 points
 pub length-low : (n : Numbers) → level_length (grid_of n) ≤ 1024
@@ -55,28 +55,43 @@ length-low n = go (ltb 1024 (points (grid_of n))) refl
     go true e = simp e (omega arith)
     go false e = simp e (ltb-false _ _ e)
 
+err_is : {A : Type 0} {r s : Refusal} → ◌≡◌ {A = Result A Refusal} (Err r) (Err s) → r ≡ s
+err_is e = cc
+
+ok_is : {E : Type 0} {r s : Setup} → ◌≡◌ {A = Result Setup E} (Ok r) (Ok s) → r ≡ s
+ok_is e = cc
+
 -- the block that the code plays
 abbrev code : Setup → List ℤ → (pick : ℕ) → AfterBlock
 code s samples pick = block_at_rest s.instrument s.length samples pick s.hit
 
 module _ (n : Numbers) (samples : List ℤ) where
-  pub too_large : is_too_large (grid_of n) ≡ true →
-      heard (record { steps = 0; inexact = 0; refusal = WrongSize }) samples ≡ played n samples
-  unfolding played
-  too_large e = simp e
-
-  same_heard : is_too_large (grid_of n) ≡ false → heard_of (code (setup_of n) samples n.pick) ≡ heard_of (from_rest n samples)
+  same_heard : is_too_large (grid_of n) ≡ false → heard_of (code (asked_setup n) samples n.pick) ≡ heard_of (from_rest n samples)
   same_heard e = go (within 1 last_kind n.kind) refl
     where
-      go : (b : Bool) → within 1 last_kind n.kind ≡ b → heard_of (code (setup_of n) samples n.pick) ≡ heard_of (from_rest n samples)
+      go : (b : Bool) → within 1 last_kind n.kind ≡ b → heard_of (code (asked_setup n) samples n.pick) ≡ heard_of (from_rest n samples)
       go true k = simp (sym (and_yes k) ∙ e)
       go false k =
           ap heard_of (unknown_refused (asked_instrument n) k _ _ _ samples _ _)
           ∙ sym (ap heard_of (unknown_refused (asked_instrument n) k _ _ _ samples _ _))
 
-  pub plays : (s : Setup) → s ≡ setup_of n → is_too_large (grid_of n) ≡ false → heard_of (code s samples n.pick) ≡ played n samples
+  pub refused : (r : Refusal) → Err r ≡ setup_of n → heard (record { steps = 0; inexact = 0; outcome = Err r }) samples ≡ played n samples
   unfolding played
-  plays s is e = ap (λ (s : Setup). heard_of (code s samples n.pick)) is ∙ same_heard e ∙ simp e
+  refused r = go (is_too_large (grid_of n)) refl
+    where
+      go : (t : Bool) → is_too_large (grid_of n) ≡ t → Err r ≡ cond t (Err WrongSize) (Ok (asked_setup n)) →
+          heard (record { steps = 0; inexact = 0; outcome = Err r }) samples ≡ played n samples
+      go true k e = simp (k, err_is e)
+      go false k e = absurd (cc)
+
+  pub plays : (s : Setup) → Ok s ≡ setup_of n → heard_of (code s samples n.pick) ≡ played n samples
+  unfolding played
+  plays s = go (is_too_large (grid_of n)) refl
+    where
+      go : (t : Bool) → is_too_large (grid_of n) ≡ t → Ok s ≡ cond t (Err WrongSize) (Ok (asked_setup n)) →
+          heard_of (code s samples n.pick) ≡ played n samples
+      go true k e = absurd (cc)
+      go false k e = ap (λ (s : Setup). heard_of (code s samples n.pick)) (ok_is e) ∙ same_heard k ∙ simp k
 
 -- ---- no more steps than places
 
@@ -84,7 +99,7 @@ module _ (n : Numbers) (samples : List ℤ) where
   abbrev level : List ℤ
   level = replicate (points (grid_of n)) (pos 0)
 
-  abbrev refusal : Refusal
+  abbrev refusal : Result Unit Refusal
   refusal = block_refusal (asked_instrument n) level level (wrong_length (grid_of n) (length level)) n.pick (asked_hit n)
 
   block-steps : (from_rest n samples).answer.steps ≤ length samples

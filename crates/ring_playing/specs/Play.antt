@@ -1,5 +1,5 @@
 -- What `ring` plays: its rule as one definition, `played`.
-use Rattle.std.specs.Prelude.{cond, List, ℕ, ℤ, pos, replicate}
+use Rattle.std.specs.Prelude.{cond, List, ℕ, ℤ, pos, replicate, Option, Err}
 use Rattle.types.specs.declared.Instrument.{Instrument}
 use Rattle.types.specs.declared.Hit.{Hit}
 use Rattle.types.specs.declared.BlockAnswer.{BlockAnswer}
@@ -21,7 +21,7 @@ abbrev pub heard_of : AfterBlock → Heard
 heard_of a = heard a.answer a.samples
 
 -- "It starts at rest": over levels of zeros
-abbrev pub block_at_rest : Instrument → (length : ℕ) → (samples : List ℤ) → (pick : ℕ) → Hit → AfterBlock
+abbrev pub block_at_rest : Instrument → (length : ℕ) → (samples : List ℤ) → (pick : ℕ) → Option Hit → AfterBlock
 block_at_rest i length samples pick h =
     block i (replicate length (pos 0)) (replicate length (pos 0)) (replicate length (pos 0)) samples pick h
 
@@ -32,4 +32,4 @@ from_rest n samples = block_at_rest (asked_instrument n) (points (grid_of n)) sa
 unfoldable pub played : Numbers → List ℤ → Heard
 played n samples =
     let block = heard_of (from_rest n samples) in
-    cond (is_too_large (grid_of n)) (heard (record { steps = 0; inexact = 0; refusal = WrongSize }) samples) block
+    cond (is_too_large (grid_of n)) (heard (record { steps = 0; inexact = 0; outcome = Err WrongSize }) samples) block

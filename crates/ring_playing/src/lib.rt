@@ -1,43 +1,33 @@
 // What `ring` plays: a block at rest, of a grid of at most 1024 points.
 #![tactic(auto)]
 
-ghost use Rattle.std.specs.Prelude.{◌≡◌, ◌≤◌, pos, replicate};
+ghost use Rattle.std.specs.Prelude.{◌≡◌, ◌≤◌};
 ghost use Rattle.ring_playing.specs.Play.{heard, heard_of, block_at_rest, played};
 
 use block::block;
 use ring_line::Numbers;
-use ring_setup::set_up;
-use types::{BlockAnswer, Hit, Instrument, Refusal};
+use ring_setup::{Setup, set_up};
+use types::BlockAnswer;
 
 // A level at rest.
-fn at_rest() -> [i64; 1024]
-    ensures { result ≡ replicate 1024 (pos 0) }
-{
-    [0i64; 1024]
-}
+const AT_REST: [i64; 1024] = [0i64; 1024];
 
-// The block over levels at rest of this length.
-fn play_at_rest(
-    i: Instrument,
-    length: usize,
-    samples: &mut [i16],
-    pick: usize,
-    hit: Hit,
-) -> BlockAnswer
-    requires { length ≤ 1024 }
-    ensures { heard result samples.new ≡ heard_of (block_at_rest i length samples.old pick hit) }
+// The block over levels at rest.
+fn play_at_rest(asked: Setup, samples: &mut [i16], pick: usize) -> BlockAnswer
+    requires { asked.length ≤ 1024 }
+    ensures { heard result samples.new ≡ heard_of (block_at_rest asked.instrument asked.length samples.old pick asked.hit) }
 {
-    let mut older = at_rest();
-    let mut newer = at_rest();
-    let mut work = at_rest();
+    let mut older = AT_REST;
+    let mut newer = AT_REST;
+    let mut work = AT_REST;
     block(
-        i,
-        &mut older[..length],
-        &mut newer[..length],
-        &mut work[..length],
+        asked.instrument,
+        &mut older[..asked.length],
+        &mut newer[..asked.length],
+        &mut work[..asked.length],
         samples,
         pick,
-        hit,
+        asked.hit,
     )
 }
 
@@ -46,15 +36,12 @@ fn play_at_rest(
 pub fn play_numbers(n: Numbers, samples: &mut [i16]) -> BlockAnswer
     ensures { heard result samples.new ≡ played n samples.old }
 {
-    let asked = set_up(n);
-    if asked.is_too_large {
-        return BlockAnswer {
+    match set_up(n) {
+        Ok(asked) => play_at_rest(asked, samples, n.pick),
+        Err(refusal) => BlockAnswer {
             steps: 0,
             inexact: 0,
-            refusal: Refusal::WrongSize,
-        };
+            outcome: Err(refusal),
+        },
     }
-    let i = asked.instrument;
-    let hit = asked.hit;
-    play_at_rest(i, asked.length, samples, n.pick, hit)
 }

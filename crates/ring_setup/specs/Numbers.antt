@@ -1,9 +1,11 @@
 -- What the ten numbers of a line stand for.
-use Rattle.std.specs.Prelude.{Bool, ◌&&◌, cond, ℕ, ltb}
+use Rattle.std.specs.Prelude.{Bool, ◌&&◌, cond, Option, Result, Ok, Err, ℕ, ltb}
 use Rattle.types.specs.declared.Grid.{Grid}
 use Rattle.types.specs.declared.Instrument.{Instrument}
 use Rattle.types.specs.declared.Hit.{Hit}
-use Rattle.types.specs.declared.Hit.TheVariants.{At}
+use Rattle.types.specs.declared.Refusal.{Refusal}
+use Rattle.types.specs.declared.Refusal.TheVariants.{WrongSize}
+use Rattle.types.specs.Numbers.{hit_at}
 use Rattle.scheme.specs.Instruments.{within, points}
 use Rattle.scheme.specs.Refusals.{last_kind}
 use Rattle.ring_line.specs.declared.asked.Numbers.{Numbers}
@@ -16,8 +18,8 @@ abbrev pub asked_instrument : Numbers → Instrument
 asked_instrument n = record { grid = grid_of n; settings = record { q = n.q; m = n.m; s = n.s } }
 
 -- "always gives the hit, force 0 too"
-abbrev pub asked_hit : Numbers → Hit
-asked_hit n = At n.point n.force
+abbrev pub asked_hit : Numbers → Option Hit
+asked_hit n = hit_at n.point n.force
 
 -- "A known kind with more than 1024 points"
 abbrev pub is_too_large : Grid → Bool
@@ -28,11 +30,8 @@ is_too_large g = within 1 last_kind g.kind && ltb 1024 (points g)
 abbrev pub level_length : Grid → ℕ
 level_length g = cond (ltb 1024 (points g)) 0 (points g)
 
-abbrev pub setup_of : Numbers → Setup
-setup_of n =
-    record {
-      instrument = asked_instrument n;
-      hit = asked_hit n;
-      is_too_large = is_too_large (grid_of n);
-      length = level_length (grid_of n);
-    }
+abbrev pub asked_setup : Numbers → Setup
+asked_setup n = record { instrument = asked_instrument n; hit = asked_hit n; length = level_length (grid_of n) }
+
+abbrev pub setup_of : Numbers → Result Setup Refusal
+setup_of n = cond (is_too_large (grid_of n)) (Err WrongSize) (Ok (asked_setup n))

@@ -1,21 +1,19 @@
-// What the ten numbers of a line stand for: what the block of `ring` is called with, and whether its grid is too large.
+// What the ten numbers of a line stand for: what the block of `ring` is called with, or the refusal of a grid that is too large.
 #![tactic(auto)]
 
 ghost use Rattle.std.specs.Prelude.{◌≡◌, ◌*◌, ltb};
 ghost use Rattle.ring_setup.specs.Numbers.{asked_instrument, asked_hit, is_too_large, level_length, setup_of};
 
 use ring_line::Numbers;
-use sizes::is_within;
-use types::{Grid, Hit, Instrument, Settings};
+use types::{Grid, Hit, Instrument, Refusal, Settings};
 
 const MOST: usize = 1024;
 
 // The length is that of the levels to lend.
-#[derive(Drop)]
+#[derive(Clone, Copy)]
 pub struct Setup {
     pub instrument: Instrument,
-    pub hit: Hit,
-    pub is_too_large: bool,
+    pub hit: Option<Hit>,
     pub length: usize,
 }
 
@@ -27,34 +25,27 @@ fn asked_instrument(n: Numbers) -> Instrument
     Instrument { grid, settings }
 }
 
-fn asked_hit(n: Numbers) -> Hit
+fn asked_hit(n: Numbers) -> Option<Hit>
     ensures { result ≡ asked_hit n }
 {
-    Hit::At {
+    Some(Hit {
         point: n.point,
         force: n.force,
-    }
+    })
 }
 
-// Whether columns × rows is more than 1024. Divided, not multiplied: nothing wraps.
+// Whether columns × rows is more than 1024.
 fn is_above(columns: usize, rows: usize) -> bool
     ensures { result ≡ ltb 1024 (columns * rows) }
 {
-    if rows == 0 {
-        return false;
-    }
-    MOST / rows < columns
+    MOST < columns.saturating_mul(rows)
 }
 
 // Whether the kind is known and has more than 1024 points.
 fn is_too_large(g: Grid) -> bool
     ensures { result ≡ is_too_large g }
 {
-    let kind = g.kind as usize;
-    if is_within(Grid::FIRST as usize, Grid::LAST as usize, kind) {
-        return is_above(g.columns, g.rows);
-    }
-    false
+    (Grid::FIRST..=Grid::LAST).contains(&g.kind) && is_above(g.columns, g.rows)
 }
 
 // An unknown kind of more points is lent no level: it is refused before its levels are looked at.
@@ -69,15 +60,17 @@ fn level_length(g: Grid) -> usize
 
 // What the block is called with. Ruled out: columns and rows exchanged; no hit where the force is 0; 1025 points admitted; an unknown
 // kind that is too large.
-pub fn set_up(n: Numbers) -> Setup
+pub fn set_up(n: Numbers) -> Result<Setup, Refusal>
     ensures { result ≡ setup_of n }
 {
     let instrument = asked_instrument(n);
     let grid = instrument.grid;
-    Setup {
+    if is_too_large(grid) {
+        return Err(Refusal::WrongSize);
+    }
+    Ok(Setup {
         instrument,
         hit: asked_hit(n),
-        is_too_large: is_too_large(grid),
         length: level_length(grid),
-    }
+    })
 }

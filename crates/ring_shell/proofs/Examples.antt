@@ -2,7 +2,8 @@
 use mathlib.Core.Path.{refl}
 use Rattle.integers.specs.Sum.{sum_over}
 use Rattle.scheme.specs.Lists.{tabulate, some_below, only}
-use Rattle.scheme.specs.Instruments.{kind_of, size_in, stable_in, round_edge, fixed_in, moving, free_in}
+use Rattle.types.specs.Numbers.{kind_of}
+use Rattle.scheme.specs.Instruments.{size_in, stable_in, round_edge, fixed_in, moving, free_in}
 use Rattle.scheme.specs.Step.{beside, neighbours, laplacian, inner_laplacian, numerator, round_away, next_at, next_level}
 use Rattle.scheme.specs.Step.{some_beyond, sample_of}
 use Rattle.scheme.specs.Refusals.{fixed_not_zero, block_refusal}

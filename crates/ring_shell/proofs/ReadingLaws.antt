@@ -13,8 +13,7 @@ use borrow.Author.Tests.{le-leb}
 use Rattle.std.proofs.Math.Seq.{length-take-le, take-add, take-append-add}
 use Rattle.ring_line.specs.Lists.{before}
 use Rattle.ring_line.specs.Requests.{line_feed}
-use Rattle.ring_line.specs.declared.asked.Request.{Request}
-use Rattle.ring_line.specs.declared.asked.Request.TheVariants.{Input}
+use Rattle.ring_line.specs.declared.asked.Numbers.{Numbers}
 use Rattle.ring_line.specs.Requests.{line_request, request_of}
 use Rattle.ring_listing.specs.Text.{over, room}
 use Rattle.ring_shell.specs.Answer.{text_for, answer, written_to}
@@ -81,8 +80,8 @@ same_answer : (read there : List ℕ) → SameLine 256 read there → answer rea
 unfolding answer request_of
 same_answer read there e = ap (λ (l : List ℕ). text_for (asked l)) e ∙ first_bytes_tell there
   where
-    asked : List ℕ → Request
-    asked l = cond (leb (length l) 255) (line_request l) Input
+    asked : List ℕ → Option Numbers
+    asked l = cond (leb (length l) 255) (line_request l) None
 
 pub answer_there : (there read buffer out : List ℕ) (size : ℕ) → room ≤ length buffer → size ≡ length (written_to buffer read) →
     out ≡ over (written_to buffer read) buffer → SameLine 256 read there → take size out ≡ answer there

@@ -1,9 +1,7 @@
 -- What `ring` prints for the bytes of its standard input: `answer`.
-use Rattle.std.specs.Prelude.{cond, List, [], ℕ, leb, pos, length, replicate}
-use Rattle.types.specs.Numbers.{number}
+use Rattle.std.specs.Prelude.{cond, Option, Some, None, List, [], ℕ, leb, pos, length, replicate}
+use Rattle.types.specs.Numbers.{number_of}
 use Rattle.ring_line.specs.declared.asked.Numbers.{Numbers}
-use Rattle.ring_line.specs.declared.asked.Request.{Request}
-use Rattle.ring_line.specs.declared.asked.Request.TheVariants.{Input, Run}
 use Rattle.ring_line.specs.Lists.{text}
 use Rattle.ring_line.specs.Requests.{request_of}
 use Rattle.ring_playing.specs.Play.{Heard, played}
@@ -11,16 +9,16 @@ use Rattle.ring_listing.specs.Text.{listing, room}
 
 -- what is printed of what is heard: the lines of the steps done, and the last line
 abbrev pub played_text : Heard → List ℕ
-played_text h = listing h.answer.steps h.samples (number h.answer.refusal)
+played_text h = listing h.answer.steps h.samples (number_of h.answer.outcome)
 
 -- as many steps as the line asks for
 unfoldable pub run_text : Numbers → List ℕ
 run_text n = played_text (played n (replicate n.steps (pos 0)))
 
 -- what is printed for each: "Other lines .. print `input`"
-abbrev pub text_for : Request → List ℕ
-text_for Input = text "input\n"
-text_for (Run n) = run_text n
+abbrev pub text_for : Option Numbers → List ℕ
+text_for None = text "input\n"
+text_for (Some n) = run_text n
 
 unfoldable pub answer : List ℕ → List ℕ
 answer bytes = text_for (request_of bytes)

@@ -3,7 +3,7 @@
 
 mod read;
 
-ghost use Rattle.std.specs.Prelude.{◌≡◌, ◌≤◌, pos, length, replicate, OnOk, IfSome};
+ghost use Rattle.std.specs.Prelude.{◌≡◌, ◌≤◌, length, OnOk, IfSome};
 ghost use Rattle.std.specs.Io.KnownBytes.{Appends};
 ghost use Rattle.io.specs.Counts.{IsPrefixLen};
 ghost use Rattle.ring_playing.specs.Play.{played};
@@ -12,17 +12,21 @@ ghost use Rattle.ring_shell.specs.Answer.{played_text, run_text, answer, written
 ghost use Rattle.ring_shell.specs.Written.{Written};
 
 use crate::read::read_line;
-use ring_line::{Numbers, Request, request};
+use ring_line::{Numbers, request};
 use ring_listing::put_listing;
 use ring_playing::play_numbers;
 use std::io;
 use std::io::{Read, Write};
+use types::number_of;
 
 // Room for every answer: 8192 lines of at most 12 bytes, and a last line.
 const ROOM: usize = 98320;
 
-// The length of `input` and its line feed.
-const INPUT: usize = 6;
+// As many samples as a line may ask for, none of them played.
+const SILENCE: [i16; 8192] = [0i16; 8192];
+
+// The answer to a line that is no ten numbers.
+const INPUT: &[u8] = b"input\n";
 
 fn put_played(out: &mut [u8], n: Numbers, samples: &mut [i16]) -> usize
     requires { (room ≤ length out.old) × (length samples.old ≤ 8192) }
@@ -30,23 +34,15 @@ fn put_played(out: &mut [u8], n: Numbers, samples: &mut [i16]) -> usize
 {
     let answer = play_numbers(n, samples);
     let done = answer.steps;
-    let refusal = answer.refusal;
-    put_listing(out, samples, done as u64, refusal.number())
-}
-
-fn silence() -> [i16; 8192]
-    ensures { result ≡ replicate 8192 (pos 0) }
-{
-    [0i16; 8192]
+    put_listing(out, samples, done as u64, number_of(answer.outcome))
 }
 
 fn put_run(out: &mut [u8], n: Numbers) -> usize
     requires { (room ≤ length out.old) × (n.steps ≤ 8192) }
     ensures { Written out.old (run_text n) result out.new }
 {
-    let mut samples = silence();
-    let steps = n.steps;
-    put_played(out, n, &mut samples[..steps])
+    let mut samples = SILENCE;
+    put_played(out, n, &mut samples[..n.steps])
 }
 
 // What is printed for the bytes read, where there is room.
@@ -54,13 +50,12 @@ fn put_answer(out: &mut [u8], bytes: &[u8]) -> usize
     requires { room ≤ length out.old }
     ensures { Written out.old (answer bytes.now) result out.new }
 {
-    let asked = request(bytes);
-    match asked {
-        Request::Input => {
-            out[..INPUT].copy_from_slice(b"input\n");
-            INPUT
+    match request(bytes) {
+        Some(n) => put_run(out, n),
+        None => {
+            out[..INPUT.len()].copy_from_slice(INPUT);
+            INPUT.len()
         }
-        Request::Run(n) => put_run(out, n),
     }
 }
 
@@ -77,13 +72,6 @@ pub fn answer(out: &mut [u8], bytes: &[u8]) -> usize
     put_answer(out, bytes)
 }
 
-// Room for the longest answer.
-fn room() -> [u8; 98320]
-    ensures { 98320 ≡ length result }
-{
-    [0u8; 98320]
-}
-
 // Writes what `ring` prints where the reader is its standard input. A read that fails ends it with that error before anything is written,
 // a write that fails where it fails. Ruled out: nothing written; the answer to no bytes. What is left of the reader is not said.
 pub fn print_answer<R: Read, W: Write>(input: &mut R, output: &mut W) -> io::Result<()>
@@ -91,7 +79,7 @@ pub fn print_answer<R: Read, W: Write>(input: &mut R, output: &mut W) -> io::Res
 {
     let mut bytes = [0u8; 256];
     let n = read_line(input, &mut bytes)?;
-    let mut out = room();
+    let mut out = [0u8; ROOM];
     let size = answer(&mut out, &bytes[..n]);
     output.write_all(&out[..size])
 }

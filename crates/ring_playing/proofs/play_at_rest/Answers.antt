@@ -5,6 +5,4 @@ use Rattle.ring_playing.proofs.PlayLaws.{over-rest}
 use Rattle.ring_playing.proofs.play_at_rest.Goals as goal
 
 pub returns : goal.returns
-returns c =
-    ap heard_of
-    (c.block.ensures ∙ over-rest _ _ _ _ _ _ _ _ c.at_rest-older.ensures c.at_rest-newer.ensures c.at_rest-work.ensures c.requires)
+returns c = ap heard_of (c.block.ensures ∙ over-rest _ _ _ _ _ c.requires)

@@ -1,5 +1,5 @@
 -- As many places as steps are asked for.
-use Rattle.std.proofs.Common.{arith, List, ℤ, pos, take, ap, ◌∙◌}
+use Rattle.std.proofs.Common.{arith, List, ℤ, pos, ap}
 use Rattle.ring_playing.specs.Play.{played}
 use Rattle.ring_playing.proofs.PlayLaws.{take-replicate}
 use Rattle.ring_shell.specs.Answer.{played_text, run_text}
@@ -10,5 +10,5 @@ pub returns : goal.returns
 unfolding run_text
 returns c =
     let n = c.args.n in
-    let silent = ap (take n.steps) c.silence-samples.ensures ∙ take-replicate n.steps 8192 (pos 0) (omega arith) in
+    let silent = take-replicate n.steps 8192 (pos 0) (omega arith) in
     written_same (ap (λ (l : List ℤ). played_text (played n l)) silent) c.put_played.ensures

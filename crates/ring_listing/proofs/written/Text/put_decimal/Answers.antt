@@ -1,7 +1,7 @@
 -- The fewest digits are the decimal's.
 use Rattle.std.proofs.Common.{arith, ◌∙◌, ap, length}
 use Rattle.ring_listing.proofs.TextLaws.{put_same, spelled}
-use Rattle.ring_listing.proofs.numbers.put_decimal.Goals as goal
+use Rattle.ring_listing.proofs.written.Text.put_decimal.Goals as goal
 
 pub put_bytes-requires : goal.put_bytes-requires
 put_bytes-requires c =
