@@ -2,8 +2,8 @@
 use crate::buffers::Buffers;
 use crate::records::{Numbers, Opcode, Record};
 use engine::{
-    BlockAnswer, Grid, Hit, Instrument, block, block_in_place, pluck, pluck_with, reading,
-    settings_for,
+    BlockAnswer, Grid, Hit, Instrument, block, block_in_place, number_of, pluck, pluck_with,
+    reading, settings_for,
 };
 use packing::{hit_of, instrument_of, sheet_of};
 use std::num::f64_from_bits_with_nan;
@@ -13,7 +13,7 @@ use std::num::f64_from_bits_with_nan;
 struct Block {
     instrument: Instrument,
     pick_up: usize,
-    hit: Hit,
+    hit: Option<Hit>,
     steps: u64,
     inexact: u64,
     refusal: u64,
@@ -53,7 +53,7 @@ impl Block {
     fn expects(&self, answer: BlockAnswer) -> bool {
         answer.steps as u64 == self.steps
             && answer.inexact == self.inexact
-            && answer.refusal.number() == self.refusal
+            && number_of(answer.outcome) == self.refusal
     }
 }
 
@@ -117,7 +117,7 @@ impl From<Numbers> for Pluck {
 
 fn pluck_agrees(numbers: Numbers, buffers: &mut Buffers) -> bool {
     let call = Pluck::from(numbers);
-    let refusal = pluck(
+    let outcome = pluck(
         call.grid,
         buffers.older.lent(),
         buffers.newer.lent(),
@@ -125,12 +125,12 @@ fn pluck_agrees(numbers: Numbers, buffers: &mut Buffers) -> bool {
         call.half_width,
         call.height,
     );
-    refusal.number() == call.refusal
+    number_of(outcome) == call.refusal
 }
 
 fn pluck_with_agrees(numbers: Numbers, buffers: &mut Buffers) -> bool {
     let call = Pluck::from(numbers);
-    let refusal = pluck_with(
+    let outcome = pluck_with(
         call.grid,
         buffers.older.lent(),
         buffers.newer.lent(),
@@ -139,7 +139,7 @@ fn pluck_with_agrees(numbers: Numbers, buffers: &mut Buffers) -> bool {
         call.height,
         buffers.table.lent(),
     );
-    refusal.number() == call.refusal
+    number_of(outcome) == call.refusal
 }
 
 // The bit pattern of a float; that of no number is the largest.
@@ -150,8 +150,11 @@ fn bits_of(x: f64) -> u64 {
 fn reading_agrees(numbers: Numbers, buffers: &mut Buffers) -> bool {
     let [_, kind, columns, rows, pick_up, value, refusal, ..] = numbers;
     let grid = Grid::new(kind, columns as usize, rows as usize);
-    let answer = reading(grid, buffers.newer.lent(), pick_up as usize);
-    bits_of(answer.value) == value && answer.refusal.number() == refusal
+    let told = match reading(grid, buffers.newer.lent(), pick_up as usize) {
+        Ok(x) => [bits_of(x), 0],
+        Err(refusal) => [0, refusal.number()],
+    };
+    told == [value, refusal]
 }
 
 fn sheet_agrees(numbers: Numbers) -> bool {
@@ -184,9 +187,11 @@ fn sheet_agrees(numbers: Numbers) -> bool {
         by_seconds,
         f64_from_bits_with_nan(loss),
     );
-    let answer = settings_for(grid, sheet);
-    let settings = answer.settings;
-    settings.q == q && settings.m == m && settings.s == s && answer.refusal.number() == refusal
+    let told = match settings_for(grid, sheet) {
+        Ok(settings) => [settings.q, settings.m, settings.s, 0],
+        Err(refusal) => [0, 0, 0, refusal.number()],
+    };
+    told == [q, m, s, refusal]
 }
 
 // A record is carried out: a buffer filled or compared, or a call made. Whether what it expects is met.
