@@ -1,5 +1,5 @@
 // The engine for C: numbers and lent slices in, the refusal's number out. host/include/buvcsolta.h declares these functions.
-// A slice arrives as a pointer and a length.
+// A slice arrives as a pointer and a length. Numbers and flags come one by one, and answers go to lent places: so is the C interface.
 #![tactic(auto)]
 
 ghost use Rattle.std.specs.Prelude.{◌≡◌};
@@ -81,7 +81,8 @@ pub extern "C" fn buvcsolta_pluck_with(
     number_of(pluck_with(g, older, newer, centre, half_width, height, table))
 }
 
-// The float reading. Ruled out: the value not told; columns and rows exchanged (`Grid::new`).
+// The float reading, 0 where it is refused. Ruled out: the value not told; a refused reading's value not 0; columns and rows
+// exchanged (`Grid::new`).
 #[unsafe(no_mangle)]
 #[tactic(auto, using(crate::proofs::Zero::zero))]
 pub extern "C" fn buvcsolta_reading(
@@ -100,7 +101,8 @@ pub extern "C" fn buvcsolta_reading(
     number_of(answer.map(|_| ()))
 }
 
-// The settings of a sheet. Ruled out: q and m exchanged; a tension taken as hertz (`sheet_of`).
+// The settings of a sheet, zeros where it is refused. Ruled out: q and m exchanged; a refused sheet's settings not all zeros;
+// a tension taken as hertz (`sheet_of`).
 #[unsafe(no_mangle)]
 pub extern "C" fn buvcsolta_sheet(
     kind: u64,

@@ -1,5 +1,5 @@
 // The block on two levels for C. It is a library of its own: compiled alone, its steps have no code of the block on three levels.
-// host/include/buvcsolta.h declares the function.
+// host/include/buvcsolta.h declares the function. Numbers and flags come one by one, and answers go to lent places: so is the C interface.
 #![tactic(auto)]
 
 ghost use Rattle.std.specs.Prelude.{◌≡◌};

@@ -1,4 +1,4 @@
-// What C's numbers and flags stand for: an instrument, a hit, a sheet.
+// What C's numbers and flags stand for: an instrument, a hit, a sheet. They come one by one, as the C interface has them.
 #![tactic(auto)]
 
 ghost use Rattle.std.specs.Prelude.{◌≡◌};

@@ -36,7 +36,7 @@ pub(crate) struct Lent<'a, T> {
 }
 
 impl<'a, T: Element> Lent<'a, T> {
-    fn new(room: &'a mut [T]) -> Lent<'a, T> {
+    pub(crate) fn new(room: &'a mut [T]) -> Lent<'a, T> {
         Lent { room, length: 0 }
     }
 
@@ -77,23 +77,7 @@ pub(crate) struct Buffers<'a> {
     pub(crate) table: Lent<'a, u32>,
 }
 
-impl<'a> Buffers<'a> {
-    pub(crate) fn new(
-        older: &'a mut [i64],
-        newer: &'a mut [i64],
-        work: &'a mut [i64],
-        samples: &'a mut [i16],
-        table: &'a mut [u32],
-    ) -> Buffers<'a> {
-        Buffers {
-            older: Lent::new(older),
-            newer: Lent::new(newer),
-            work: Lent::new(work),
-            samples: Lent::new(samples),
-            table: Lent::new(table),
-        }
-    }
-
+impl Buffers<'_> {
     pub(crate) fn lend(&mut self, buffer: Buffer, record: &Record) -> bool {
         match buffer {
             Buffer::Older => self.older.lend(record),

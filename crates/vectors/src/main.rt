@@ -8,7 +8,7 @@ mod tally;
 
 ghost use Rattle.std.specs.Prelude.{◌≡◌, ◌≤◌, length, IfOk};
 
-use crate::buffers::{Buffers, MOST};
+use crate::buffers::{Buffers, Lent, MOST};
 use crate::calls::agrees;
 use crate::records::Record;
 use crate::tally::Tally;
@@ -24,8 +24,14 @@ fn run(rt: &impl Print, path: &str, text: &[u8]) -> io::Result<()> {
     let mut work = [0; MOST];
     let mut samples = [0; MOST];
     let mut table = [0; MOST];
-    let mut buffers = Buffers::new(&mut older, &mut newer, &mut work, &mut samples, &mut table);
-    let mut tally = Tally::default();
+    let mut buffers = Buffers {
+        older: Lent::new(&mut older),
+        newer: Lent::new(&mut newer),
+        work: Lent::new(&mut work),
+        samples: Lent::new(&mut samples),
+        table: Lent::new(&mut table),
+    };
+    let mut tally = Tally::new(path);
     let mut last = None;
     for line in text.split_inclusive(|byte| *byte == b'\n') {
         tally.count_line();
@@ -34,10 +40,10 @@ fn run(rt: &impl Print, path: &str, text: &[u8]) -> io::Result<()> {
             break;
         };
         let is_met = agrees(&record, &mut buffers);
-        tally.record(rt, path, record.opcode, is_met)?;
+        tally.record(rt, record.opcode, is_met)?;
         last = Some(record.opcode);
     }
-    tally.report(rt, path, last)
+    tally.report(rt, last)
 }
 
 // Room for the longest file.

@@ -1,4 +1,5 @@
 // The records of a text: one a line, numbers with a space between them.
+use std::fmt;
 
 // How many numbers a record has at most, a buffer's values aside.
 const FIRST: usize = 16;
@@ -48,9 +49,10 @@ pub(crate) enum Opcode {
     PluckWith,
 }
 
-impl Opcode {
-    pub(crate) fn number(self) -> u64 {
-        match self {
+// An opcode is written as its number.
+impl fmt::Display for Opcode {
+    fn fmt<W: fmt::Write>(&self, f: &mut fmt::Formatter<W>) -> fmt::Result {
+        let number = match *self {
             Opcode::End => 0,
             Opcode::Lend(_) => 1,
             Opcode::Compare(_) => 2,
@@ -60,7 +62,8 @@ impl Opcode {
             Opcode::Sheet => 6,
             Opcode::BlockInPlace => 7,
             Opcode::PluckWith => 8,
-        }
+        };
+        write!(f, "{number}")
     }
 }
 

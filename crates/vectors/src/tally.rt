@@ -2,9 +2,9 @@
 use crate::records::Opcode;
 use std::{fmt, io};
 
+// How many records of each kind were carried out, and how many of them were not met.
 #[derive(Clone, Copy, Default)]
-pub(crate) struct Tally {
-    records: u64,
+struct Counts {
     levels: u64,
     blocks: u64,
     blocks_in_place: u64,
@@ -15,9 +15,9 @@ pub(crate) struct Tally {
     differences: u64,
 }
 
-impl fmt::Display for Tally {
+impl fmt::Display for Counts {
     fn fmt<W: fmt::Write>(&self, f: &mut fmt::Formatter<W>) -> fmt::Result {
-        let Tally {
+        let Counts {
             levels,
             blocks,
             blocks_in_place,
@@ -26,7 +26,6 @@ impl fmt::Display for Tally {
             readings,
             sheets,
             differences,
-            ..
         } = *self;
         write!(f, "{blocks} blocks, {blocks_in_place} blocks in place, ")?;
         write!(f, "{plucks} plucks, {plucks_with} plucks by a lent table, ")?;
@@ -35,12 +34,7 @@ impl fmt::Display for Tally {
     }
 }
 
-impl Tally {
-    // One line more, be it a record or not.
-    pub(crate) fn count_line(&mut self) {
-        self.records = self.records.wrapping_add(1);
-    }
-
+impl Counts {
     fn count(&mut self, opcode: Opcode) {
         let count = match opcode {
             Opcode::Compare(_) => &mut self.levels,
@@ -54,15 +48,37 @@ impl Tally {
         };
         *count = count.wrapping_add(1);
     }
+}
+
+// The file of that path up to the present line.
+#[derive(Clone, Copy)]
+pub(crate) struct Tally<'a> {
+    path: &'a str,
+    line: u64,
+    counts: Counts,
+}
+
+impl<'a> Tally<'a> {
+    pub(crate) fn new(path: &'a str) -> Tally<'a> {
+        Tally {
+            path,
+            line: 0,
+            counts: Counts::default(),
+        }
+    }
+
+    // One line more, be it a record or not.
+    pub(crate) fn count_line(&mut self) {
+        self.line = self.line.wrapping_add(1);
+    }
 
     // At most 20 differences of a file have a line.
-    fn differs(&mut self, rt: &impl Print, path: &str, opcode: Opcode) -> io::Result<()> {
-        if self.differences < 20 {
-            let record = self.records;
-            let number = opcode.number();
-            println!(rt; "{path}: record {record}: opcode {number} differs")?;
+    fn differs(&mut self, rt: &impl Print, opcode: Opcode) -> io::Result<()> {
+        let Tally { path, line, counts } = *self;
+        if counts.differences < 20 {
+            println!(rt; "{path}: record {line}: opcode {opcode} differs")?;
         }
-        self.differences = self.differences.wrapping_add(1);
+        self.counts.differences = counts.differences.wrapping_add(1);
         Ok(())
     }
 
@@ -70,31 +86,23 @@ impl Tally {
     pub(crate) fn record(
         &mut self,
         rt: &impl Print,
-        path: &str,
         opcode: Opcode,
         is_met: bool,
     ) -> io::Result<()> {
-        self.count(opcode);
+        self.counts.count(opcode);
         if is_met {
             Ok(())
         } else {
-            self.differs(rt, path, opcode)
+            self.differs(rt, opcode)
         }
     }
 
     // The last record must have opcode 0.
-    pub(crate) fn report(
-        &self,
-        rt: &impl Print,
-        path: &str,
-        last: Option<Opcode>,
-    ) -> io::Result<()> {
+    pub(crate) fn report(self, rt: &impl Print, last: Option<Opcode>) -> io::Result<()> {
+        let Tally { path, line, counts } = self;
         match last {
-            Some(Opcode::End) => println!(rt; "{path}: {self}"),
-            _ => {
-                let record = self.records;
-                println!(rt; "{path}: record {record}: no opcode 0 at the end")
-            }
+            Some(Opcode::End) => println!(rt; "{path}: {counts}"),
+            _ => println!(rt; "{path}: record {line}: no opcode 0 at the end"),
         }
     }
 }
