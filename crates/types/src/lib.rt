@@ -41,7 +41,7 @@ impl Settings {
     }
 }
 
-// The kinds, in the order of their numbers, by the names of the C header; every number from 8 on is of an unknown one, as 0 is.
+// The kinds, in the order of their numbers; every number from 8 on is of an unknown one, as 0 is.
 #[derive(Clone, Copy, PartialEq, Eq)]
 pub enum Kind {
     Unknown,
@@ -63,13 +63,13 @@ impl From<u64> for Kind {
         ensures { result ≡ kind_of number }
     {
         match number {
-            1 => Kind::StringFixed,
-            2 => Kind::StringFixedFree,
-            3 => Kind::StringFree,
-            4 => Kind::Bar,
-            5 => Kind::MembraneRectangular,
-            6 => Kind::MembraneRound,
-            7 => Kind::Plate,
+            Grid::STRING_FIXED => Kind::StringFixed,
+            Grid::STRING_FIXED_FREE => Kind::StringFixedFree,
+            Grid::STRING_FREE => Kind::StringFree,
+            Grid::BAR => Kind::Bar,
+            Grid::MEMBRANE_RECTANGULAR => Kind::MembraneRectangular,
+            Grid::MEMBRANE_ROUND => Kind::MembraneRound,
+            Grid::PLATE => Kind::Plate,
             _ => Kind::Unknown,
         }
     }
@@ -84,12 +84,27 @@ pub struct Grid {
 }
 
 impl Grid {
+    // The kinds' numbers, by the names of the C header.
+    pub const STRING_FIXED: u64 = Kind::StringFixed as u64;
+
+    pub const STRING_FIXED_FREE: u64 = Kind::StringFixedFree as u64;
+
+    pub const STRING_FREE: u64 = Kind::StringFree as u64;
+
+    pub const BAR: u64 = Kind::Bar as u64;
+
+    pub const MEMBRANE_RECTANGULAR: u64 = Kind::MembraneRectangular as u64;
+
+    pub const MEMBRANE_ROUND: u64 = Kind::MembraneRound as u64;
+
+    pub const PLATE: u64 = Kind::Plate as u64;
+
     // The first kind's number, the last, and the last that a pluck admits.
-    pub const FIRST: u64 = 1;
+    pub const FIRST: u64 = Grid::STRING_FIXED;
 
-    pub const LAST: u64 = 7;
+    pub const LAST: u64 = Grid::PLATE;
 
-    pub const LAST_PLUCKED: u64 = 4;
+    pub const LAST_PLUCKED: u64 = Grid::BAR;
 
     // Ruled out: columns and rows exchanged; one row whatever is asked.
     pub fn new(kind: u64, columns: usize, rows: usize) -> Grid
