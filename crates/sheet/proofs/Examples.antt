@@ -1,7 +1,8 @@
 -- The examples, by computation. A row that no longer holds is refused at the line of its table.
 use mathlib.Core.Path.{refl}
 use lib.Ieee.{mul, div, round, of_int}
-use Rattle.scheme.specs.Instruments.{kind_of, size_in, stable_in}
+use Rattle.types.specs.Numbers.{kind_of}
+use Rattle.scheme.specs.Instruments.{size_in, stable_in}
 use Rattle.nearest.specs.Nearest.{halves_up, nearest_times}
 use Rattle.sheet.specs.Numbers.{non_negative, positive, numbers_allowed}
 use Rattle.sheet.specs.Coefficients.{coefficients}

@@ -1,3 +1,3 @@
-pub mod Examples
 pub mod NumberLaws
+pub mod Examples
 pub mod CallLaws

@@ -1,24 +1,21 @@
 -- The program's literals, and its tests of a float, as the definitions have them.
 use mathlib.Core.Path.{◌≡◌, refl, sym, ap, ◌∙◌}
 use mathlib.Core.Logic.{◌⊎◌, inl, inr}
-use mathlib.Core.Bool.{Bool, true, false, ◌&&◌, and-false, or-true}
+use mathlib.Core.Bool.{Bool, true, false, ◌&&◌, or-true}
 use Prim.Native.Nat.{ℕ, zero, suc, ◌+◌, ◌*◌, ◌^◌, ◌%◌, ◌-◌, ◌≤◌, ◌<◌, zero-le}
 use native.Mathlib.Nat.{mul-pos, zero-mul, zero-lt-suc, le_of_suc-le-suc, eq-or-lt_of_le}
 use native.Mathlib.Nat.{mul_assoc, mul-le-mul, mul-le-mul_right, lt_of_mul-lt-mul_right}
 use native.Mathlib.Omega.{arith}
-use borrow.Author.Tests.{lt-ltb, le-ltb, lt-leb, eq-eqb, ne_eqb, leb-true, leb-false}
+use borrow.Author.Tests.{lt-ltb, le-ltb, eq-eqb, ne_eqb, leb-true, leb-false}
 use lib.Dec.{T, leb, ltb, eqb, ltb→lt, lit<, eqb-suc-zero}
 use lib.Pow.{pow-add, pow_mono, pow_pos}
 use lib.IntN.{ℤ, pos, negsuc}
 use lib.Ieee.{Float, nan, inf, fin, up, down, binary64, lt, le, eq, fits, mul, div, round, of_bits}
 use lib.Ieee.Fits.{up_pos, down_pos}
-use Rattle.scheme.specs.Instruments.{kind_of, within}
-use Rattle.scheme.specs.Refusals.{last_kind}
-use Rattle.sizes.proofs.KindLaws.{by_number}
 use Rattle.sheet.specs.declared.Speed.TheVariants.{Hertz}
 use Rattle.sheet.specs.declared.Loss.TheVariants.{Seconds}
 use Rattle.sheet.specs.Coefficients.{nearest_float, courant_squared, loss_per_step}
-use Rattle.sheet.specs.Numbers.{non_negative, positive, pitched}
+use Rattle.sheet.specs.Numbers.{non_negative, positive}
 
 -- ---- the program's literals, by their bit patterns
 
@@ -136,11 +133,3 @@ positive_is (fin true m e) h = refl
 positive_is (fin false zero e) h = simp (le-ltb (0 * down e) (0 * up e * 1) (omega arith))
 positive_is (fin false (suc m) e) h =
     let p = size-pos m e in simp (lt-ltb (0 * down e) (suc m * up e * 1) (omega arith), plus_below (suc m) e h, eqb-suc-zero m)
-
--- ---- the kinds that take a pitch
-
-pub pitched_is : (k : ℕ) → within 1 4 k ≡ pitched (kind_of k)
-pitched_is = by_number (λ k K. within 1 4 k ≡ pitched K) refl refl refl refl refl refl refl refl past
-  where
-    past : (k : ℕ) → last_kind < k → within 1 4 k ≡ false
-    past k h = ap (λ (b : Bool). leb 1 k && b) (lt-leb k 4 (omega arith)) ∙ and-false (leb 1 k)

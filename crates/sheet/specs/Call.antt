@@ -1,15 +1,15 @@
 -- "A sheet call (kind, columns, rows, sheet) meets 1 to 5, with 4 and 5 on the coefficients it works out."
-use Rattle.std.specs.Prelude.{not, cond, List, [], ◌∷◌, ◌++◌}
+use Rattle.std.specs.Prelude.{not, List, [], ◌∷◌, ◌++◌, Result}
+use Rattle.std.specs.Result.{result_unwrap_or}
 use Rattle.types.specs.declared.Settings.{Settings}
 use Rattle.types.specs.declared.Grid.{Grid}
 use Rattle.types.specs.declared.Instrument.{Instrument}
 use Rattle.types.specs.declared.Refusal.{Refusal}
-use Rattle.types.specs.declared.Refusal.TheVariants.{Nothing, SheetNumber, Coefficient, Unstable}
+use Rattle.types.specs.declared.Refusal.TheVariants.{SheetNumber, Coefficient, Unstable}
 use Rattle.scheme.specs.Instruments.{kind}
 use Rattle.scheme.specs.Refusals.{last_kind, unstable, Check, ◌⇒◌, lowest, grid_checks}
-use Rattle.scheme.specs.Calls.{accepted}
+use Rattle.scheme.specs.Calls.{answered}
 use Rattle.sheet.specs.declared.Sheet.{Sheet}
-use Rattle.sheet.specs.declared.SheetAnswer.{SheetAnswer}
 use Rattle.sheet.specs.declared.coefficients.Coefficients.{Coefficients}
 use Rattle.sheet.specs.Numbers.{numbers_allowed}
 use Rattle.sheet.specs.Coefficients.{coefficients, some_outside, settings_of}
@@ -30,16 +30,13 @@ after_grid g s = not (numbers_allowed (kind g) s) ⇒ SheetNumber ∷ coefficien
 abbrev pub sheet_checks : Grid → Sheet → List Check
 sheet_checks g s = grid_checks last_kind g ++ after_grid g s
 
--- "a sheet's answer all zeros"
-abbrev pub sheet_refused : Refusal → SheetAnswer
-sheet_refused r = record { settings = record { q = 0; m = 0; s = 0 }; refusal = r }
-
-abbrev pub sheet_accepted : Settings → SheetAnswer
-sheet_accepted c = record { settings = c; refusal = Nothing }
-
 -- "The lowest number that applies answers, and a call for which none applies is carried out"
-unfoldable pub answer_to : List Check → Settings → SheetAnswer
-answer_to checks c = let r = lowest checks in cond (accepted r) (sheet_accepted c) (sheet_refused r)
+unfoldable pub answer_to : List Check → Settings → Result Settings Refusal
+answer_to checks c = answered (lowest checks) c
 
-unfoldable pub sheet_call : Grid → Sheet → SheetAnswer
+unfoldable pub sheet_call : Grid → Sheet → Result Settings Refusal
 sheet_call g s = answer_to (sheet_checks g s) (settings_of (coefficients g.columns s))
+
+-- "a sheet's answer all zeros" where it is refused
+abbrev pub settings_read : Result Settings Refusal → Settings
+settings_read a = result_unwrap_or a (record { q = 0; m = 0; s = 0 })

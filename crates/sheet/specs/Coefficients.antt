@@ -1,9 +1,9 @@
 -- "float operations stand in this order": the coefficients that a sheet works out.
-use Rattle.std.specs.Prelude.{Bool, false, ◌||◌, ℕ, ◌-◌, ◌^◌, Float, pos}
+use Rattle.std.specs.Prelude.{Bool, false, ◌||◌, is_none, unwrap_or, ℕ, ◌-◌, ◌^◌, Float, pos}
 use Rattle.std.specs.Float.{binary64}
 use Rattle.std.specs.Float.Ieee.{mul, div, round, of_int}
 use Rattle.types.specs.declared.Settings.{Settings}
-use Rattle.nearest.specs.Nearest.{nearest_whole, outside, value_of}
+use Rattle.nearest.specs.Nearest.{nearest_whole}
 use Rattle.sheet.specs.declared.Speed.{Speed}
 use Rattle.sheet.specs.declared.Speed.TheVariants.{Hertz, Tension}
 use Rattle.sheet.specs.declared.Loss.{Loss}
@@ -49,8 +49,8 @@ coefficients columns s =
 
 -- 4 "A coefficient that after rounding is not in 0..65536 (not-a-number included)"
 abbrev pub some_outside : Coefficients → Bool
-some_outside c = outside c.q || outside c.m || outside c.s
+some_outside c = is_none c.q || is_none c.m || is_none c.s
 
 -- what they set, each 0 where there is none
 abbrev pub settings_of : Coefficients → Settings
-settings_of c = record { q = value_of c.q; m = value_of c.m; s = value_of c.s }
+settings_of c = record { q = unwrap_or c.q 0; m = unwrap_or c.m 0; s = unwrap_or c.s 0 }

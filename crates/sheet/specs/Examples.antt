@@ -1,22 +1,23 @@
 -- The paper's example, and both sides of each border, as a table: proved by computation (`examples_hold`).
-use Rattle.std.specs.Prelude.{◌≡◌, true, false, List, [], ◌∷◌, map, ℕ, ◌^◌, Float, pos}
+use Rattle.std.specs.Prelude.{◌≡◌, true, false, List, [], ◌∷◌, map, Result, Ok, Err, ℕ, ◌^◌, Float, pos}
 use Rattle.std.specs.Float.{nan, inf, fin}
+use Rattle.types.specs.declared.Settings.{Settings}
 use Rattle.types.specs.declared.Grid.{Grid}
+use Rattle.types.specs.declared.Refusal.{Refusal}
 use Rattle.types.specs.declared.Refusal.TheVariants.{UnknownKind, WrongSize, SheetNumber, Coefficient, Unstable}
 use Rattle.sheet.specs.declared.Speed.{Speed}
 use Rattle.sheet.specs.declared.Speed.TheVariants.{Hertz, Tension}
 use Rattle.sheet.specs.declared.Loss.{Loss}
 use Rattle.sheet.specs.declared.Loss.TheVariants.{PerSecond, Seconds}
 use Rattle.sheet.specs.declared.Sheet.{Sheet}
-use Rattle.sheet.specs.declared.SheetAnswer.{SheetAnswer}
 use Rattle.sheet.specs.Coefficients.{nearest_float}
-use Rattle.sheet.specs.Call.{sheet_accepted, sheet_refused, sheet_call}
+use Rattle.sheet.specs.Call.{sheet_call}
 
 -- a sheet on a grid, and its answer
 pub record Example : Type 0 where
   pub grid : Grid
   pub sheet : Sheet
-  pub answer : SheetAnswer
+  pub answer : Result Settings Refusal
 
 abbrev pub Hold : List Example → Type 0
 Hold es = map (λ e. sheet_call e.grid e.sheet) es ≡ map (λ e. e.answer) es
@@ -24,7 +25,7 @@ Hold es = map (λ e. sheet_call e.grid e.sheet) es ≡ map (λ e. e.answer) es
 -- ---- how a row is written
 
 infix 5 ◌on◌gives◌
-abbrev ◌on◌gives◌ : Sheet → Grid → SheetAnswer → Example
+abbrev ◌on◌gives◌ : Sheet → Grid → Result Settings Refusal → Example
 s on g gives a = record { grid = g; sheet = s; answer = a }
 
 abbrev whole : ℕ → Float
@@ -58,8 +59,8 @@ tension n = Tension (whole n) (whole 65536)
 abbrev lossless : Loss
 lossless = PerSecond (whole 0)
 
-abbrev accepts : (q m s : ℕ) → SheetAnswer
-accepts q m s = sheet_accepted (record { q = q; m = m; s = s })
+abbrev accepts : (q m s : ℕ) → Result Settings Refusal
+accepts q m s = Ok (record { q = q; m = m; s = s })
 
 -- ---- the table
 
@@ -82,66 +83,66 @@ orders =
 -- 1, before all others
 unfoldable pub kinds : List Example
 kinds =
-    (paper_sheet (Hertz nan) lossless on size 0 2 9 gives sheet_refused UnknownKind) ∷
-    (paper_sheet (Hertz (whole 10)) lossless on size 8 101 1 gives sheet_refused UnknownKind) ∷ []
+    (paper_sheet (Hertz nan) lossless on size 0 2 9 gives Err UnknownKind) ∷
+    (paper_sheet (Hertz (whole 10)) lossless on size 8 101 1 gives Err UnknownKind) ∷ []
 
 -- 2, before 3
 unfoldable pub sizes : List Example
 sizes =
-    (paper_sheet (Hertz nan) lossless on size 1 2 1 gives sheet_refused WrongSize) ∷
+    (paper_sheet (Hertz nan) lossless on size 1 2 1 gives Err WrongSize) ∷
     (paper_sheet (Hertz (whole 10)) lossless on size 3 1024 1 gives accepts 11907 0 0) ∷
-    (paper_sheet (Hertz (whole 10)) lossless on size 3 1025 1 gives sheet_refused WrongSize) ∷
-    (paper_sheet (Hertz (whole 10)) lossless on size 4 101 2 gives sheet_refused WrongSize) ∷
+    (paper_sheet (Hertz (whole 10)) lossless on size 3 1025 1 gives Err WrongSize) ∷
+    (paper_sheet (Hertz (whole 10)) lossless on size 4 101 2 gives Err WrongSize) ∷
     (unit_sheet (whole 0) (tension 32768) lossless on size 5 3 64 gives accepts 32768 0 0) ∷
-    (unit_sheet (whole 0) (tension 32768) lossless on size 6 3 64 gives sheet_refused WrongSize) ∷ []
+    (unit_sheet (whole 0) (tension 32768) lossless on size 6 3 64 gives Err WrongSize) ∷ []
 
 -- 3: zero rate, length, density and decay time
 unfoldable pub zeros : List Example
 zeros =
-    (numbers (whole 0) (whole 1) (whole 0) (Hertz (whole 0)) lossless on size 1 101 1 gives sheet_refused SheetNumber) ∷
-    (numbers (whole 1) minus_zero (whole 0) (Hertz (whole 0)) lossless on size 1 101 1 gives sheet_refused SheetNumber) ∷
-    (unit_sheet (whole 0) (Tension (whole 1) (whole 0)) lossless on size 1 3 1 gives sheet_refused SheetNumber) ∷
-    (unit_sheet (whole 0) (tension 1) (Seconds (whole 0)) on size 1 3 1 gives sheet_refused SheetNumber) ∷
+    (numbers (whole 0) (whole 1) (whole 0) (Hertz (whole 0)) lossless on size 1 101 1 gives Err SheetNumber) ∷
+    (numbers (whole 1) minus_zero (whole 0) (Hertz (whole 0)) lossless on size 1 101 1 gives Err SheetNumber) ∷
+    (unit_sheet (whole 0) (Tension (whole 1) (whole 0)) lossless on size 1 3 1 gives Err SheetNumber) ∷
+    (unit_sheet (whole 0) (tension 1) (Seconds (whole 0)) on size 1 3 1 gives Err SheetNumber) ∷
     (unit_sheet minus_zero (Hertz minus_zero) (PerSecond minus_zero) on size 1 3 1 gives accepts 0 0 0) ∷ []
 
 -- 3: not finite, negative, a pitch in hertz; before 4
 unfoldable pub refused_numbers : List Example
 refused_numbers =
-    (unit_sheet nan (tension 1) lossless on size 4 3 1 gives sheet_refused SheetNumber) ∷
-    (unit_sheet (whole 0) (Hertz (inf false)) lossless on size 1 3 1 gives sheet_refused SheetNumber) ∷
-    (unit_sheet (whole 9) (tension 1) (PerSecond (fin true 1 (pos 0))) on size 1 3 1 gives sheet_refused SheetNumber) ∷
-    (unit_sheet (whole 0) (Hertz (whole 0)) lossless on size 5 3 3 gives sheet_refused SheetNumber) ∷
-    (unit_sheet (whole 0) (Hertz (whole 0)) lossless on size 6 3 3 gives sheet_refused SheetNumber) ∷ []
+    (unit_sheet nan (tension 1) lossless on size 4 3 1 gives Err SheetNumber) ∷
+    (unit_sheet (whole 0) (Hertz (inf false)) lossless on size 1 3 1 gives Err SheetNumber) ∷
+    (unit_sheet (whole 9) (tension 1) (PerSecond (fin true 1 (pos 0))) on size 1 3 1 gives Err SheetNumber) ∷
+    (unit_sheet (whole 0) (Hertz (whole 0)) lossless on size 5 3 3 gives Err SheetNumber) ∷
+    (unit_sheet (whole 0) (Hertz (whole 0)) lossless on size 6 3 3 gives Err SheetNumber) ∷ []
 
 -- 4: halves up, at both ends of 0..65536; before 5; 0 / 0 by underflow of h·h
 unfoldable pub ends : List Example
 ends =
     (unit_sheet (whole 0) (tension 65536) (PerSecond (inverse_power 17)) on size 1 3 1 gives accepts 65536 0 1) ∷
     (unit_sheet (whole 0) (tension 1) (PerSecond (nearest_float 131071 131072)) on size 1 3 1 gives accepts 1 0 65536) ∷
-    (unit_sheet (whole 0) (tension 1) (PerSecond (nearest_float 131073 131072)) on size 1 3 1 gives sheet_refused Coefficient) ∷
-    (unit_sheet (inverse_power 3) (tension 65537) lossless on size 1 3 1 gives sheet_refused Coefficient) ∷
-    (numbers (whole 1) (inverse_power 600) (whole 0) (Hertz (whole 0)) lossless on size 4 3 1 gives sheet_refused Coefficient) ∷ []
+    (unit_sheet (whole 0) (tension 1) (PerSecond (nearest_float 131073 131072)) on size 1 3 1 gives Err Coefficient) ∷
+    (unit_sheet (inverse_power 3) (tension 65537) lossless on size 1 3 1 gives Err Coefficient) ∷
+    (numbers (whole 1) (inverse_power 600) (whole 0) (Hertz (whole 0)) lossless on size 4 3 1 gives Err Coefficient) ∷ []
 
 -- 5: the limits, and a bending that rounds to m = 0
 unfoldable pub limits : List Example
 limits =
     (unit_sheet (inverse_power 16) (tension 65532) lossless on size 4 3 1 gives accepts 65532 1 0) ∷
-    (unit_sheet (inverse_power 16) (tension 65533) lossless on size 4 3 1 gives sheet_refused Unstable) ∷
-    (unit_sheet (whole 0) (tension 32769) lossless on size 5 3 3 gives sheet_refused Unstable) ∷
+    (unit_sheet (inverse_power 16) (tension 65533) lossless on size 4 3 1 gives Err Unstable) ∷
+    (unit_sheet (whole 0) (tension 32769) lossless on size 5 3 3 gives Err Unstable) ∷
     (unit_sheet (inverse_power 18) (tension 1) lossless on size 1 3 1 gives accepts 1 0 0) ∷
-    (unit_sheet (inverse_power 17) (tension 1) lossless on size 1 3 1 gives sheet_refused Unstable) ∷ []
+    (unit_sheet (inverse_power 17) (tension 1) lossless on size 1 3 1 gives Err Unstable) ∷ []
 
 -- kind 7: "sizes as kind 5", no pitch in hertz, "2q + 16m ≤ 65536"; "The sheet's bending number serves unchanged."
 unfoldable pub plates : List Example
 plates =
     (unit_sheet (whole 0) (tension 32768) lossless on size 7 3 64 gives accepts 32768 0 0) ∷
-    (unit_sheet (whole 0) (tension 32769) lossless on size 7 3 64 gives sheet_refused Unstable) ∷
+    (unit_sheet (whole 0) (tension 32769) lossless on size 7 3 64 gives Err Unstable) ∷
     (unit_sheet (inverse_power 4) (tension 0) (PerSecond (inverse_power 16)) on size 7 3 3 gives accepts 0 4096 1) ∷
-    (unit_sheet (nearest_float 4097 65536) (tension 0) lossless on size 7 3 3 gives sheet_refused Unstable) ∷
+    (unit_sheet (nearest_float 4097 65536) (tension 0) lossless on size 7 3 3 gives Err Unstable) ∷
     (unit_sheet (inverse_power 16) (tension 32760) lossless on size 7 3 3 gives accepts 32760 1 0) ∷
-    (unit_sheet (inverse_power 16) (tension 32761) lossless on size 7 3 3 gives sheet_refused Unstable) ∷
-    (unit_sheet (whole 0) (Hertz (whole 0)) lossless on size 7 3 3 gives sheet_refused SheetNumber) ∷
-    (unit_sheet (whole 0) (tension 1) lossless on size 7 3 2 gives sheet_refused WrongSize) ∷ []
+    (unit_sheet (inverse_power 16) (tension 32761) lossless on size 7 3 3 gives Err Unstable) ∷
+    (unit_sheet (whole 0) (Hertz (whole 0)) lossless on size 7 3 3 gives Err SheetNumber) ∷
+    (unit_sheet (whole 0) (tension 1) lossless on size 7 3 2 gives Err WrongSize) ∷ []
 
 pub record ExamplesHold : Type 0 where
   pub accepted_hold : Hold accepted_sheets

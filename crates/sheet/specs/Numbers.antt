@@ -3,7 +3,9 @@
 -- for it as for drumheads".
 use Rattle.std.specs.Prelude.{Bool, true, false, not, ◌&&◌, ◌||◌, eqb, Float}
 use Rattle.std.specs.Float.{nan, inf, fin}
-use Rattle.scheme.specs.Instruments.{Kind, unknown, fixedString, halfFreeString, freeString, bar, membrane, roundMembrane, plate}
+use Rattle.types.specs.declared.Kind.{Kind}
+use Rattle.types.specs.declared.Kind.TheVariants.{Unknown, StringFixed, StringFixedFree, StringFree, Bar, MembraneRectangular}
+use Rattle.types.specs.declared.Kind.TheVariants.{MembraneRound, Plate}
 use Rattle.sheet.specs.declared.Speed.{Speed}
 use Rattle.sheet.specs.declared.Speed.TheVariants.{Hertz, Tension}
 use Rattle.sheet.specs.declared.Loss.{Loss}
@@ -24,14 +26,14 @@ positive (fin s m e) = not s && not (eqb m 0)
 
 -- the kinds that take "a pitch in hertz": not "kinds 5 and 6", and not plates
 abbrev pub pitched : Kind → Bool
-pitched unknown = false
-pitched fixedString = true
-pitched halfFreeString = true
-pitched freeString = true
-pitched bar = true
-pitched membrane = false
-pitched roundMembrane = false
-pitched plate = false
+pitched Unknown = false
+pitched StringFixed = true
+pitched StringFixedFree = true
+pitched StringFree = true
+pitched Bar = true
+pitched MembraneRectangular = false
+pitched MembraneRound = false
+pitched Plate = false
 
 abbrev pub speed_allowed : Kind → Speed → Bool
 speed_allowed k (Hertz f) = pitched k && non_negative f

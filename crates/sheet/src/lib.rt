@@ -5,13 +5,13 @@ mod coefficients;
 mod numbers;
 
 ghost use Rattle.std.specs.Prelude.{◌≡◌};
-ghost use Rattle.sheet.specs.Call.{coefficient_checks, sheet_refused, answer_to, sheet_call};
-ghost use Rattle.sheet.specs.Coefficients.{settings_of};
+ghost use Rattle.sheet.specs.Call.{sheet_call};
 
 use crate::coefficients::Coefficients;
-use instruments::{grid_refusal, is_nothing};
+use crate::numbers::are_allowed;
+use instruments::grid_refusal;
 use sizes::is_stable;
-use types::{Grid, Refusal, Settings};
+use types::{Grid, Kind, Refusal, Settings};
 
 // A speed: hertz, which is wave speed over twice the length, or a tension with a density. The definitions `speed_allowed` and
 // `courant_squared` tell what the paper makes of each.
@@ -39,54 +39,21 @@ pub struct Sheet {
     pub loss: Loss,
 }
 
-// A sheet's answer: what refused it, and the settings, all zeros where something did. The definition `number` tells the paper's number
-// of each refusal.
-#[derive(Clone, Copy)]
-pub struct SheetAnswer {
-    pub settings: Settings,
-    pub refusal: Refusal,
-}
-
-// The answer of a refused sheet: all zeros.
-fn refused(refusal: Refusal) -> SheetAnswer
-    ensures { result ≡ sheet_refused refusal }
-{
-    SheetAnswer {
-        settings: Settings::new(0, 0, 0),
-        refusal,
-    }
-}
-
-// The answer by 4 and 5.
-fn answer(grid: Grid, c: Coefficients) -> SheetAnswer
-    ensures { result ≡ answer_to (coefficient_checks grid c) (settings_of c) }
-{
-    if c.some_outside() {
-        return refused(Refusal::Coefficient);
-    }
-    let settings = c.settings();
-    if !is_stable(grid.kind, settings.q, settings.m) {
-        return refused(Refusal::Unstable);
-    }
-    SheetAnswer {
-        settings,
-        refusal: Refusal::Nothing,
-    }
-}
-
 // The settings of a sheet for a kind and its grid, or what refuses it.
-// Ruled out: a refused sheet's answer not all zeros; q and m exchanged.
-pub fn settings_for(grid: Grid, sheet: Sheet) -> SheetAnswer
+// Ruled out: q and m exchanged; a loss outside 0..D accepted.
+#[tactic(auto, using(crate::proofs::CallLaws::number_refused, crate::proofs::CallLaws::coefficient_refused, crate::proofs::CallLaws::unstable_refused, crate::proofs::CallLaws::carried_out))]
+pub fn settings_for(grid: Grid, sheet: Sheet) -> Result<Settings, Refusal>
     ensures { result ≡ sheet_call grid sheet }
 {
-    let kind = grid.kind;
-    let columns = grid.columns;
-    let refusal = grid_refusal(grid, Grid::LAST);
-    if !is_nothing(refusal) {
-        return refused(refusal);
+    grid_refusal(grid, Grid::LAST)?;
+    let kind = Kind::from(grid.kind);
+    if !are_allowed(kind, sheet) {
+        return Err(Refusal::SheetNumber);
     }
-    if !numbers::are_allowed(kind, sheet) {
-        return refused(Refusal::SheetNumber);
+    let coefficients = Coefficients::of_sheet(grid.columns, sheet);
+    let settings = coefficients.settings().ok_or(Refusal::Coefficient)?;
+    if !is_stable(kind, settings.q, settings.m) {
+        return Err(Refusal::Unstable);
     }
-    answer(grid, Coefficients::of_sheet(columns, sheet))
+    Ok(settings)
 }
