@@ -5,7 +5,7 @@ use Rattle.types.specs.declared.Settings.{Settings}
 use Rattle.types.specs.Numbers.{number, number_of}
 use Rattle.scheme.specs.Calls.{AfterBlock, AfterPluck, reading_value}
 use Rattle.scheme.specs.Calls as Calls
-use Rattle.sheet.specs.Call.{sheet_call}
+use Rattle.sheet.specs.Call.{sheet_call, settings_read}
 use Rattle.packing.specs.Packing.{grid_of, instrument_of, hit_of, sheet_of}
 
 -- what refused an answer, 0 where nothing did
@@ -91,13 +91,8 @@ pub record SheetLeft : Type 0 where
 abbrev pub sheet_left : (refusal q m s : ℕ) → SheetLeft
 sheet_left refusal q m s = record { refusal = refusal; q = q; m = m; s = s }
 
--- "a sheet's answer all zeros" where it is refused
-abbrev pub settings_told : Result Settings Refusal → Settings
-settings_told (Ok c) = c
-settings_told (Err r) = record { q = 0; m = 0; s = 0 }
-
 abbrev pub sheet_numbers : Result Settings Refusal → SheetLeft
-sheet_numbers a = let c = settings_told a in sheet_left (answer_number a) c.q c.m c.s
+sheet_numbers a = let c = settings_read a in sheet_left (answer_number a) c.q c.m c.s
 
 abbrev pub sheet : (kind columns rows : ℕ) → (rate length bending : Float) → ℕ → (speed density : Float) → ℕ → Float → SheetLeft
 sheet kind columns rows rate length bending by_tension speed density bySeconds loss =
