@@ -8,8 +8,9 @@ use borrow.Fn.World.{ArgsD, ResD}
 use denote.Triple.Clauses.{AtExit}
 use Rattle.types.specs.declared.Grid.{Grid}
 use Rattle.types.specs.declared.Instrument.{Instrument}
+use Rattle.std.specs.Prelude.{Option}
 use Rattle.types.specs.declared.Hit.{Hit}
-use Rattle.types.specs.Numbers.{number}
+use Rattle.types.specs.Numbers.{number_of}
 use Rattle.scheme.specs.Calls as Calls
 use Rattle.scheme.specs.Book.{block_call, pluck_call, pluck_with_call, block_outcome, pluck_outcome, leaves, left_by_block, left_by_pluck}
 use Rattle.scheme.specs.Program.{Made, Kept}
@@ -31,7 +32,7 @@ module _ (κs : Lfts 6) (a : ArgsD block.signature κs) (r : ResD block.signatur
   abbrev instrument : Instrument
   instrument = let c = a.1.1.1 in instrument_of a.0 a.1.0 a.1.1.0 c.0 c.1.0 c.1.1.0
 
-  abbrev hit : Hit
+  abbrev hit : Option Hit
   hit = let h = a.1.1.1.1.1.1.1.1.1.1.1 in hit_of h.0 h.1.0 h.1.1.0
 
   abbrev done : Calls.AfterBlock
@@ -62,7 +63,7 @@ module _ (κs : Lfts 6) (a : ArgsD block.signature κs) (r : ResD block.signatur
   pub block_inexact : s.1.1.1.1.1.1.1.1.1.1.1.1.1.1.1.0.now ≡ done.answer.inexact
   block_inexact = ap (λ (x : BlockLeft). x.inexact) learnt
 
-  pub block-refusal : r ≡ number done.answer.refusal
+  pub block-refusal : r ≡ number_of done.answer.outcome
   block-refusal = ap (λ (x : BlockLeft). x.refusal) learnt
 
 -- kind, columns, rows, older, newer, centre, half width, height
@@ -82,14 +83,14 @@ module _ (κs : Lfts 2) (a : ArgsD pluck.signature κs) (r : ResD pluck.signatur
       let left = s.1.1.1 in
       record {
         call = pluck_call grid lent.1.1.0 lent.1.1.1.0 lent.1.1.1.1.0;
-        left = record { outcome = pluck_outcome plucked.refusal; older = left.0.now; newer = left.1.0.now };
+        left = record { outcome = pluck_outcome plucked.outcome; older = left.0.now; newer = left.1.0.now };
       }
 
   pub pluck-kept : Kept a.1.1.1.0.now a.1.1.1.1.0.now pluck_made
   unfolding leaves
-  pluck-kept = ap (λ (x : PluckLeft). left_by_pluck (Calls.pluck_left plucked.refusal x.older x.newer)) learnt
+  pluck-kept = ap (λ (x : PluckLeft). left_by_pluck (Calls.pluck_left plucked.outcome x.older x.newer)) learnt
 
-  pub pluck-refusal : r ≡ number plucked.refusal
+  pub pluck-refusal : r ≡ number_of plucked.outcome
   pluck-refusal = ap (λ (x : PluckLeft). x.refusal) learnt
 
 -- kind, columns, rows, older, newer, centre, half width, height, table
@@ -108,12 +109,12 @@ module _ (κs : Lfts 3) (a : ArgsD with.signature κs) (r : ResD with.signature 
       let left = s.1.1.1 in
       record {
         call = pluck_with_call (grid_of a.0 a.1.0 a.1.1.0) shape.0 shape.1.0 shape.1.1.0 shape.1.1.1.0.now;
-        left = record { outcome = pluck_outcome plucked_with.refusal; older = left.0.now; newer = left.1.0.now };
+        left = record { outcome = pluck_outcome plucked_with.outcome; older = left.0.now; newer = left.1.0.now };
       }
 
   pub with_kept : Kept a.1.1.1.0.now a.1.1.1.1.0.now with_made
   unfolding leaves
-  with_kept = ap (λ (x : PluckLeft). left_by_pluck (Calls.pluck_left plucked_with.refusal x.older x.newer)) learnt
+  with_kept = ap (λ (x : PluckLeft). left_by_pluck (Calls.pluck_left plucked_with.outcome x.older x.newer)) learnt
 
-  pub with_refusal : r ≡ number plucked_with.refusal
+  pub with_refusal : r ≡ number_of plucked_with.outcome
   with_refusal = ap (λ (x : PluckLeft). x.refusal) learnt

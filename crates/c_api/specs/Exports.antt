@@ -1,12 +1,17 @@
 -- The calls as C sees them: numbers and slices in, and all that comes back, the refusal by its number.
-use Rattle.std.specs.Prelude.{List, ℕ, Float, ℤ}
-use Rattle.types.specs.declared.ReadingAnswer.{ReadingAnswer}
-use Rattle.types.specs.Numbers.{number}
-use Rattle.scheme.specs.Calls.{AfterBlock, AfterPluck}
+use Rattle.std.specs.Prelude.{List, ℕ, Float, ℤ, Result, Ok, Err}
+use Rattle.types.specs.declared.Refusal.{Refusal}
+use Rattle.types.specs.declared.Settings.{Settings}
+use Rattle.types.specs.Numbers.{number, number_of}
+use Rattle.scheme.specs.Calls.{AfterBlock, AfterPluck, reading_value}
 use Rattle.scheme.specs.Calls as Calls
-use Rattle.sheet.specs.declared.SheetAnswer.{SheetAnswer}
-use Rattle.sheet.specs.Call.{sheet_call}
+use Rattle.sheet.specs.Call.{sheet_call, settings_read}
 use Rattle.packing.specs.Packing.{grid_of, instrument_of, hit_of, sheet_of}
+
+-- what refused an answer, 0 where nothing did
+abbrev pub answer_number : {A : Type 0} → Result A Refusal → ℕ
+answer_number (Ok x) = 0
+answer_number (Err r) = number r
 
 -- ---- a block
 
@@ -32,7 +37,7 @@ block_left refusal steps inexact older newer work samples = record {
 
 abbrev pub block_numbers : AfterBlock → BlockLeft
 block_numbers a =
-    block_left (number a.answer.refusal) a.answer.steps a.answer.inexact a.older a.newer a.work a.samples
+    block_left (number_of a.answer.outcome) a.answer.steps a.answer.inexact a.older a.newer a.work a.samples
 
 abbrev pub block : (kind columns rows q m s : ℕ) → (older newer work samples : List ℤ) → (pickUp hit point : ℕ) → ℤ → BlockLeft
 block kind columns rows q m s older newer work samples pickUp hit point force =
@@ -49,7 +54,7 @@ abbrev pub pluck_left : ℕ → (older newer : List ℤ) → PluckLeft
 pluck_left refusal older newer = record { refusal = refusal; older = older; newer = newer }
 
 abbrev pub pluck_numbers : AfterPluck → PluckLeft
-pluck_numbers a = pluck_left (number a.refusal) a.older a.newer
+pluck_numbers a = pluck_left (number_of a.outcome) a.older a.newer
 
 abbrev pub pluck : (kind columns rows : ℕ) → (older newer : List ℤ) → (centre halfWidth : ℕ) → ℤ → PluckLeft
 pluck kind columns rows older newer centre halfWidth height =
@@ -68,8 +73,9 @@ pub record ReadingLeft : Type 0 where
 abbrev pub reading_left : ℕ → Float → ReadingLeft
 reading_left refusal value = record { refusal = refusal; value = value }
 
-abbrev pub reading_numbers : ReadingAnswer → ReadingLeft
-reading_numbers a = reading_left (number a.refusal) a.value
+-- "answers 0 when refused"
+abbrev pub reading_numbers : Result Float Refusal → ReadingLeft
+reading_numbers a = reading_left (answer_number a) (reading_value a)
 
 abbrev pub reading : (kind columns rows : ℕ) → List ℤ → ℕ → ReadingLeft
 reading kind columns rows newer pickUp = reading_numbers (Calls.reading (grid_of kind columns rows) newer pickUp)
@@ -85,8 +91,8 @@ pub record SheetLeft : Type 0 where
 abbrev pub sheet_left : (refusal q m s : ℕ) → SheetLeft
 sheet_left refusal q m s = record { refusal = refusal; q = q; m = m; s = s }
 
-abbrev pub sheet_numbers : SheetAnswer → SheetLeft
-sheet_numbers a = sheet_left (number a.refusal) a.settings.q a.settings.m a.settings.s
+abbrev pub sheet_numbers : Result Settings Refusal → SheetLeft
+sheet_numbers a = let c = settings_read a in sheet_left (answer_number a) c.q c.m c.s
 
 abbrev pub sheet : (kind columns rows : ℕ) → (rate length bending : Float) → ℕ → (speed density : Float) → ℕ → Float → SheetLeft
 sheet kind columns rows rate length bending by_tension speed density bySeconds loss =

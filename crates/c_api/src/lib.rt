@@ -1,11 +1,11 @@
 // The engine for C: numbers and lent slices in, the refusal's number out. host/include/buvcsolta.h declares these functions.
-// A slice arrives as a pointer and a length.
+// A slice arrives as a pointer and a length. Numbers and flags come one by one, and answers go to lent places: so is the C interface.
 #![tactic(auto)]
 
 ghost use Rattle.std.specs.Prelude.{◌≡◌};
 ghost use Rattle.c_api.specs.Exports as Exports;
 
-use engine::{Grid, block, pluck, pluck_with, reading, settings_for};
+use engine::{Grid, Settings, block, number_of, pluck, pluck_with, reading, settings_for};
 use packing::{hit_of, instrument_of, sheet_of};
 
 // A block. Ruled out: the count of steps not told; the steps told as the inexact points; a hit where its flag is 0 (`hit_of`).
@@ -38,8 +38,7 @@ pub extern "C" fn buvcsolta_block(
     let answer = block(i, older, newer, work, samples, pick_up, h);
     *steps = answer.steps;
     *inexact = answer.inexact;
-    let refusal = answer.refusal;
-    refusal.number()
+    number_of(answer.outcome)
 }
 
 // A pluck. Ruled out: the centre taken for the half width; columns and rows exchanged (`Grid::new`).
@@ -58,8 +57,7 @@ pub extern "C" fn buvcsolta_pluck(
         ≡ Exports.pluck kind columns rows older.old newer.old centre half_width height }
 {
     let g = Grid::new(kind, columns, rows);
-    let refusal = pluck(g, older, newer, centre, half_width, height);
-    refusal.number()
+    number_of(pluck(g, older, newer, centre, half_width, height))
 }
 
 // A pluck by a lent table. Ruled out: the centre taken for the half width; columns and rows exchanged (`Grid::new`).
@@ -80,12 +78,13 @@ pub extern "C" fn buvcsolta_pluck_with(
         table.now }
 {
     let g = Grid::new(kind, columns, rows);
-    let refusal = pluck_with(g, older, newer, centre, half_width, height, table);
-    refusal.number()
+    number_of(pluck_with(g, older, newer, centre, half_width, height, table))
 }
 
-// The float reading. Ruled out: the value not told; columns and rows exchanged (`Grid::new`).
+// The float reading, 0 where it is refused. Ruled out: the value not told; a refused reading's value not 0; columns and rows
+// exchanged (`Grid::new`).
 #[unsafe(no_mangle)]
+#[tactic(auto, using(crate::proofs::Zero::zero))]
 pub extern "C" fn buvcsolta_reading(
     kind: u64,
     columns: usize,
@@ -98,12 +97,12 @@ pub extern "C" fn buvcsolta_reading(
 {
     let g = Grid::new(kind, columns, rows);
     let answer = reading(g, newer, pick_up);
-    *value = answer.value;
-    let refusal = answer.refusal;
-    refusal.number()
+    *value = answer.unwrap_or(0.0);
+    number_of(answer.map(|_| ()))
 }
 
-// The settings of a sheet. Ruled out: q and m exchanged; a tension taken as hertz (`sheet_of`).
+// The settings of a sheet, zeros where it is refused. Ruled out: q and m exchanged; a refused sheet's settings not all zeros;
+// a tension taken as hertz (`sheet_of`).
 #[unsafe(no_mangle)]
 pub extern "C" fn buvcsolta_sheet(
     kind: u64,
@@ -129,10 +128,9 @@ pub extern "C" fn buvcsolta_sheet(
         rate, length, bending, by_tension, speed, density, by_seconds, loss,
     );
     let answer = settings_for(g, sheet);
-    let settings = answer.settings;
+    let settings = answer.unwrap_or(Settings::new(0, 0, 0));
     *q = settings.q;
     *m = settings.m;
     *s = settings.s;
-    let refusal = answer.refusal;
-    refusal.number()
+    number_of(answer.map(|_| ()))
 }

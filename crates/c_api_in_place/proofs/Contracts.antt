@@ -7,8 +7,9 @@ use borrow.Fn.Kinds.{ended_of}
 use borrow.Fn.World.{ArgsD, ResD}
 use denote.Triple.Clauses.{AtExit}
 use Rattle.types.specs.declared.Instrument.{Instrument}
+use Rattle.std.specs.Prelude.{Option}
 use Rattle.types.specs.declared.Hit.{Hit}
-use Rattle.types.specs.Numbers.{number}
+use Rattle.types.specs.Numbers.{number_of}
 use Rattle.scheme.specs.Calls as Calls
 use Rattle.scheme.specs.Book.{in_place_call, in_place_outcome, leaves, left_by_in_place}
 use Rattle.scheme.specs.Program.{Made, Kept}
@@ -24,7 +25,7 @@ module _ (κs : Lfts 5) (a : ArgsD block.signature κs) (r : ResD block.signatur
   abbrev instrument : Instrument
   instrument = let c = a.1.1.1 in instrument_of a.0 a.1.0 a.1.1.0 c.0 c.1.0 c.1.1.0
 
-  abbrev hit : Hit
+  abbrev hit : Option Hit
   hit = let h = a.1.1.1.1.1.1.1.1.1.1 in hit_of h.0 h.1.0 h.1.1.0
 
   abbrev done : Calls.AfterInPlace
@@ -51,5 +52,5 @@ module _ (κs : Lfts 5) (a : ArgsD block.signature κs) (r : ResD block.signatur
   pub in_place_inexact : s.1.1.1.1.1.1.1.1.1.1.1.1.1.1.0.now ≡ done.answer.inexact
   in_place_inexact = ap (λ (x : InPlaceLeft). x.inexact) learnt
 
-  pub in_place_refusal : r ≡ number done.answer.refusal
+  pub in_place_refusal : r ≡ number_of done.answer.outcome
   in_place_refusal = ap (λ (x : InPlaceLeft). x.refusal) learnt

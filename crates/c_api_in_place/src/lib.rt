@@ -1,11 +1,11 @@
 // The block on two levels for C. It is a library of its own: compiled alone, its steps have no code of the block on three levels.
-// host/include/buvcsolta.h declares the function.
+// host/include/buvcsolta.h declares the function. Numbers and flags come one by one, and answers go to lent places: so is the C interface.
 #![tactic(auto)]
 
 ghost use Rattle.std.specs.Prelude.{◌≡◌};
 ghost use Rattle.c_api_in_place.specs.Exports as Exports;
 
-use engine::block_in_place;
+use engine::{block_in_place, number_of};
 use packing::{hit_of, instrument_of};
 
 // A block on two levels. Ruled out: the count of steps not told; the levels lent in each other's place.
@@ -37,6 +37,5 @@ pub extern "C" fn buvcsolta_block_in_place(
     let answer = block_in_place(i, older, newer, samples, pick_up, h);
     *steps = answer.steps;
     *inexact = answer.inexact;
-    let refusal = answer.refusal;
-    refusal.number()
+    number_of(answer.outcome)
 }

@@ -4,5 +4,5 @@
 pub use block::{block, block_in_place};
 pub use pluck::{pluck, pluck_with};
 pub use reading::reading;
-pub use sheet::{Loss, Sheet, SheetAnswer, Speed, settings_for};
-pub use types::{BlockAnswer, Grid, Hit, Instrument, ReadingAnswer, Refusal, Settings};
+pub use sheet::{Loss, Sheet, Speed, settings_for};
+pub use types::{BlockAnswer, Grid, Hit, Instrument, Outcome, Refusal, Settings, number_of};

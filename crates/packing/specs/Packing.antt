@@ -1,9 +1,9 @@
 -- What C's numbers and flags stand for.
-use Rattle.std.specs.Prelude.{cond, ℕ, eqb, Float, ℤ}
+use Rattle.std.specs.Prelude.{cond, ℕ, eqb, Float, ℤ, Option, None}
 use Rattle.types.specs.declared.Grid.{Grid}
 use Rattle.types.specs.declared.Instrument.{Instrument}
 use Rattle.types.specs.declared.Hit.{Hit}
-use Rattle.types.specs.declared.Hit.TheVariants.{Absent, At}
+use Rattle.types.specs.Numbers.{hit_at}
 use Rattle.sheet.specs.declared.Speed.{Speed}
 use Rattle.sheet.specs.declared.Speed.TheVariants.{Hertz, Tension}
 use Rattle.sheet.specs.declared.Loss.{Loss}
@@ -17,8 +17,8 @@ abbrev pub instrument_of : (kind columns rows q m s : ℕ) → Instrument
 instrument_of kind columns rows q m s = record { grid = grid_of kind columns rows; settings = record { q = q; m = m; s = s } }
 
 -- a flag of 0: no hit
-abbrev pub hit_of : (hit point : ℕ) → ℤ → Hit
-hit_of hit point force = cond (eqb hit 0) Absent (At point force)
+abbrev pub hit_of : (hit point : ℕ) → ℤ → Option Hit
+hit_of hit point force = cond (eqb hit 0) None (hit_at point force)
 
 -- a flag of 0: the speed is in hertz, and the density plays no part
 abbrev pub speed_of : (by_tension : ℕ) → (speed density : Float) → Speed

@@ -1,4 +1,4 @@
-// What C's numbers and flags stand for: an instrument, a hit, a sheet.
+// What C's numbers and flags stand for: an instrument, a hit, a sheet. They come one by one, as the C interface has them.
 #![tactic(auto)]
 
 ghost use Rattle.std.specs.Prelude.{◌≡◌};
@@ -17,13 +17,13 @@ pub fn instrument_of(kind: u64, columns: usize, rows: usize, q: u64, m: u64, s: 
 }
 
 // Ruled out: a hit where its flag is 0; the hit at point 0 whatever is asked.
-pub fn hit_of(hit: u64, point: usize, force: i64) -> Hit
+pub fn hit_of(hit: u64, point: usize, force: i64) -> Option<Hit>
     ensures { result ≡ hit_of hit point force }
 {
     if hit == 0 {
-        Hit::Absent
+        None
     } else {
-        Hit::At { point, force }
+        Some(Hit { point, force })
     }
 }
 

@@ -1,122 +1,100 @@
 // The lent buffers: lending them with new content, comparing them with what is expected.
-ghost use Rattle.std.specs.Prelude.{◌≤◌};
-
-use crate::records::{Numbers, PLACES, signed};
+use crate::records::{Buffer, Record, is_space, number};
 
 // The most points of a level, the most samples, and the most entries of a table.
-pub const MOST: usize = 4100;
+pub(crate) const MOST: usize = 4100;
 
-// The lengths in which the five buffers are lent.
-#[derive(Clone, Copy)]
-pub struct Lent {
-    pub older: usize,
-    pub newer: usize,
-    pub work: usize,
-    pub samples: usize,
-    pub table: usize,
+// What a buffer holds.
+pub(crate) trait Element: Copy + PartialEq {
+    // A record's number as an element, 0 where it is none.
+    fn of(number: u64) -> Self;
 }
 
-pub(crate) fn least(length: usize) -> usize
-    ensures { (result ≤ length) × (result ≤ 4100) }
-{
-    match length {
-        0..=4099 => length,
-        _ => MOST,
+impl Element for i64 {
+    fn of(number: u64) -> i64 {
+        number.cast_signed()
     }
 }
 
-impl Lent {
-    pub(crate) fn new() -> Lent {
-        Lent {
-            older: 0,
-            newer: 0,
-            work: 0,
-            samples: 0,
-            table: 0,
+impl Element for i16 {
+    fn of(number: u64) -> i16 {
+        i16::try_from(number.cast_signed()).unwrap_or(0)
+    }
+}
+
+impl Element for u32 {
+    fn of(number: u64) -> u32 {
+        u32::try_from(number).unwrap_or(0)
+    }
+}
+
+// Room for a buffer, lent in its first elements.
+#[derive(Drop)]
+pub(crate) struct Lent<'a, T> {
+    room: &'a mut [T],
+    length: usize,
+}
+
+impl<'a, T: Element> Lent<'a, T> {
+    pub(crate) fn new(room: &'a mut [T]) -> Lent<'a, T> {
+        Lent { room, length: 0 }
+    }
+
+    pub(crate) fn lent(&mut self) -> &mut [T] {
+        let length = self.length.min(self.room.len());
+        &mut self.room[..length]
+    }
+
+    // Lends it with the record's values. Whether all of them fit.
+    fn lend(&mut self, record: &Record) -> bool {
+        let length = record.length() as usize;
+        let values = record.line.split(is_space).skip(3);
+        for (held, value) in self.room.iter_mut().zip(values) {
+            *held = T::of(number(value));
         }
+        self.length = length;
+        length <= self.room.len()
     }
 
-    // The lengths after a record: one that lends has the buffer's number and its length.
-    pub(crate) fn after(mut self, n: Numbers) -> Lent {
-        let buffer = n.lent();
-        let length = n.n2 as usize;
+    // Whether it has the record's length and values.
+    fn holds(&mut self, record: &Record) -> bool {
+        let held = self.lent();
+        let values = record.line.split(is_space).skip(3);
+        held.len() as u64 == record.length()
+            && held
+                .iter()
+                .zip(values)
+                .all(|(held, value)| *held == T::of(number(value)))
+    }
+}
+
+#[derive(Drop)]
+pub(crate) struct Buffers<'a> {
+    pub(crate) older: Lent<'a, i64>,
+    pub(crate) newer: Lent<'a, i64>,
+    pub(crate) work: Lent<'a, i64>,
+    pub(crate) samples: Lent<'a, i16>,
+    pub(crate) table: Lent<'a, u32>,
+}
+
+impl Buffers<'_> {
+    pub(crate) fn lend(&mut self, buffer: Buffer, record: &Record) -> bool {
         match buffer {
-            0 => self.older = length,
-            1 => self.newer = length,
-            2 => self.work = length,
-            3 => self.samples = length,
-            4 => self.table = length,
-            _ => {}
+            Buffer::Older => self.older.lend(record),
+            Buffer::Newer => self.newer.lend(record),
+            Buffer::Work => self.work.lend(record),
+            Buffer::Samples => self.samples.lend(record),
+            Buffer::Table => self.table.lend(record),
         }
-        self
     }
-}
 
-// A number as a sample, 0 where it is none.
-fn sample(bits: u64) -> i16 {
-    match bits {
-        0..=32767 => bits as i16,
-        18446744073709518848..=18446744073709551615 => !((u64::MAX - bits) as i16),
-        _ => 0,
+    pub(crate) fn hold(&mut self, buffer: Buffer, record: &Record) -> bool {
+        match buffer {
+            Buffer::Older => self.older.holds(record),
+            Buffer::Newer => self.newer.holds(record),
+            Buffer::Work => self.work.holds(record),
+            Buffer::Samples => self.samples.holds(record),
+            Buffer::Table => self.table.holds(record),
+        }
     }
-}
-
-// A number as an entry of a table, 0 where it is none.
-fn entry(bits: u64) -> u32 {
-    match bits {
-        0..=4294967295 => bits as u32,
-        _ => 0,
-    }
-}
-
-fn level_of(is_lent: bool, given: i64, held: i64) -> i64 {
-    if is_lent { given } else { held }
-}
-
-fn sample_of(is_lent: bool, given: i16, held: i16) -> i16 {
-    if is_lent { given } else { held }
-}
-
-fn entry_of(is_lent: bool, given: u32, held: u32) -> u32 {
-    if is_lent { given } else { held }
-}
-
-// A lent level takes the record's values. Whether it has this length and content.
-pub(crate) fn on_level(n: Numbers, record: &[u64; PLACES], level: &mut [i64]) -> bool {
-    let is_lent = n.n0 == 1;
-    let end = least(level.len());
-    let mut is_met = level.len() as u64 == n.n2;
-    for k in 0..end {
-        let given = signed(record[k + 3]);
-        let value = level_of(is_lent, given, level[k]);
-        level[k] = value;
-        is_met = is_met & (value == given);
-    }
-    is_met
-}
-
-pub(crate) fn on_samples(n: Numbers, record: &[u64; PLACES], samples: &mut [i16]) -> bool {
-    let is_lent = n.n0 == 1;
-    let end = least(samples.len());
-    let mut is_met = samples.len() as u64 == n.n2;
-    for k in 0..end {
-        let given = sample(record[k + 3]);
-        let value = sample_of(is_lent, given, samples[k]);
-        samples[k] = value;
-        is_met = is_met & (value == given);
-    }
-    is_met
-}
-
-pub(crate) fn on_table(n: Numbers, record: &[u64; PLACES], table: &mut [u32]) -> bool {
-    let is_lent = n.n0 == 1;
-    let end = least(table.len());
-    let mut is_met = table.len() as u64 == n.n2;
-    for k in 0..end {
-        let given = entry(record[k + 3]);
-        let value = entry_of(is_lent, given, table[k]);
-        table[k] = value;
-        is_met = is_met & (value == given);
-    }
-    is_met
 }

@@ -1,139 +1,211 @@
 // The engine's calls with a record's arguments, and whether they answer what the record expects.
-use crate::buffers::{on_level, on_samples, on_table};
-use crate::floats::{bits_of, float_of};
-use crate::records::{Numbers, PLACES, signed};
+use crate::buffers::Buffers;
+use crate::records::{Numbers, Opcode, Record};
 use engine::{
-    BlockAnswer, Grid, Hit, Instrument, Sheet, block, block_in_place, pluck, pluck_with, reading,
-    settings_for,
+    BlockAnswer, Grid, Hit, Instrument, block, block_in_place, number_of, pluck, pluck_with,
+    reading, settings_for,
 };
 use packing::{hit_of, instrument_of, sheet_of};
+use std::num::f64_from_bits_with_nan;
 
-fn grid_in(n: Numbers) -> Grid {
-    Grid::new(n.n1, n.n2 as usize, n.n3 as usize)
+// A block's arguments, the buffers aside, and what is expected of it.
+#[derive(Clone, Copy)]
+struct Block {
+    instrument: Instrument,
+    pick_up: usize,
+    hit: Option<Hit>,
+    steps: u64,
+    inexact: u64,
+    refusal: u64,
 }
 
-// 3 kind columns rows q m s pickup hit point force steps inexact refusal
-fn instrument_in(n: Numbers) -> Instrument {
-    instrument_of(n.n1, n.n2 as usize, n.n3 as usize, n.n4, n.n5, n.n6)
+impl From<Numbers> for Block {
+    fn from(numbers: Numbers) -> Block {
+        let [
+            _,
+            kind,
+            columns,
+            rows,
+            q,
+            m,
+            s,
+            pick_up,
+            hit,
+            point,
+            force,
+            steps,
+            inexact,
+            refusal,
+            ..
+        ] = numbers;
+        Block {
+            instrument: instrument_of(kind, columns as usize, rows as usize, q, m, s),
+            pick_up: pick_up as usize,
+            hit: hit_of(hit, point as usize, force.cast_signed()),
+            steps,
+            inexact,
+            refusal,
+        }
+    }
 }
 
-fn hit_in(n: Numbers) -> Hit {
-    hit_of(n.n8, n.n9 as usize, signed(n.n10))
+impl Block {
+    fn expects(&self, answer: BlockAnswer) -> bool {
+        answer.steps as u64 == self.steps
+            && answer.inexact == self.inexact
+            && number_of(answer.outcome) == self.refusal
+    }
 }
 
-fn is_block(n: Numbers, answer: BlockAnswer) -> bool {
-    let refusal = answer.refusal;
-    (answer.steps as u64 == n.n11) & (answer.inexact == n.n12) & (refusal.number() == n.n13)
+fn block_agrees(numbers: Numbers, buffers: &mut Buffers) -> bool {
+    let call = Block::from(numbers);
+    call.expects(block(
+        call.instrument,
+        buffers.older.lent(),
+        buffers.newer.lent(),
+        buffers.work.lent(),
+        buffers.samples.lent(),
+        call.pick_up,
+        call.hit,
+    ))
 }
 
-fn block_agrees(
-    n: Numbers,
-    older: &mut [i64],
-    newer: &mut [i64],
-    work: &mut [i64],
-    samples: &mut [i16],
-) -> bool {
-    let instrument = instrument_in(n);
-    let hit = hit_in(n);
-    is_block(
-        n,
-        block(instrument, older, newer, work, samples, n.n7 as usize, hit),
-    )
+fn block_in_place_agrees(numbers: Numbers, buffers: &mut Buffers) -> bool {
+    let call = Block::from(numbers);
+    call.expects(block_in_place(
+        call.instrument,
+        buffers.older.lent(),
+        buffers.newer.lent(),
+        buffers.samples.lent(),
+        call.pick_up,
+        call.hit,
+    ))
 }
 
-// 7, and the numbers of 3
-fn block_in_place_agrees(
-    n: Numbers,
-    older: &mut [i64],
-    newer: &mut [i64],
-    samples: &mut [i16],
-) -> bool {
-    let instrument = instrument_in(n);
-    let hit = hit_in(n);
-    is_block(
-        n,
-        block_in_place(instrument, older, newer, samples, n.n7 as usize, hit),
-    )
+// A pluck's arguments, the buffers aside, and what is expected of it.
+#[derive(Clone, Copy)]
+struct Pluck {
+    grid: Grid,
+    centre: usize,
+    half_width: usize,
+    height: i64,
+    refusal: u64,
 }
 
-// 4 kind columns rows centre halfwidth height refusal
-fn pluck_agrees(n: Numbers, older: &mut [i64], newer: &mut [i64]) -> bool {
-    let grid = grid_in(n);
-    let height = signed(n.n6);
-    let refusal = pluck(grid, older, newer, n.n4 as usize, n.n5 as usize, height);
-    refusal.number() == n.n7
+impl From<Numbers> for Pluck {
+    fn from(numbers: Numbers) -> Pluck {
+        let [
+            _,
+            kind,
+            columns,
+            rows,
+            centre,
+            half_width,
+            height,
+            refusal,
+            ..
+        ] = numbers;
+        Pluck {
+            grid: Grid::new(kind, columns as usize, rows as usize),
+            centre: centre as usize,
+            half_width: half_width as usize,
+            height: height.cast_signed(),
+            refusal,
+        }
+    }
 }
 
-// 8, and the numbers of 4
-fn pluck_with_agrees(n: Numbers, older: &mut [i64], newer: &mut [i64], table: &[u32]) -> bool {
-    let grid = grid_in(n);
-    let height = signed(n.n6);
-    let refusal = pluck_with(
-        grid,
-        older,
-        newer,
-        n.n4 as usize,
-        n.n5 as usize,
-        height,
-        table,
+fn pluck_agrees(numbers: Numbers, buffers: &mut Buffers) -> bool {
+    let call = Pluck::from(numbers);
+    let outcome = pluck(
+        call.grid,
+        buffers.older.lent(),
+        buffers.newer.lent(),
+        call.centre,
+        call.half_width,
+        call.height,
     );
-    refusal.number() == n.n7
+    number_of(outcome) == call.refusal
 }
 
-// 5 kind columns rows pickup valuebits refusal
-fn reading_agrees(n: Numbers, newer: &[i64]) -> bool {
-    let answer = reading(grid_in(n), newer, n.n4 as usize);
-    let refusal = answer.refusal;
-    (bits_of(answer.value) == n.n5) & (refusal.number() == n.n6)
+fn pluck_with_agrees(numbers: Numbers, buffers: &mut Buffers) -> bool {
+    let call = Pluck::from(numbers);
+    let outcome = pluck_with(
+        call.grid,
+        buffers.older.lent(),
+        buffers.newer.lent(),
+        call.centre,
+        call.half_width,
+        call.height,
+        buffers.table.lent(),
+    );
+    number_of(outcome) == call.refusal
 }
 
-// 6 kind columns rows rate length bending speedkind speed1 speed2 losskind loss q m s refusal
-fn sheet_in(n: Numbers) -> Sheet {
-    sheet_of(
-        float_of(n.n4),
-        float_of(n.n5),
-        float_of(n.n6),
-        n.n7,
-        float_of(n.n8),
-        float_of(n.n9),
-        n.n10,
-        float_of(n.n11),
-    )
+// The bit pattern of a float; that of no number is the largest.
+fn bits_of(x: f64) -> u64 {
+    if x.is_nan() { u64::MAX } else { x.to_bits() }
 }
 
-fn sheet_agrees(n: Numbers) -> bool {
-    let answer = settings_for(grid_in(n), sheet_in(n));
-    let settings = answer.settings;
-    let refusal = answer.refusal;
-    (settings.q == n.n12)
-        & (settings.m == n.n13)
-        & (settings.s == n.n14)
-        & (refusal.number() == n.n15)
+fn reading_agrees(numbers: Numbers, buffers: &mut Buffers) -> bool {
+    let [_, kind, columns, rows, pick_up, value, refusal, ..] = numbers;
+    let grid = Grid::new(kind, columns as usize, rows as usize);
+    let told = match reading(grid, buffers.newer.lent(), pick_up as usize) {
+        Ok(x) => [bits_of(x), 0],
+        Err(refusal) => [0, refusal.number()],
+    };
+    told == [value, refusal]
+}
+
+fn sheet_agrees(numbers: Numbers) -> bool {
+    let [
+        _,
+        kind,
+        columns,
+        rows,
+        rate,
+        length,
+        bending,
+        by_tension,
+        speed,
+        density,
+        by_seconds,
+        loss,
+        q,
+        m,
+        s,
+        refusal,
+    ] = numbers;
+    let grid = Grid::new(kind, columns as usize, rows as usize);
+    let sheet = sheet_of(
+        f64_from_bits_with_nan(rate),
+        f64_from_bits_with_nan(length),
+        f64_from_bits_with_nan(bending),
+        by_tension,
+        f64_from_bits_with_nan(speed),
+        f64_from_bits_with_nan(density),
+        by_seconds,
+        f64_from_bits_with_nan(loss),
+    );
+    let told = match settings_for(grid, sheet) {
+        Ok(settings) => [settings.q, settings.m, settings.s, 0],
+        Err(refusal) => [0, 0, 0, refusal.number()],
+    };
+    told == [q, m, s, refusal]
 }
 
 // A record is carried out: a buffer filled or compared, or a call made. Whether what it expects is met.
-pub(crate) fn agrees(
-    n: Numbers,
-    record: &[u64; PLACES],
-    older: &mut [i64],
-    newer: &mut [i64],
-    work: &mut [i64],
-    samples: &mut [i16],
-    table: &mut [u32],
-) -> bool {
-    let target = n.target();
-    match target {
-        0 => on_level(n, record, older),
-        1 => on_level(n, record, newer),
-        2 => on_level(n, record, work),
-        3 => on_samples(n, record, samples),
-        4 => on_table(n, record, table),
-        5 => block_agrees(n, older, newer, work, samples),
-        6 => pluck_agrees(n, older, newer),
-        7 => reading_agrees(n, newer),
-        8 => sheet_agrees(n),
-        9 => block_in_place_agrees(n, older, newer, samples),
-        10 => pluck_with_agrees(n, older, newer, table),
-        _ => true,
+pub(crate) fn agrees(record: &Record, buffers: &mut Buffers) -> bool {
+    let numbers = record.numbers;
+    match record.opcode {
+        Opcode::End => true,
+        Opcode::Lend(buffer) => buffers.lend(buffer, record),
+        Opcode::Compare(buffer) => buffers.hold(buffer, record),
+        Opcode::Block => block_agrees(numbers, buffers),
+        Opcode::Pluck => pluck_agrees(numbers, buffers),
+        Opcode::Reading => reading_agrees(numbers, buffers),
+        Opcode::Sheet => sheet_agrees(numbers),
+        Opcode::BlockInPlace => block_in_place_agrees(numbers, buffers),
+        Opcode::PluckWith => pluck_with_agrees(numbers, buffers),
     }
 }

@@ -1,104 +1,108 @@
 // What was compared, and the lines that say so.
-use std::io;
-use std::io::Write;
+use crate::records::Opcode;
+use std::{fmt, io};
 
+// How many records of each kind were carried out, and how many of them were not met.
+#[derive(Clone, Copy, Default)]
+struct Counts {
+    levels: u64,
+    blocks: u64,
+    blocks_in_place: u64,
+    plucks: u64,
+    plucks_with: u64,
+    readings: u64,
+    sheets: u64,
+    differences: u64,
+}
+
+impl fmt::Display for Counts {
+    fn fmt<W: fmt::Write>(&self, f: &mut fmt::Formatter<W>) -> fmt::Result {
+        let Counts {
+            levels,
+            blocks,
+            blocks_in_place,
+            plucks,
+            plucks_with,
+            readings,
+            sheets,
+            differences,
+        } = *self;
+        write!(f, "{blocks} blocks, {blocks_in_place} blocks in place, ")?;
+        write!(f, "{plucks} plucks, {plucks_with} plucks by a lent table, ")?;
+        write!(f, "{readings} readings, {sheets} sheets, ")?;
+        write!(f, "{levels} levels compared, {differences} differences")
+    }
+}
+
+impl Counts {
+    fn count(&mut self, opcode: Opcode) {
+        let count = match opcode {
+            Opcode::Compare(_) => &mut self.levels,
+            Opcode::Block => &mut self.blocks,
+            Opcode::BlockInPlace => &mut self.blocks_in_place,
+            Opcode::Pluck => &mut self.plucks,
+            Opcode::PluckWith => &mut self.plucks_with,
+            Opcode::Reading => &mut self.readings,
+            Opcode::Sheet => &mut self.sheets,
+            Opcode::End | Opcode::Lend(_) => return,
+        };
+        *count = count.wrapping_add(1);
+    }
+}
+
+// The file of that path up to the present line.
 #[derive(Clone, Copy)]
-pub struct Tally {
-    pub records: u64,
-    pub levels: u64,
-    pub blocks: u64,
-    pub blocks_in_place: u64,
-    pub plucks: u64,
-    pub plucks_with: u64,
-    pub readings: u64,
-    pub sheets: u64,
-    pub differences: u64,
+pub(crate) struct Tally<'a> {
+    path: &'a str,
+    line: u64,
+    counts: Counts,
 }
 
-// Bytes as they are: a name of a file need not be text.
-pub(crate) fn say(rt: &impl Print, text: &[u8]) -> io::Result<()> {
-    io::writer(rt).write_all(text)
-}
-
-fn say_count(rt: &impl Print, n: u64, what: &str) -> io::Result<()> {
-    print!(rt; "{n}{what}")
-}
-
-fn one_more(n: u64) -> u64 {
-    n.wrapping_add(1)
-}
-
-impl Tally {
-    pub(crate) fn new() -> Tally {
+impl<'a> Tally<'a> {
+    pub(crate) fn new(path: &'a str) -> Tally<'a> {
         Tally {
-            records: 0,
-            levels: 0,
-            blocks: 0,
-            blocks_in_place: 0,
-            plucks: 0,
-            plucks_with: 0,
-            readings: 0,
-            sheets: 0,
-            differences: 0,
+            path,
+            line: 0,
+            counts: Counts::default(),
         }
     }
 
-    fn counted(mut self, opcode: u64) -> Tally {
-        self.records = one_more(self.records);
-        match opcode {
-            2 => self.levels = one_more(self.levels),
-            3 => self.blocks = one_more(self.blocks),
-            4 => self.plucks = one_more(self.plucks),
-            5 => self.readings = one_more(self.readings),
-            6 => self.sheets = one_more(self.sheets),
-            7 => self.blocks_in_place = one_more(self.blocks_in_place),
-            8 => self.plucks_with = one_more(self.plucks_with),
-            _ => {}
-        }
-        self
-    }
-
-    // A line on the present record, or its start.
-    pub(crate) fn say_of(self, rt: &impl Print, path: &str, what: &str) -> io::Result<()> {
-        print!(rt; "{path}: record ")?;
-        say_count(rt, self.records, what)
+    // One line more, be it a record or not.
+    pub(crate) fn count_line(&mut self) {
+        self.line = self.line.wrapping_add(1);
     }
 
     // At most 20 differences of a file have a line.
-    fn differs(mut self, rt: &impl Print, path: &str, opcode: u64) -> io::Result<Tally> {
-        if self.differences < 20 {
-            self.say_of(rt, path, ": opcode ")?;
-            say_count(rt, opcode, " differs\n")?;
+    fn differs(&mut self, rt: &impl Print, opcode: Opcode) -> io::Result<()> {
+        let Tally { path, line, counts } = *self;
+        if counts.differences < 20 {
+            println!(rt; "{path}: record {line}: opcode {opcode} differs")?;
         }
-        self.differences = one_more(self.differences);
-        Ok(self)
+        self.counts.differences = counts.differences.wrapping_add(1);
+        Ok(())
     }
 
-    // A record, and whether it is met.
+    // A record that was carried out, and whether it is met.
     pub(crate) fn record(
-        self,
+        &mut self,
         rt: &impl Print,
-        path: &str,
-        opcode: u64,
+        opcode: Opcode,
         is_met: bool,
-    ) -> io::Result<Tally> {
-        let tally = self.counted(opcode);
+    ) -> io::Result<()> {
+        self.counts.count(opcode);
         if is_met {
-            Ok(tally)
+            Ok(())
         } else {
-            tally.differs(rt, path, opcode)
+            self.differs(rt, opcode)
         }
     }
 
-    pub(crate) fn counts(self, rt: &impl Print, path: &str) -> io::Result<()> {
-        print!(rt; "{path}: ")?;
-        say_count(rt, self.blocks, " blocks, ")?;
-        say_count(rt, self.blocks_in_place, " blocks in place, ")?;
-        say_count(rt, self.plucks, " plucks, ")?;
-        say_count(rt, self.plucks_with, " plucks by a lent table, ")?;
-        say_count(rt, self.readings, " readings, ")?;
-        say_count(rt, self.sheets, " sheets, ")?;
-        say_count(rt, self.levels, " levels compared, ")?;
-        say_count(rt, self.differences, " differences\n")
+    // The last record must have opcode 0.
+    pub(crate) fn report(self, rt: &impl Print, last: Option<Opcode>) -> io::Result<()> {
+        let Tally { path, line, counts } = self;
+        match last {
+            Some(Opcode::End) => println!(rt; "{path}: {counts}"),
+            _ => println!(rt; "{path}: record {line}: no opcode 0 at the end"),
+        }
     }
 }
