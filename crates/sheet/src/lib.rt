@@ -41,7 +41,7 @@ pub struct Sheet {
 
 // The settings of a sheet for a kind and its grid, or what refuses it.
 // Ruled out: q and m exchanged; a loss outside 0..D accepted.
-#[tactic(auto, using(crate::proofs::CallLaws::number_refused, crate::proofs::CallLaws::coefficient_refused, crate::proofs::CallLaws::unstable_refused, crate::proofs::CallLaws::carried_out))]
+#[tactic(auto, using(crate::proofs::CallLaws::by_checks))]
 pub fn settings_for(grid: Grid, sheet: Sheet) -> Result<Settings, Refusal>
     ensures { result ≡ sheet_call grid sheet }
 {
