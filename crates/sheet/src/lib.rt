@@ -8,7 +8,6 @@ ghost use Rattle.std.specs.Prelude.{◌≡◌};
 ghost use Rattle.sheet.specs.Call.{sheet_call};
 
 use crate::coefficients::Coefficients;
-use crate::numbers::are_allowed;
 use instruments::grid_refusal;
 use sizes::is_stable;
 use types::{Grid, Kind, Refusal, Settings};
@@ -47,7 +46,7 @@ pub fn settings_for(grid: Grid, sheet: Sheet) -> Result<Settings, Refusal>
 {
     grid_refusal(grid, Grid::LAST)?;
     let kind = Kind::from(grid.kind);
-    if !are_allowed(kind, sheet) {
+    if !sheet.is_allowed(kind) {
         return Err(Refusal::SheetNumber);
     }
     let coefficients = Coefficients::of_sheet(grid.columns, sheet);
