@@ -1,28 +1,26 @@
 -- Laws of the call: what refuses it, and the level of one that nothing refuses.
-use mathlib.Core.Path.{◌≡◌, refl, sym, ap, ap₂, ◌∙◌, subst}
+use mathlib.Core.Path.{◌≡◌, refl, sym, ap, ◌∙◌, subst}
 use mir.Syntax.{w64}
 use mir.Val.{to_z, of_z}
 use Rattle.bounded.proofs.Num.{given}
 use Rattle.kinds.specs.declared.runs.Run.{Run}
-use mathlib.Core.Bool.{Bool, true, false, ◌&&◌, ◌||◌, cond}
+use mathlib.Core.Bool.{true, false, ◌||◌}
 use mathlib.Core.List.{List}
 use Prim.Native.Nat.{ℕ, ◌+◌, ◌-◌, ◌*◌, ◌≤◌, ◌<◌}
 use native.Mathlib.Nat.{mul-one, zero-mul, zero-add}
 use native.Mathlib.Omega.{arith}
 use borrow.Author.Tests.{ltb-true, ltb-false, leb-true, not-false}
-use lib.Dec.{leb}
 use lib.IntN.{ℤ, pos, nat_abs}
 use Rattle.types.specs.declared.Grid.{Grid}
-use Rattle.std.specs.Prelude.{Result, Ok}
+use Rattle.std.specs.Prelude.{Ok}
 use Rattle.types.specs.Numbers.{ceiling, kind_of}
 use Rattle.scheme.specs.Lists.{tabulate}
 use Rattle.scheme.specs.Instruments.{points, moving}
-use Rattle.scheme.specs.Pluck.{distance_from, pluck_value, pluck_at, pluck_level}
+use Rattle.scheme.specs.Pluck.{pluck_at, pluck_level}
 use Rattle.scheme.specs.Refusals.{last_plucked, wrong_length, lowest, table_checks, pluck_checks, pluck_refusal, pluck_with_refusal}
-use Rattle.scheme.specs.Calls.{accepted}
 use Rattle.scheme.specs.Passing.{PluckPasses}
 use Rattle.scheme.proofs.Laws.Bools.{and_both}
-use Rattle.scheme.proofs.Laws.Kinds.{within_is, sized}
+use Rattle.scheme.proofs.Laws.Kinds.{within_is}
 use Rattle.scheme.proofs.Laws.Lists.{length-tabulate, get_d_tabulate, is_tabulate}
 use Rattle.scheme.proofs.Laws.Refusals.{pluck_passes}
 use Rattle.kinds.specs.Runs.{in_run, is_round, straight_run, run_of}
