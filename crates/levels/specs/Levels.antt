@@ -1,10 +1,11 @@
 -- Signs by bits, and points of a level that are not 0. Vocabulary between the engine's crates: no call that a maker embeds cites it.
-use Rattle.std.specs.Prelude.{ℕ, ◌+◌, ◌-◌, ◌*◌, ◌^◌, Bool, false, ◌&&◌, ◌||◌, List, length, ℤ, ◌==◌, nat_le, nat_lt}
-use Rattle.std.specs.Prelude.{unsigned_abs}
+use Rattle.std.specs.Prelude.{ℕ, ◌+◌, ◌*◌, ◌^◌, Bool, false, ◌&&◌, ◌||◌, List, length, ℤ, ◌==◌, nat_le, nat_lt}
+use Rattle.std.specs.Prelude.{unsigned_abs, take, drop, slice_range}
 use Rattle.types.specs.declared.Grid.{Grid}
 use Rattle.scheme.specs.Lists.{point, some_below}
 use Rattle.types.specs.declared.Kind.{Kind}
-use Rattle.types.specs.declared.Kind.TheVariants.{Unknown, StringFixed, StringFixedFree, StringFree, Bar, MembraneRectangular, MembraneRound, Plate}
+use Rattle.types.specs.declared.Kind.TheVariants.{Unknown, StringFixed, StringFixedFree, StringFree, Bar, MembraneRectangular}
+use Rattle.types.specs.declared.Kind.TheVariants.{MembraneRound, Plate}
 use Rattle.scheme.specs.Instruments.{points, in_table, round_edge, fixed}
 use Rattle.scheme.specs.Refusals.{fixed_not_zero}
 use Rattle.kinds.specs.declared.runs.Run.{Run}
@@ -17,21 +18,25 @@ signed n = nat_le (2 ^ 63) n
 abbrev pub not_zero : List ℤ → ℕ → Bool
 not_zero xs k = nat_lt 0 (unsigned_abs (point xs k))
 
--- some of the n points from a on is not 0
-unfoldable pub some_not_zero : List ℤ → ℕ → ℕ → Bool
-some_not_zero xs a n = some_below n (λ k. not_zero xs (a + k))
+-- some point is not 0
+unfoldable pub some_not_zero : List ℤ → Bool
+some_not_zero xs = some_below (length xs) (not_zero xs)
 
--- some point of the row of c columns that begins at a is not 0, before its run or after it
-abbrev pub row_not_zero : List ℤ → ℕ → ℕ → Run → Bool
-row_not_zero xs a c r = some_not_zero xs a r.from || some_not_zero xs (a + r.to) (c - r.to)
+-- some point of a row is not 0, before its run or after it
+abbrev pub row_not_zero : List ℤ → Run → Bool
+row_not_zero ys r = some_not_zero (take r.from ys) || some_not_zero (drop r.to ys)
 
--- some fixed point of row b of a round membrane of c columns is not 0, where the row begins at s
-abbrev pub round_not_zero : List ℤ → ℕ → ℕ → ℕ → Bool
-round_not_zero xs s c b = some_below c (λ a. round_edge c a b && not_zero xs (s + a))
+-- some fixed point of row b of a round membrane is not 0
+abbrev pub round_not_zero : List ℤ → ℕ → Bool
+round_not_zero ys b = some_below (length ys) (λ a. round_edge (length ys) a b && not_zero ys a)
 
 -- some fixed point of row b is not 0
 abbrev pub row_unfixed : Grid → List ℤ → ℕ → Bool
-row_unfixed g xs b = some_below g.columns (λ a. fixed g (b * g.columns + a) && not_zero xs (b * g.columns + a))
+row_unfixed g ys b = some_below g.columns (λ a. fixed g (b * g.columns + a) && not_zero ys a)
+
+-- row b of a level of c columns
+abbrev pub row_of : ℕ → List ℤ → ℕ → List ℤ
+row_of c xs b = slice_range xs (b * c) (b * c + c)
 
 -- some fixed point of a line is not 0: "string, both ends fixed", "point 0 fixed, last free", "both ends free", "both ends supported"
 abbrev pub ends_not_zero : Kind → List ℤ → ℕ → Bool

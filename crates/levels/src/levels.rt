@@ -22,8 +22,8 @@ const SIGN: u64 = 1 << 63;
 
 // A number with the sign bit where v lies beyond the ceiling: that of v + ceiling or of ceiling − v. It takes no branch.
 #[tactic(auto, using(crate::proofs::SignLaws::excess_is))]
-fn excess(v: i64) -> u64
-    ensures { signed result ≡ beyond v }
+fn excess(v: &i64) -> u64
+    ensures { signed result ≡ beyond v.now }
 {
     let bits = v.cast_unsigned();
     let ceiling = Settings::CEILING as u64;
@@ -31,13 +31,13 @@ fn excess(v: i64) -> u64
 }
 
 // All points are looked at, so that the loop has no branch. Ruled out: point 0 left out; every other point left out.
-#[tactic(auto, using(crate::proofs::SignLaws::signs), unfolding(scheme::specs::Lists::some_below, scheme::specs::Step::some_beyond))]
+#[tactic(auto, unfolding(scheme::specs::Lists::some_below, scheme::specs::Step::some_beyond))]
 pub fn some_beyond(xs: &[i64]) -> bool
     ensures { result ≡ some_beyond xs.now }
 {
     let mut signs = 0;
     for v in xs {
-        signs |= excess(*v);
+        signs |= excess(v);
     }
     SIGN <= signs
 }
@@ -48,47 +48,45 @@ fn is_not_zero(v: &i64) -> bool
     *v != 0
 }
 
-// Whether some of the n points from start on is not 0.
-fn some_not_zero(xs: &[i64], start: usize, n: usize) -> bool
-    requires { start + n ≤ length xs.now }
-    ensures { result ≡ some_not_zero xs.now start n }
+fn some_not_zero(xs: &[i64]) -> bool
+    ensures { result ≡ some_not_zero xs.now }
 {
-    xs[start..start + n].iter().any(is_not_zero)
+    xs.iter().any(is_not_zero)
 }
 
-// Whether some point of the row that begins at start is not 0, before its run or after it.
-fn row_not_zero(xs: &[i64], start: usize, columns: usize, run: Run) -> bool
-    requires { (run.from ≤ run.to) × (run.to ≤ columns) × (start + columns ≤ length xs.now) }
-    ensures { result ≡ row_not_zero xs.now start columns run }
+// Whether some point of a row is not 0, before its run or after it.
+fn row_not_zero(row: &[i64], run: Run) -> bool
+    requires { (run.from ≤ run.to) × (run.to ≤ length row.now) }
+    ensures { result ≡ row_not_zero row.now run }
 {
-    some_not_zero(xs, start, run.from) || some_not_zero(xs, start + run.to, columns - run.to)
+    some_not_zero(&row[..run.from]) || some_not_zero(&row[run.to..])
 }
 
-// Whether some fixed point of row b of a round membrane of c columns is not 0, from both ends of the row to its edge.
-fn round_not_zero(xs: &[i64], start: usize, c: usize, b: usize) -> bool
-    requires { (c ≤ 64) × (b < c) × (start + c ≤ length xs.now) }
-    ensures { result ≡ round_not_zero xs.now start c b }
+// Whether some fixed point of row b of a round membrane is not 0, from both ends of the row to its edge.
+fn round_not_zero(row: &[i64], b: usize) -> bool
+    requires { (length row.now ≤ 64) × (b < length row.now) }
+    ensures { result ≡ round_not_zero row.now b }
 {
+    let c = row.len();
     for a in 0..c {
         if !is_round_fixed(c, a, b) {
             return false;
         }
-        if xs[start + a] | xs[start + (c - 1 - a)] != 0 {
+        if row[a] | row[c - 1 - a] != 0 {
             return true;
         }
     }
     false
 }
 
-// Whether some fixed point of a row is not 0.
-fn is_row_unfixed(g: Grid, xs: &[i64], row: usize) -> bool
-    requires { (in_table g ≡ true) × (row < g.rows) × (length xs.now ≡ points g) }
-    ensures { result ≡ row_unfixed g xs.now row }
+// Whether some fixed point of row b, which is lent, is not 0.
+fn is_row_unfixed(g: Grid, row: &[i64], b: usize) -> bool
+    requires { (in_table g ≡ true) × (b < g.rows) × (length row.now ≡ g.columns) }
+    ensures { result ≡ row_unfixed g row.now b }
 {
-    let start = row * g.columns;
     match Kind::from(g.kind) {
-        Kind::MembraneRound => round_not_zero(xs, start, g.columns, row),
-        _ => row_not_zero(xs, start, g.columns, straight_run(g, row)),
+        Kind::MembraneRound => round_not_zero(row, b),
+        _ => row_not_zero(row, straight_run(g, b)),
     }
 }
 
@@ -98,7 +96,8 @@ fn rows_not_zero(g: Grid, xs: &[i64]) -> bool
     ensures { result ≡ fixed_not_zero g xs.now }
 {
     for row in 0..g.rows {
-        if is_row_unfixed(g, xs, row) {
+        let start = row * g.columns;
+        if is_row_unfixed(g, &xs[start..start + g.columns], row) {
             return true;
         }
     }
