@@ -1,24 +1,39 @@
-// The turns that the slices of a block take: which holds the older level, which the newer one, and which the next level is put into. The
-// turn is a number: 0, 1 or 2 of three levels; 3 or 4 of two, where the next level is put into older itself.
+// The turns that the slices of a block take: which holds the older level, which the newer one, and which the next level is put into.
 #![tactic(auto)]
 
 ghost use Rattle.std.specs.Prelude.{◌≡◌, cond, ltb};
 ghost use Rattle.types.specs.declared.Refusal.TheVariants.{Nothing, NextBeyond};
 ghost use Rattle.scheme.specs.Calls.{hit_after};
-ghost use Rattle.turns.specs.Turns.{next_turn};
 
 use types::{Hit, Refusal};
 
-// The turn after a step. Ruled out: two levels that keep their turn; three levels of which one is never written.
-pub fn next_turn(turn: usize) -> usize
-    ensures { result ≡ next_turn turn }
-{
-    match turn {
-        0 => 1,
-        1 => 2,
-        2 => 0,
-        3 => 4,
-        _ => 3,
+// The slices older, newer and work of three levels hold the older, the newer and the next level first, after one step the next, the older
+// and the newer one, and last the newer, the next and the older one. Of two levels, where the next one is put into older itself, older and
+// newer hold the older and the newer level, or they are exchanged.
+#[derive(Clone, Copy)]
+pub enum Turn {
+    First,
+    Second,
+    Last,
+    There,
+    Exchanged,
+}
+
+impl Turn {
+    ghost use Rattle.std.specs.Prelude.{◌≡◌};
+    ghost use Rattle.turns.specs.Turns.{next_turn};
+
+    // The turn after a step. Ruled out: two levels that keep their turn; three levels of which one is never written.
+    pub fn next(self) -> Turn
+        ensures { result ≡ next_turn self }
+    {
+        match self {
+            Turn::First => Turn::Second,
+            Turn::Second => Turn::Last,
+            Turn::Last => Turn::First,
+            Turn::There => Turn::Exchanged,
+            Turn::Exchanged => Turn::There,
+        }
     }
 }
 
