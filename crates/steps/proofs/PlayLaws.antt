@@ -25,6 +25,7 @@ use Rattle.scheme.proofs.Laws.Calls.{play-ends, play_goes, next_passes, capped-l
 use Rattle.plans.specs.declared.Plan.{Plan}
 use Rattle.steps.specs.declared.play.Steps.{Steps}
 use Rattle.steps.specs.declared.progress.Progress.{Progress}
+use Rattle.turns.specs.declared.Turn.{Turn}
 use Rattle.turns.specs.Turns.{next_turn, older_of, newer_of, out_of}
 use Rattle.steps.specs.Steps.{Room, Steppable, Stepped, SteppedIn, Played}
 use Rattle.turns.proofs.TurnLaws.{turned_older, turned_newer, turned_room}
@@ -141,7 +142,7 @@ module _ {i : Instrument} {pick n j held : ℕ} {hit : Hit} {whole : AfterSteps}
   samples_long = ap length g.samples_are ∙ length-append g.vs g.places ∙ omega (arith, g.count, g.long)
 
   -- no further step
-  ended_by : (turn : ℕ) (r : Refusal) (places : List ℤ) → samples ≡ g.vs ++ places
+  ended_by : (turn : Turn) (r : Refusal) (places : List ℤ) → samples ≡ g.vs ++ places
       → whole ≡ after g.vs g.inexact (ended r older newer places)
       → r ≡ cond (ltb j n) NextBeyond Nothing
       → Played whole n (record { done = j; inexact = held; turn = turn }) older newer samples
@@ -207,7 +208,7 @@ module _ {i : Instrument} {pick n j held : ℕ} {hit : Hit} {whole : AfterSteps}
         }
 
     -- the next step would pass the ceiling
-    pub playing_ends : (turn : ℕ) → not x.within ≡ true
+    pub playing_ends : (turn : Turn) → not x.within ≡ true
         → Played whole n (record { done = j; inexact = held; turn = turn }) older newer samples
     playing_ends turn d = go g.places g.samples_are g.long g.whole_is
       where
@@ -222,7 +223,7 @@ module _ {i : Instrument} {pick n j held : ℕ} {hit : Hit} {whole : AfterSteps}
             (sym (ap (λ (t : Bool). cond t NextBeyond Nothing) (lt-ltb j n h)))
 
   -- every place has its sample
-  pub playing_done : (turn : ℕ) → n ≤ j → Played whole n (record { done = j; inexact = held; turn = turn }) older newer samples
+  pub playing_done : (turn : Turn) → n ≤ j → Played whole n (record { done = j; inexact = held; turn = turn }) older newer samples
   unfolding play
   playing_done turn h = go g.places g.samples_are g.long g.whole_is
     where
@@ -234,21 +235,21 @@ module _ {i : Instrument} {pick n j held : ℕ} {hit : Hit} {whole : AfterSteps}
 
 -- ---- the slices in their turn
 
-module _ {p : ℕ} {i : Instrument} {h : Hit} {a₀ b₀ c₀ a b c : List ℤ} {x : Progress} (s : SteppedIn p i h a₀ b₀ c₀ a b c x) where
+module _ {p : Turn} {i : Instrument} {h : Hit} {a₀ b₀ c₀ a b c : List ℤ} {x : Progress} (s : SteppedIn p i h a₀ b₀ c₀ a b c x) where
   -- after a step
-  pub playing_turned : {p' pick n j held : ℕ} {hit : Hit} {whole : AfterSteps} {samples : List ℤ} → p' ≡ next_turn p
+  pub playing_turned : {p' : Turn} {pick n j held : ℕ} {hit : Hit} {whole : AfterSteps} {samples : List ℤ} → p' ≡ next_turn p
       → Playing i pick hit whole n (newer_of p a₀ b₀ c₀) (out_of p a b c) samples j held
       → Playing i pick hit whole n (older_of p' a b c) (newer_of p' a b c) samples j held
   playing_turned {p'} {pick} {n} {j} {held} {hit} {whole} {samples} e g =
-      let older : older_of p' a b c ≡ newer_of p a₀ b₀ c₀ = ap (λ (p : ℕ). older_of p a b c) e ∙ turned_older p a b c ∙ s.newer_kept in
-      let newer : newer_of p' a b c ≡ out_of p a b c = ap (λ (p : ℕ). newer_of p a b c) e ∙ turned_newer p a b c in
+      let older : older_of p' a b c ≡ newer_of p a₀ b₀ c₀ = ap (λ (p : Turn). older_of p a b c) e ∙ turned_older p a b c ∙ s.newer_kept in
+      let newer : newer_of p' a b c ≡ out_of p a b c = ap (λ (p : Turn). newer_of p a b c) e ∙ turned_newer p a b c in
       coe 1 0 (k. Playing i pick hit whole n (older k) (newer k) samples j held) g
 
   -- there is room for the next one
-  pub room_turned : {p' : ℕ} → p' ≡ next_turn p → LevelPasses i.grid (older_of p a₀ b₀ c₀) → LevelPasses i.grid (newer_of p a₀ b₀ c₀)
+  pub room_turned : {p' : Turn} → p' ≡ next_turn p → LevelPasses i.grid (older_of p a₀ b₀ c₀) → LevelPasses i.grid (newer_of p a₀ b₀ c₀)
       → Room i.grid (out_of p' a b c)
   room_turned e older newer =
-      subst (λ (q : ℕ). Room i.grid (out_of q a b c)) (sym e)
+      subst (λ (q : Turn). Room i.grid (out_of q a b c)) (sym e)
       (turned_room (Room i.grid) p a b c
       (λ l. subst (Room i.grid) (sym (s.older_kept (inl l))) (room_of i.grid _ older))
       (subst (Room i.grid) (sym s.newer_kept) (room_of i.grid _ newer)))

@@ -14,7 +14,8 @@ use Rattle.stretches.specs.Pieces.{piece}
 use Rattle.turns.proofs.TurnLaws.{AtTurn}
 use Rattle.plans.specs.declared.Plan.{Plan}
 use Rattle.steps.specs.declared.progress.Progress.{Progress}
-use Rattle.turns.specs.Turns.{older_of, newer_of, out_of}
+use Rattle.turns.specs.declared.Turn.{Turn}
+use Rattle.turns.specs.Turns.{of_two, older_of, newer_of, out_of}
 use Rattle.steps.specs.Steps.{Steppable, Stepped, SteppedInPlace, SteppedIn}
 use Rattle.steps.specs.Pass.{Passable, Passed}
 
@@ -80,7 +81,7 @@ module _ {i : Instrument} {h : Hit} {older₀ newer room₀ older₁ room₁ : L
 
 -- ---- what a step is given and leaves, by the slices that hold its levels
 
-module _ {p : ℕ} {a₀ b₀ c₀ older newer out₀ : List ℤ} (r₀ : AtTurn p a₀ b₀ c₀ older newer out₀) where
+module _ {p : Turn} {a₀ b₀ c₀ older newer out₀ : List ℤ} (r₀ : AtTurn p a₀ b₀ c₀ older newer out₀) where
   pub given_in : {q : Plan} {h : Hit} → Steppable q h (older_of p a₀ b₀ c₀) (newer_of p a₀ b₀ c₀) (out_of p a₀ b₀ c₀)
       → Steppable q h older newer out₀
   given_in {q} {h} s = coe 0 1 (j. Steppable q h (r₀.older_is j) (r₀.newer_is j) (r₀.out_is j)) s
@@ -102,12 +103,12 @@ module _ {p : ℕ} {a₀ b₀ c₀ older newer out₀ : List ℤ} (r₀ : AtTurn
   }
 
   -- in place
-  pub in_place_in : {i : Instrument} {h : Hit} {a b c out : List ℤ} {x : Progress} → 3 ≤ p → AtTurn p a b c out newer out
+  pub in_place_in : {i : Instrument} {h : Hit} {a b c out : List ℤ} {x : Progress} → of_two p ≡ true → AtTurn p a b c out newer out
       → SteppedInPlace i h older newer out x
       → SteppedIn p i h a₀ b₀ c₀ a b c x
   in_place_in {i} {h} {x = x} l r s = record {
     stepped = coe 1 0 (j. Stepped i h true (r₀.older_is j) (r₀.newer_is j) (r.out_is j) x) s.stepped;
-    older_kept = ⊎_elim (λ u. absurd (omega arith)) (λ e. r.older_is ∙ s.kept e ∙ sym r₀.older_is);
+    older_kept = ⊎_elim (λ u. absurd (true≢false (sym l ∙ u))) (λ e. r.older_is ∙ s.kept e ∙ sym r₀.older_is);
     newer_kept = r.newer_is ∙ sym r₀.newer_is;
   }
 

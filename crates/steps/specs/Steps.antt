@@ -12,7 +12,8 @@ use Rattle.scheme.specs.Calls.{AfterSteps, capped}
 use Rattle.scheme.specs.Claims.{LevelPasses}
 use Rattle.plans.specs.declared.Plan.{Plan}
 use Rattle.stretches.specs.Pieces.{piece}
-use Rattle.turns.specs.Turns.{older_of, newer_of, out_of}
+use Rattle.turns.specs.declared.Turn.{Turn}
+use Rattle.turns.specs.Turns.{of_two, older_of, newer_of, out_of}
 use Rattle.steps.specs.declared.play.Steps.{Steps}
 use Rattle.steps.specs.declared.progress.Progress.{Progress}
 use Rattle.steps.specs.Plan.{Planned}
@@ -44,18 +45,18 @@ pub record SteppedInPlace (i : Instrument) (h : Hit) (older₀ newer older : Lis
   pub kept : r.within ≡ false → older ≡ older₀
 
 -- of two levels the third slice has room for a piece of a row
-abbrev pub Third : ℕ → (c : List ℤ) → Type 0
-Third turn c = 3 ≤ turn → piece ≤ length c
+abbrev pub Third : Turn → (c : List ℤ) → Type 0
+Third turn c = of_two turn ≡ true → piece ≤ length c
 
 -- what the steps of a block begin with
-pub record Begins (turn : ℕ) (p : Plan) (h : Hit) (a b c : List ℤ) : Type 0 where
+pub record Begins (turn : Turn) (p : Plan) (h : Hit) (a b c : List ℤ) : Type 0 where
   pub given : Steppable p h (older_of turn a b c) (newer_of turn a b c) (out_of turn a b c)
   pub third : Third turn c
 
 -- what a step leaves in the slices: the next level in its place, newer as it was, and older too where it is not overwritten
-pub record SteppedIn (turn : ℕ) (i : Instrument) (h : Hit) (a₀ b₀ c₀ a b c : List ℤ) (r : Progress) : Type 0 where
+pub record SteppedIn (turn : Turn) (i : Instrument) (h : Hit) (a₀ b₀ c₀ a b c : List ℤ) (r : Progress) : Type 0 where
   pub stepped : Stepped i h true (older_of turn a₀ b₀ c₀) (newer_of turn a₀ b₀ c₀) (out_of turn a b c) r
-  pub older_kept : (turn < 3) ⊎ (r.within ≡ false) → older_of turn a b c ≡ older_of turn a₀ b₀ c₀
+  pub older_kept : (of_two turn ≡ false) ⊎ (r.within ≡ false) → older_of turn a b c ≡ older_of turn a₀ b₀ c₀
   pub newer_kept : newer_of turn a b c ≡ newer_of turn a₀ b₀ c₀
 
 -- what the steps of a block leave, with n places for samples: p is what the definition says

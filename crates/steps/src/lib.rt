@@ -13,4 +13,4 @@ mod progress;
 mod step;
 mod within;
 
-pub use call::{InPlace, InTurn, steps_in_place, steps_in_turn};
+pub use call::{InTurn, steps_in_place, steps_in_turn};

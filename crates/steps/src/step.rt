@@ -1,6 +1,5 @@
 // Slices in turn: older, newer, and the one that the next level is put into. After a step newer is older, the next level is newer.
-// The turn tells which is which: 0, 1 or 2 of three levels; 3 or 4 of two, where the next level is put into older itself and the third
-// slice has room for a piece of a row.
+// Of two levels the third slice has room for a piece of a row.
 ghost use Rattle.std.specs.Prelude.{◌≡◌, ◌≤◌, ◌<◌, length};
 ghost use Rattle.types.specs.Numbers.{ceiling};
 ghost use Rattle.scheme.specs.Lists.{point};
@@ -17,6 +16,7 @@ use crate::progress::Progress;
 use plans::Plan;
 use slices::copy;
 use stretches::PIECE;
+use turns::Turn;
 use types::Hit;
 
 // A step of two levels that have no more points than a piece: the next level is worked out beside them, then copied to older.
@@ -72,7 +72,7 @@ pub(crate) fn step_in_turn(
     newer: &mut [i64],
     work: &mut [i64],
     hit: Hit,
-    turn: usize,
+    turn: Turn,
 ) -> Progress
     requires steppable { Steppable plan hit (older_of turn older.old newer.old work.old) (newer_of turn older.old newer.old work.old)
         (out_of turn older.old newer.old work.old) }
@@ -81,11 +81,11 @@ pub(crate) fn step_in_turn(
         older.new newer.new work.new result }
 {
     match turn {
-        0 => next_level(plan, edges, older, newer, work, hit, true, false),
-        1 => next_level(plan, edges, newer, work, older, hit, true, false),
-        2 => next_level(plan, edges, work, older, newer, hit, true, false),
-        3 => step_in_place(plan, edges, older, newer, work, hit),
-        _ => step_in_place(plan, edges, newer, older, work, hit),
+        Turn::First => next_level(plan, edges, older, newer, work, hit, true, false),
+        Turn::Second => next_level(plan, edges, newer, work, older, hit, true, false),
+        Turn::Last => next_level(plan, edges, work, older, newer, hit, true, false),
+        Turn::There => step_in_place(plan, edges, older, newer, work, hit),
+        Turn::Exchanged => step_in_place(plan, edges, newer, older, work, hit),
     }
 }
 
@@ -95,17 +95,16 @@ pub(crate) fn sample_in_turn(
     newer: &[i64],
     work: &[i64],
     pick: usize,
-    turn: usize,
+    turn: Turn,
 ) -> i16
     requires { (pick < length (out_of turn older.now newer.now work.now))
         × AtMost ceiling (point (out_of turn older.now newer.now work.now)) }
     ensures { result ≡ sample_of (point (out_of turn older.now newer.now work.now) pick) }
 {
-    match turn {
-        0 => sample(work[pick]),
-        1 => sample(older[pick]),
-        2 => sample(newer[pick]),
-        3 => sample(older[pick]),
-        _ => sample(newer[pick]),
-    }
+    let next = match turn {
+        Turn::First => work,
+        Turn::Second | Turn::There => older,
+        Turn::Last | Turn::Exchanged => newer,
+    };
+    sample(next[pick])
 }
