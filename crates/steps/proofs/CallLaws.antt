@@ -63,7 +63,7 @@ module _ (i : Instrument) (older newer : List ℤ) (pick : ℕ) (h : Hit) (e : b
   }
 
   -- work was cleared
-  pub first_steppable : Planned p → {first : ℕ} (work cleared : List ℤ) → cleared ≡ replicate (length work) (pos 0)
+  pub first_steppable : Planned p → {first : Turn} (work cleared : List ℤ) → cleared ≡ replicate (length work) (pos 0)
       → Opens i.grid work first → Begins first p h older newer cleared
   first_steppable q work cleared z (three l) = record {
     given = steppable q cleared (subst (Room p.instrument.grid) (sym z) (record {

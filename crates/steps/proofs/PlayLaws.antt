@@ -223,15 +223,18 @@ module _ {i : Instrument} {pick n j held : ℕ} {hit : Hit} {whole : AfterSteps}
             (sym (ap (λ (t : Bool). cond t NextBeyond Nothing) (lt-ltb j n h)))
 
   -- every place has its sample
-  pub playing_done : (turn : Turn) → n ≤ j → Played whole n (record { done = j; inexact = held; turn = turn }) older newer samples
+  pub playing_done : (turn : Turn) (done : ℕ) → j ≡ done → n ≤ j
+      → Played whole n (record { done = done; inexact = held; turn = turn }) older newer samples
   unfolding play
-  playing_done turn h = go g.places g.samples_are g.long g.whole_is
+  playing_done turn done e h = go g.places g.samples_are g.long g.whole_is
     where
       go : (places : List ℤ) → samples ≡ g.vs ++ places → j + length places ≡ n → whole
           ≡ after g.vs g.inexact (play i pick (hit_after hit j) older newer places)
-          → Played whole n (record { done = j; inexact = held; turn = turn }) older newer samples
+          → Played whole n (record { done = done; inexact = held; turn = turn }) older newer samples
       go (y ∷ xs) a l w = absurd (omega (arith, l, h))
-      go [] a l w = ended_by turn Nothing [] a w (sym (ap (λ (t : Bool). cond t NextBeyond Nothing) (le-ltb j n h)))
+      go [] a l w =
+          let p = ended_by turn Nothing [] a w (sym (ap (λ (t : Bool). cond t NextBeyond Nothing) (le-ltb j n h))) in
+          subst (λ (m : ℕ). Played whole n (record { done = m; inexact = held; turn = turn }) older newer samples) e p
 
 -- ---- the slices in their turn
 
