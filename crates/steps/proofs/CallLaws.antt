@@ -125,19 +125,21 @@ module _ (i : Instrument) (older newer work samples : List ℤ) (pick : ℕ) (h 
         let b = sym (block-done i older newer work samples pick h e) in
         let passes = block_passes i older newer (wrong_length i.grid (length work)) pick h e in
         let long = work_right i older newer work pick h e in
-        let steps = s.done_is ∙ ap (λ (b : AfterBlock). b.answer.steps) b in
-        (ap accepted e, record {
-          stands = record {
-            answer_is = answered i older newer samples pick h s d ∙ ap (λ (b : AfterBlock). b.answer) b;
-            older_is = s.older_is ∙ ap (λ (b : AfterBlock). b.older) b;
-            newer_is = s.newer_is ∙ ap (λ (b : AfterBlock). b.newer) b;
-            samples_are = s.samples_are ∙ ap (λ (b : AfterBlock). b.samples) b;
-            newer_long = newer_kept ∙ passes.newer_passes.long ∙ sym passes.older_passes.long ∙ sym older_kept;
-          };
-          turn_is = turn ∙ turn_three r.done ∙ ap (λ (n : ℕ). turn_of_three (n % 3)) steps;
-          work_long = work-kept ∙ long ∙ sym passes.older_passes.long ∙ sym older_kept;
-          zeros_are = sym (ap (λ (b : AfterBlock). b.work) b) ∙ ap (λ (n : ℕ). replicate n (pos 0)) (sym (work-kept ∙ long));
-        })
+        let steps = s.done_is ∙ ap (λ (b : AfterBlock). b.answer.steps) b in (
+          ap accepted e,
+          record {
+            stands = record {
+              answer_is = answered i older newer samples pick h s d ∙ ap (λ (b : AfterBlock). b.answer) b;
+              older_is = s.older_is ∙ ap (λ (b : AfterBlock). b.older) b;
+              newer_is = s.newer_is ∙ ap (λ (b : AfterBlock). b.newer) b;
+              samples_are = s.samples_are ∙ ap (λ (b : AfterBlock). b.samples) b;
+              newer_long = newer_kept ∙ passes.newer_passes.long ∙ sym passes.older_passes.long ∙ sym older_kept;
+            };
+            turn_is = turn ∙ turn_three r.done ∙ ap (λ (n : ℕ). turn_of_three (n % 3)) steps;
+            work_long = work-kept ∙ long ∙ sym passes.older_passes.long ∙ sym older_kept;
+            zeros_are = sym (ap (λ (b : AfterBlock). b.work) b) ∙ ap (λ (n : ℕ). replicate n (pos 0)) (sym (work-kept ∙ long));
+          },
+        )
 
   -- either, by what refuses it
   pub left_in_turn : {r : Refusal} {t : Result InTurn Refusal} {older₁ newer₁ work₁ samples₁ : List ℤ} → r ≡ refuses
@@ -170,14 +172,17 @@ module _ (i : Instrument) (older newer samples : List ℤ) (pick : ℕ) (h : Hit
         let b = sym (in_place_done i older newer samples pick h e) in
         let passes = block_passes i older newer false pick h e in
         let two = ap of_two turn ∙ two_after There r.done in
-        let steps = s.done_is ∙ ap (λ (b : AfterInPlace). b.answer.steps) b in
-        (ap accepted e, record {
-          answer_is = answered i older newer samples pick h s d ∙ ap (λ (b : AfterInPlace). b.answer) b;
-          older_is = two_older r.turn older₁ newer₁ [] third₁ two ∙ s.older_is ∙ ap (λ (b : AfterInPlace). b.older) b;
-          newer_is = two_newer r.turn older₁ newer₁ [] third₁ two ∙ s.newer_is ∙ ap (λ (b : AfterInPlace). b.newer) b;
-          samples_are = s.samples_are ∙ ap (λ (b : AfterInPlace). b.samples) b;
-          newer_long = newer_kept ∙ passes.newer_passes.long ∙ sym passes.older_passes.long ∙ sym older_kept;
-        }, turn ∙ turn_two r.done ∙ ap (λ (n : ℕ). turn_of_two (n % 2)) steps)
+        let steps = s.done_is ∙ ap (λ (b : AfterInPlace). b.answer.steps) b in (
+          ap accepted e,
+          record {
+            answer_is = answered i older newer samples pick h s d ∙ ap (λ (b : AfterInPlace). b.answer) b;
+            older_is = two_older r.turn older₁ newer₁ [] third₁ two ∙ s.older_is ∙ ap (λ (b : AfterInPlace). b.older) b;
+            newer_is = two_newer r.turn older₁ newer₁ [] third₁ two ∙ s.newer_is ∙ ap (λ (b : AfterInPlace). b.newer) b;
+            samples_are = s.samples_are ∙ ap (λ (b : AfterInPlace). b.samples) b;
+            newer_long = newer_kept ∙ passes.newer_passes.long ∙ sym passes.older_passes.long ∙ sym older_kept;
+          },
+          turn ∙ turn_two r.done ∙ ap (λ (n : ℕ). turn_of_two (n % 2)) steps,
+        )
 
   -- either, by what refuses it
   pub left_in_place : {t : Result InTurn Refusal} {third older₁ newer₁ third₁ samples₁ : List ℤ}

@@ -101,7 +101,17 @@ pub fn steps_in_turn(
         result older.new newer.new work.new samples.new }
 {
     let wrong = work.len() != older.len();
-    steps_from(i, older, newer, work, samples, pick, hit, wrong, Turn::First)
+    steps_from(
+        i,
+        older,
+        newer,
+        work,
+        samples,
+        pick,
+        hit,
+        wrong,
+        Turn::First,
+    )
 }
 
 // The same on two levels: no third one is lent.
@@ -119,5 +129,15 @@ pub fn steps_in_place(
         result older.new newer.new samples.new }
 {
     let mut piece = [0i64; PIECE];
-    steps_from(i, older, newer, &mut piece, samples, pick, hit, false, Turn::There)
+    steps_from(
+        i,
+        older,
+        newer,
+        &mut piece,
+        samples,
+        pick,
+        hit,
+        false,
+        Turn::There,
+    )
 }

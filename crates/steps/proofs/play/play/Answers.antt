@@ -27,7 +27,7 @@ pub step_in_turn-p-requires-clause-edges_of : goal.step_in_turn-p-requires-claus
 step_in_turn-p-requires-clause-edges_of c = (
   c.requires.edges_of,
   λ two. let was = sym (two_after c.args.first c.loop-j.j) ∙ sym (ap of_two c.loop-j.invariant.turn_is) ∙ two in
-  omega (arith, c.requires.begins.0.third was),
+      omega (arith, c.requires.begins.0.third was),
 )
 
 pub returns-then-not-p : goal.returns-then-not-p
