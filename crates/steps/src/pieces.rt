@@ -12,13 +12,7 @@ pub(crate) fn put_piece(xs: &[i64], s: Stretch, ys: &mut [i64], in_place: bool)
         s.from s.to
         × ((in_place && s.write) ≡ false → ys.new ≡ ys.old) }
 {
-    let wanted = in_place & s.write;
-    if !wanted {
-        return;
-    }
-    let mut at = s.from;
-    while at < s.to {
-        ys[at] = xs[at - s.base];
-        at += 1;
+    if in_place && s.write {
+        ys[s.from..s.to].copy_from_slice(&xs[s.from - s.base..s.to - s.base]);
     }
 }

@@ -54,15 +54,14 @@ pub(crate) fn play(
     let mut j = 0;
     while j < samples.len() {
         let h = hit_after(hit, j);
-        let p = step_in_turn(plan, edges, older, newer, work, h, turn);
-        if !p.within {
+        let Some(n) = step_in_turn(plan, edges, older, newer, work, h, turn) else {
             return Steps {
                 done: j,
                 inexact,
                 turn,
             };
-        }
-        inexact = capped_sum(inexact, p.inexact);
+        };
+        inexact = capped_sum(inexact, n);
         let v = sample_in_turn(older, newer, work, pick, turn);
         put_sample(samples, j, v);
         turn = next_turn(turn);

@@ -13,7 +13,6 @@ ghost use Rattle.steps.specs.Steps.{Steppable, SteppedInPlace, SteppedIn, Third}
 
 use crate::arithmetic::sample;
 use crate::level::next_level;
-use crate::progress::Progress;
 use plans::Plan;
 use slices::copy;
 use stretches::PIECE;
@@ -27,17 +26,15 @@ fn small_step(
     newer: &[i64],
     room: &mut [i64],
     hit: Hit,
-) -> Progress
+) -> Option<u64>
     requires steppable { Steppable plan hit older.old newer.now older.old × (length room.old ≡ length older.old) }
     requires edges_of { EdgesOf plan.instrument.grid edges.now }
     ensures { SteppedInPlace plan.instrument hit older.old newer.now older.new result }
 {
     copy(older, room);
-    let p = next_level(plan, edges, older, newer, room, hit, true, false);
-    if p.within {
-        copy(room, older);
-    }
-    p
+    let inexact = next_level(plan, edges, older, newer, room, hit, true, false)?;
+    copy(room, older);
+    Some(inexact)
 }
 
 // A step of two levels: no point of older is written unless every next value lies within the ceiling.
@@ -48,7 +45,7 @@ fn step_in_place(
     newer: &[i64],
     room: &mut [i64],
     hit: Hit,
-) -> Progress
+) -> Option<u64>
     requires steppable { Steppable plan hit older.old newer.now older.old × (piece ≤ length room.old) }
     requires edges_of { EdgesOf plan.instrument.grid edges.now }
     ensures { SteppedInPlace plan.instrument hit older.old newer.now older.new result }
@@ -57,10 +54,7 @@ fn step_in_place(
     if n <= PIECE {
         return small_step(plan, edges, older, newer, &mut room[..n], hit);
     }
-    let tested = next_level(plan, edges, older, newer, room, hit, false, true);
-    if !tested.within {
-        return tested;
-    }
+    next_level(plan, edges, older, newer, room, hit, false, true)?;
     next_level(plan, edges, older, newer, room, hit, true, true)
 }
 
@@ -73,7 +67,7 @@ pub(crate) fn step_in_turn(
     work: &mut [i64],
     hit: Hit,
     turn: usize,
-) -> Progress
+) -> Option<u64>
     requires steppable { Steppable plan hit (older_of turn older.old newer.old work.old) (newer_of turn older.old newer.old work.old)
         (out_of turn older.old newer.old work.old) }
     requires edges_of { EdgesOf plan.instrument.grid edges.now × Third turn work.old }
