@@ -165,33 +165,31 @@ fn plate_row(
 }
 
 // The moving points of the row that begins at point `start`: all but its ends.
-fn moving_in(start: usize, columns: usize, write: bool, in_place: bool) -> Stretch
+fn moving_in<const WRITE: bool, const IN_PLACE: bool>(start: usize, columns: usize) -> Stretch
     requires { (3 ≤ columns) × (start + columns ≤ 4096) }
-    ensures { result ≡ moving_in start columns write in_place }
+    ensures { result ≡ moving_in start columns WRITE IN_PLACE }
 {
     let from = start + 1;
-    let base = if in_place { from } else { 0 };
+    let base = if IN_PLACE { from } else { 0 };
     Stretch {
         from,
         to: start + (columns - 1),
         force: 0,
         base,
-        write,
+        write: WRITE,
     }
 }
 
 // Every moving point of a plate. After a row the two places of the sums are exchanged.
-pub(crate) fn plate_level(
+pub(crate) fn plate_level<const WRITE: bool, const IN_PLACE: bool>(
     plan: Plan,
     older: &mut [i64],
     newer: &[i64],
     out: &mut [i64],
     hit: Hit,
-    write: bool,
-    in_place: bool,
 ) -> Option<u64>
-    requires { Passable plan hit in_place older.old newer.now out.old × (kind plan.instrument.grid ≡ plate) }
-    ensures { Passed plan.instrument hit write in_place older.old newer.now out.old
+    requires { Passable plan hit IN_PLACE older.old newer.now out.old × (kind plan.instrument.grid ≡ plate) }
+    ensures { Passed plan.instrument hit WRITE IN_PLACE older.old newer.now out.old
         older.new out.new result }
 {
     let columns = plan.instrument.grid.columns;
@@ -209,9 +207,9 @@ pub(crate) fn plate_level(
             other,
             last: row + 1 == ring,
         };
-        let moving = moving_in(start, columns, write, in_place);
+        let moving = moving_in::<WRITE, IN_PLACE>(start, columns);
         let n = plate_row(plan, older, newer, rows, moving, hit, &mut sums, out)?;
-        put_piece(out, moving, older, in_place);
+        put_piece::<IN_PLACE>(out, moving, older);
         inexact += n;
         (here, other) = (other, here);
         start += columns;

@@ -32,7 +32,7 @@ fn small_step(
     ensures { SteppedInPlace plan.instrument hit older.old newer.now older.new result }
 {
     copy(older, room);
-    let inexact = next_level(plan, edges, older, newer, room, hit, true, false)?;
+    let inexact = next_level::<true, false>(plan, edges, older, newer, room, hit)?;
     copy(room, older);
     Some(inexact)
 }
@@ -54,8 +54,8 @@ fn step_in_place(
     if n <= PIECE {
         return small_step(plan, edges, older, newer, &mut room[..n], hit);
     }
-    next_level(plan, edges, older, newer, room, hit, false, true)?;
-    next_level(plan, edges, older, newer, room, hit, true, true)
+    next_level::<false, true>(plan, edges, older, newer, room, hit)?;
+    next_level::<true, true>(plan, edges, older, newer, room, hit)
 }
 
 // A step in the turn that the slices are in.
@@ -75,9 +75,9 @@ pub(crate) fn step_in_turn(
         older.new newer.new work.new result }
 {
     match turn {
-        0 => next_level(plan, edges, older, newer, work, hit, true, false),
-        1 => next_level(plan, edges, newer, work, older, hit, true, false),
-        2 => next_level(plan, edges, work, older, newer, hit, true, false),
+        0 => next_level::<true, false>(plan, edges, older, newer, work, hit),
+        1 => next_level::<true, false>(plan, edges, newer, work, older, hit),
+        2 => next_level::<true, false>(plan, edges, work, older, newer, hit),
         3 => step_in_place(plan, edges, older, newer, work, hit),
         _ => step_in_place(plan, edges, newer, older, work, hit),
     }

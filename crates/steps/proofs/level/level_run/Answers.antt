@@ -1,4 +1,6 @@
 -- The rows passed have their next values.
+use mathlib.Core.Bool.{not}
+use lib.Dec.{eqb}
 use Rattle.std.proofs.Common.{arith, refl, ◌≡◌, sym, ◌+◌, ◌*◌, ◌≤◌, ◌<◌, ℕ, Bool, List, ℤ, get_or, Some, None}
 use mathlib.Core.Path.{subst₂}
 use Rattle.types.specs.declared.Hit.{Hit}
@@ -26,29 +28,29 @@ row-inside {p} xs row a e inv below =
     omega (arith, e.to_is row below, (run_here a inv below here refl).inside, row_room a inv below here refl)
 
 pub offset_bounds-edges-row : goal.offset_bounds-edges-row
-offset_bounds-edges-row c = record { fits = omega (arith, few_rows c.requires.passable.given.planned) }
+offset_bounds-edges-row g c = record { fits = omega (arith, few_rows c.requires.passable.given.planned) }
 
 pub bounds-edges-row : goal.bounds-edges-row
-bounds-edges-row c = omega (arith, few_rows c.requires.passable.given.planned)
+bounds-edges-row g c = omega (arith, few_rows c.requires.passable.given.planned)
 
 pub overflow_add-to : goal.overflow_add-to
-overflow_add-to c = record { fits = omega (arith, few_rows c.requires.passable.given.planned) }
+overflow_add-to g c = record { fits = omega (arith, few_rows c.requires.passable.given.planned) }
 
 pub offset_bounds-edges-row-in-loop-row : goal.offset_bounds-edges-row-in-loop-row
-offset_bounds-edges-row-in-loop-row c = record { fits = omega (arith, few_rows c.requires.passable.given.planned) }
+offset_bounds-edges-row-in-loop-row g c = record { fits = omega (arith, few_rows c.requires.passable.given.planned) }
 
 pub bounds-edges-row-in-loop-row : goal.bounds-edges-row-in-loop-row
-bounds-edges-row-in-loop-row c = omega (arith, few_rows c.requires.passable.given.planned)
+bounds-edges-row-in-loop-row g c = omega (arith, few_rows c.requires.passable.given.planned)
 
 pub row_pass-requires-clause-ready : goal.row_pass-requires-clause-ready
-row_pass-requires-clause-ready c =
+row_pass-requires-clause-ready g c =
     let p = c.requires.passable in
     let done = c.loop-row.invariant.done in
     let inside = row-inside c.args.edges.now c.loop-row.row p c.requires.edges_of.0 c.loop-row.invariant c.loop-row-test.true in
     (passing_ready (steppable_ready p.given) done, room_within p.room inside done.out_long)
 
 pub row_pass-requires-clause-moves : goal.row_pass-requires-clause-moves
-row_pass-requires-clause-moves c =
+row_pass-requires-clause-moves g c =
     let p = c.requires.passable in
     let e = c.requires.edges_of.0 in
     let k = c.loop-row.row in
@@ -60,39 +62,39 @@ row_pass-requires-clause-moves c =
     )
 
 pub returns-in_err-inexact : goal.returns-in_err-inexact
-returns-in_err-inexact c =
+returns-in_err-inexact g c =
     let p = c.requires.passable in
     let e = c.requires.edges_of.0 in
     let below = c.loop-row-test.true in
     let here = run_of c.args.plan.instrument.grid c.loop-row.row in
-    let left = subst₂ (λ (from to : ℕ). Passing c.args.plan.instrument c.args.hit c.args.write c.args.in_place c.loop-row.older
+    let left = subst₂ (λ (from to : ℕ). Passing c.args.plan.instrument c.args.hit (not (eqb g.row.WRITE 0)) (not (eqb g.row.IN_PLACE 0)) c.loop-row.older
     c.args.newer.now c.loop-row.out c.row_pass.new.older c.row_pass.new.out from to (None))
     (e.from_is c.loop-row.row below) (e.to_is c.loop-row.row below) c.in_err-inexact.ensures in
     rw c.from_residual.ensures (stepped-not p (rows_stop p c.loop-row.invariant below here refl left refl) refl)
 
 pub overflow_add-inexact : goal.overflow_add-inexact
-overflow_add-inexact c =
+overflow_add-inexact g c =
     let p = c.requires.passable in
     let e = c.requires.edges_of.0 in
     let below = c.loop-row-test.true in
     let here = run_of c.args.plan.instrument.grid c.loop-row.row in
-    let left = subst₂ (λ (from to : ℕ). Passing c.args.plan.instrument c.args.hit c.args.write c.args.in_place c.loop-row.older
+    let left = subst₂ (λ (from to : ℕ). Passing c.args.plan.instrument c.args.hit (not (eqb g.row.WRITE 0)) (not (eqb g.row.IN_PLACE 0)) c.loop-row.older
     c.args.newer.now c.loop-row.out c.row_pass.new.older c.row_pass.new.out from to (Some c.in_ok-inexact.field-0))
     (e.from_is c.loop-row.row below) (e.to_is c.loop-row.row below) c.in_ok-inexact.ensures in
     let most = rows_most p c.loop-row.invariant below here refl left refl in
     record { fits = omega (arith, most, few_points p.given.planned) }
 
 pub loop-row-preserved : goal.loop-row-preserved
-loop-row-preserved c =
+loop-row-preserved g c =
     let p = c.requires.passable in
     let e = c.requires.edges_of.0 in
     let below = c.loop-row-test.true in
     let here = run_of c.args.plan.instrument.grid c.loop-row.row in
-    let left = subst₂ (λ (from to : ℕ). Passing c.args.plan.instrument c.args.hit c.args.write c.args.in_place c.loop-row.older
+    let left = subst₂ (λ (from to : ℕ). Passing c.args.plan.instrument c.args.hit (not (eqb g.row.WRITE 0)) (not (eqb g.row.IN_PLACE 0)) c.loop-row.older
     c.args.newer.now c.loop-row.out c.row_pass.new.older c.row_pass.new.out from to (Some c.in_ok-inexact.field-0))
     (e.from_is c.loop-row.row below) (e.to_is c.loop-row.row below) c.in_ok-inexact.ensures in
     rows_at (next_row c.loop-row.row c.args.plan.instrument.grid.columns)
     (rows_more p c.loop-row.invariant below here refl left refl)
 
 pub returns : goal.returns
-returns c = let p = c.requires.passable in stepped-all p (rows_done p c.loop-row.invariant c.loop-row-test.false)
+returns g c = let p = c.requires.passable in stepped-all p (rows_done p c.loop-row.invariant c.loop-row-test.false)

@@ -1,4 +1,7 @@
 -- The pieces passed have their values.
+use mathlib.Core.Bool.{not}
+use borrow.Author.Tests.{eq-eqb}
+use lib.Dec.{eqb}
 use Rattle.std.proofs.Common.{arith, refl, ◌≡◌, sym, ap, ◌∙◌, ◌+◌, ◌≤◌, ◌<◌, ℕ, Bool, List, ℤ, pos, length, Some}
 use mathlib.Core.Path.{subst}
 use Rattle.types.specs.declared.Hit.{Hit}
@@ -49,38 +52,38 @@ piece_of {p} {write = write} {inPlace} {out = out} {at = at} {to} {x = x} r move
     }
 
 pub returns-then-plan-eq0 : goal.returns-then-plan-eq0
-returns-then-plan-eq0 c =
+returns-then-plan-eq0 g c =
     let a = c.args in
-    tested_passing a.plan.instrument a.hit a.in_place c.is_row_within.result c.requires.moves.0.order c.if-not-write.true
+    tested_passing a.plan.instrument a.hit (not (eqb g.row.IN_PLACE 0)) c.is_row_within.result c.requires.moves.0.order (ap not (eq-eqb g.row.WRITE 0 c.if-not-this.true))
     c.is_row_within.ensures c.then_some.ensures
 
 pub row_stretches-requires-clause-ready : goal.row_stretches-requires-clause-ready
-row_stretches-requires-clause-ready c =
+row_stretches-requires-clause-ready g c =
     let i = c.loop-at.invariant in
     let b = piece_of c.requires.ready c.requires.moves.0 i.0 i.1 c.loop-at-test.true c.piece_at-piece.ensures in
     (b.ready, b.placed)
 
 pub returns-in_err-n : goal.returns-in_err-n
-returns-in_err-n c =
+returns-in_err-n g c =
     let a = c.args in
     let i = c.loop-at.invariant in
     let b = piece_of c.requires.ready c.requires.moves.0 i.0 i.1 c.loop-at-test.true c.piece_at-piece.ensures in
     rw c.from_residual.ensures
     (passing_stops i.1 b.moves.order i.0
-    (stretch_stops a.plan.instrument a.hit a.write a.in_place b.is c.in_err-n.ensures refl) b.ends.upto refl)
+    (stretch_stops a.plan.instrument a.hit (not (eqb g.row.WRITE 0)) (not (eqb g.row.IN_PLACE 0)) b.is c.in_err-n.ensures refl) b.ends.upto refl)
 
 pub overflow_add-inexact : goal.overflow_add-inexact
-overflow_add-inexact c =
+overflow_add-inexact g c =
     let a = c.args in
     let i = c.loop-at.invariant in
     let b = piece_of c.requires.ready c.requires.moves.0 i.0 i.1 c.loop-at-test.true c.piece_at-piece.ensures in
     let q = passing_append i.1 b.moves.order i.0
-    (stretch_passing a.plan.instrument a.hit a.write a.in_place b.is c.in_ok-n.ensures refl c.put_piece.ensures.0 c.put_piece.ensures.1)
+    (stretch_passing a.plan.instrument a.hit (not (eqb g.row.WRITE 0)) (not (eqb g.row.IN_PLACE 0)) b.is c.in_ok-n.ensures refl c.put_piece.ensures.0 c.put_piece.ensures.1)
     refl in
     record { fits = omega (arith, passing_most q, b.inside, few_points b.ready.planned) }
 
 pub put_piece-requires : goal.put_piece-requires
-put_piece-requires c =
+put_piece-requires g c =
     let i = c.loop-at.invariant in
     let b = piece_of c.requires.ready c.requires.moves.0 i.0 i.1 c.loop-at-test.true c.piece_at-piece.ensures in (
       record { order = b.placed.order; above = b.placed.above; room = omega (arith, b.placed.room, c.row_stretches.ensures.long) },
@@ -88,12 +91,12 @@ put_piece-requires c =
     )
 
 pub loop-at-preserved : goal.loop-at-preserved
-loop-at-preserved c =
+loop-at-preserved g c =
     let a = c.args in
     let i = c.loop-at.invariant in
     let b = piece_of c.requires.ready c.requires.moves.0 i.0 i.1 c.loop-at-test.true c.piece_at-piece.ensures in (
       passing_append i.1 b.moves.order i.0
-          (stretch_passing a.plan.instrument a.hit a.write a.in_place b.is c.in_ok-n.ensures refl
+          (stretch_passing a.plan.instrument a.hit (not (eqb g.row.WRITE 0)) (not (eqb g.row.IN_PLACE 0)) b.is c.in_ok-n.ensures refl
           c.put_piece.ensures.0 c.put_piece.ensures.1) refl,
       omega (arith, i.1, b.ends.some),
       b.ends.upto,
