@@ -1,4 +1,5 @@
 -- The next values of moving points, by the force that a hit has on them.
+use Rattle.std.proofs.Common.{Option}
 use mathlib.Core.Path.{◌≡◌, refl, sym, ap, ◌∙◌, subst}
 use mathlib.Core.Bool.{Bool, true, false, not, ◌&&◌, true≢false}
 use mathlib.Core.List.{List}
@@ -21,12 +22,11 @@ use Rattle.scheme.specs.Refusals.{too_strong}
 use Rattle.scheme.proofs.Laws.Bools.{and_yes}
 use Rattle.scheme.proofs.Laws.Step.{moving_inside, next-moving}
 use Rattle.plans.specs.declared.Plan.{Plan}
-use Rattle.steps.specs.declared.progress.Progress.{Progress}
 use Rattle.stretches.specs.declared.Stretch.{Stretch}
 use Rattle.stretches.specs.Stretches.{stretch_at, hit_in}
 use Rattle.stretches.proofs.StretchLaws.{Ends, ends, force_away}
 use Rattle.steps.specs.Plan.{Ready}
-use Rattle.steps.specs.Run.{next_by, next_of, Ran, Advanced, Placed, Moves}
+use Rattle.steps.specs.Run.{next_by, next_of, Ran, Advanced, Placed, Moves, all_within, inexact_of}
 use Rattle.steps.proofs.FillLaws.{Running, running_on, running_most, running_stops, ran_same}
 
 -- a force within the ceiling
@@ -75,7 +75,7 @@ next-value i h older newer f k m e =
 
 -- where the hit is not, there is no force
 pub no_force : (i : Instrument) (h : Hit) (older newer : List ℤ) (f : ℤ) {write : Bool} {base : ℕ} {out out' : List ℤ} {from to : ℕ}
-    {r : Progress}
+    {r : Option ℕ}
     → Moves i.grid from to → hit_in h from to ≡ false → f ≡ pos 0 → Ran (next_by i f older newer) write base out out' from to r
     → Ran (next_of i h older newer) write base out out' from to r
 unfolding hit_in
@@ -100,6 +100,12 @@ pub record Struck (p : Plan) (h : Hit) (older newer : List ℤ) (row : Stretch) 
   pub inv : Running (next_of p.instrument h older newer) row.write row.base out₀ row.from row.to out at n
   pub more : at < row.to
   pub is : s ≡ stretch_at row h at
+
+pub struck_here : (p : Plan) (row : Stretch) {h : Hit} {older newer out₀ out : List ℤ} {at n : ℕ} {s : Stretch}
+    → Moves p.instrument.grid row.from row.to
+    → Running (next_of p.instrument h older newer) row.write row.base out₀ row.from row.to out at n → at < row.to
+    → s ≡ stretch_at row h at → Struck p h older newer row out₀ out at n s
+struck_here p row moves inv more is = record { moves = moves; inv = inv; more = more; is = is }
 
 module _ {p : Plan} {h : Hit} {older newer : List ℤ} {row : Stretch} {out₀ out : List ℤ} {at n : ℕ} {s : Stretch}
     (t : Struck p h older newer row out₀ out at n s) where
@@ -133,7 +139,7 @@ module _ {p : Plan} {h : Hit} {older newer : List ℤ} {row : Stretch} {out₀ o
   struck_some = omega (arith, struck-ends.some, struck-from)
 
   -- its points as far as `end`: all of them, or the first
-  module _ {end : ℕ} (some : at < end) (upto : end ≤ s.to) {out' : List ℤ} {r : Progress}
+  module _ {end : ℕ} (some : at < end) (upto : end ≤ s.to) {out' : List ℤ} {r : Option ℕ}
       (q : Advanced p s older newer out out' at end r) where
     -- what is made of the points with that force is the scheme's
     as_next : Ran (next_of p.instrument h older newer) row.write row.base out out' at end r
@@ -143,13 +149,13 @@ module _ {p : Plan} {h : Hit} {older newer : List ℤ} {row : Stretch} {out₀ o
         (struck-ends.one_force k a (omega arith) ∙ sym force_is))
         (subst (λ (x : Stretch). Ran (next_by p.instrument s.force older newer) x.write x.base out out' at end r) t.is q)
 
-    pub struck_on : r.within ≡ true
-        → Running (next_of p.instrument h older newer) row.write row.base out₀ row.from row.to out' end (n + r.inexact)
+    pub struck_on : all_within r ≡ true
+        → Running (next_of p.instrument h older newer) row.write row.base out₀ row.from row.to out' end (n + inexact_of r)
     struck_on e = running_on t.inv (omega arith) as_next e (omega (arith, struck-ends.upto))
 
-    pub struck_most : r.within ≡ true → n + r.inexact ≤ end
+    pub struck_most : all_within r ≡ true → n + inexact_of r ≤ end
     struck_most e = running_most t.inv (omega arith) as_next e
 
-    pub struck_stops : r.within ≡ false
+    pub struck_stops : all_within r ≡ false
         → Ran (next_of p.instrument h older newer) row.write row.base out₀ out' row.from row.to r
     struck_stops e = running_stops t.inv (omega arith) as_next (omega (arith, struck-ends.upto)) e

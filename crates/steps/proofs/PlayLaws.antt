@@ -1,4 +1,5 @@
 -- The steps of a block one after the other: how they begin, go on and end.
+use Rattle.std.proofs.Common.{Option}
 use mathlib.Core.Path.{◌≡◌, refl, sym, ap, ◌∙◌, subst}
 use mathlib.Core.Bool.{Bool, true, false, cond, not}
 use mathlib.Core.List.{List, [], ◌∷◌, ◌++◌, append_assoc}
@@ -24,9 +25,9 @@ use Rattle.scheme.proofs.Laws.Refusals.{passes_still}
 use Rattle.scheme.proofs.Laws.Calls.{play-ends, play_goes, next_passes, capped-low, capped-add}
 use Rattle.plans.specs.declared.Plan.{Plan}
 use Rattle.steps.specs.declared.play.Steps.{Steps}
-use Rattle.steps.specs.declared.progress.Progress.{Progress}
 use Rattle.turns.specs.declared.Turn.{Turn}
 use Rattle.turns.specs.Turns.{next_turn, older_of, newer_of, out_of}
+use Rattle.steps.specs.Run.{all_within, inexact_of}
 use Rattle.steps.specs.Steps.{Room, Steppable, Stepped, SteppedIn, Played}
 use Rattle.turns.proofs.TurnLaws.{turned_older, turned_newer, turned_room}
 
@@ -158,24 +159,24 @@ module _ {i : Instrument} {pick n j held : ℕ} {hit : Hit} {whole : AfterSteps}
         samples_are = a ∙ sym (ap (λ (p : AfterSteps). p.samples) w);
       }
 
-  module _ (h : j < n) {out' : List ℤ} {x : Progress} {hit' : Hit} (same : hit' ≡ hit_after hit j)
+  module _ (h : j < n) {out' : List ℤ} {x : Option ℕ} {hit' : Hit} (same : hit' ≡ hit_after hit j)
       (s : Stepped i hit' true older newer out' x) where
     t : Stepped i (hit_after hit j) true older newer out' x
     t = subst (λ (h : Hit). Stepped i h true older newer out' x) same s
 
     -- the next level passes
-    module _ (d : not x.within ≡ false) where
+    module _ (d : not (all_within x) ≡ false) where
       low : some_beyond next ≡ false
-      low = not-true (some_beyond next) (sym t.within_is ∙ not-false x.within d)
+      low = not-true (some_beyond next) (sym t.within_is ∙ not-false (all_within x) d)
 
       next_is : out' ≡ next
-      next_is = t.next_is refl (not-false x.within d)
+      next_is = t.next_is refl (not-false (all_within x) d)
 
       pub stepped_passes : LevelPasses i.grid out'
       stepped_passes = subst (LevelPasses i.grid) (sym next_is) (next_passes i (hit_after hit j) older newer low)
 
     -- one more step, with its sample
-    pub playing_on : not x.within ≡ false → (v : ℤ) → v ≡ sample_of (point out' pick) → (c : ℕ) → c ≡ capped (held + x.inexact)
+    pub playing_on : not (all_within x) ≡ false → (v : ℤ) → v ≡ sample_of (point out' pick) → (c : ℕ) → c ≡ capped (held + inexact_of x)
         → Playing i pick hit whole n newer out' (set samples j v) (j + 1) c
     playing_on d v e c f = go g.places g.samples_are g.long g.whole_is
       where
@@ -191,24 +192,24 @@ module _ {i : Instrument} {pick n j held : ℕ} {hit : Hit} {whole : AfterSteps}
         go [] a l w = absurd (omega (arith, l, h))
         go (y ∷ xs) a l w = record {
           vs = g.vs ++ (v ∷ []);
-          inexact = g.inexact + x.inexact;
+          inexact = g.inexact + inexact_of x;
           places = xs;
           count = length-append g.vs (v ∷ []) ∙ ap (λ (k : ℕ). k + 1) g.count;
-          held_is = f ∙ ap (λ (m : ℕ). capped (m + x.inexact)) g.held_is ∙ capped-add g.inexact x.inexact;
+          held_is = f ∙ ap (λ (m : ℕ). capped (m + inexact_of x)) g.held_is ∙ capped-add g.inexact (inexact_of x);
           samples_are = ap (λ (ys : List ℤ). set ys j v) a ∙ set_next g.vs y v xs j g.count;
           long = omega (arith, l);
           whole_is = w ∙ ap (after g.vs g.inexact) (play_goes i pick (hit_after hit j) older newer y xs (low d))
               ∙ after_more g.vs g.inexact (sample_of (point next pick)) (inexact_in i (hit_after hit j) older newer)
               (play i pick Absent newer next xs)
-              ∙ (λ k. after (g.vs ++ (sampled k ∷ [])) (g.inexact + sym (t.inexact_is refl (not-false x.within d)) k)
+              ∙ (λ k. after (g.vs ++ (sampled k ∷ [])) (g.inexact + sym (t.inexact_is refl (not-false (all_within x) d)) k)
               (play i pick Absent newer (sym (next_is d) k) xs))
-              ∙ ap (λ (k : ℕ). after (g.vs ++ (v ∷ [])) (g.inexact + x.inexact) (play i pick (hit_after hit k) newer out' xs)) step;
+              ∙ ap (λ (k : ℕ). after (g.vs ++ (v ∷ [])) (g.inexact + inexact_of x) (play i pick (hit_after hit k) newer out' xs)) step;
           older_passes = g.newer_passes;
           newer_passes = stepped_passes d;
         }
 
     -- the next step would pass the ceiling
-    pub playing_ends : (turn : Turn) → not x.within ≡ true
+    pub playing_ends : (turn : Turn) → not (all_within x) ≡ true
         → Played whole n (record { done = j; inexact = held; turn = turn }) older newer samples
     playing_ends turn d = go g.places g.samples_are g.long g.whole_is
       where
@@ -217,7 +218,7 @@ module _ {i : Instrument} {pick n j held : ℕ} {hit : Hit} {whole : AfterSteps}
             → Played whole n (record { done = j; inexact = held; turn = turn }) older newer samples
         go [] a l w = absurd (omega (arith, l, h))
         go (y ∷ xs) a l w =
-            let beyond-next : some_beyond next ≡ true = not-false (some_beyond next) (sym t.within_is ∙ not-true x.within d) in
+            let beyond-next : some_beyond next ≡ true = not-false (some_beyond next) (sym t.within_is ∙ not-true (all_within x) d) in
             ended_by turn NextBeyond (y ∷ xs) a
             (w ∙ ap (after g.vs g.inexact) (play-ends i pick (hit_after hit j) older newer y xs beyond-next))
             (sym (ap (λ (t : Bool). cond t NextBeyond Nothing) (lt-ltb j n h)))
@@ -238,7 +239,7 @@ module _ {i : Instrument} {pick n j held : ℕ} {hit : Hit} {whole : AfterSteps}
 
 -- ---- the slices in their turn
 
-module _ {p : Turn} {i : Instrument} {h : Hit} {a₀ b₀ c₀ a b c : List ℤ} {x : Progress} (s : SteppedIn p i h a₀ b₀ c₀ a b c x) where
+module _ {p : Turn} {i : Instrument} {h : Hit} {a₀ b₀ c₀ a b c : List ℤ} {x : Option ℕ} (s : SteppedIn p i h a₀ b₀ c₀ a b c x) where
   -- after a step
   pub playing_turned : {p' : Turn} {pick n j held : ℕ} {hit : Hit} {whole : AfterSteps} {samples : List ℤ} → p' ≡ next_turn p
       → Playing i pick hit whole n (newer_of p a₀ b₀ c₀) (out_of p a b c) samples j held
@@ -258,7 +259,7 @@ module _ {p : Turn} {i : Instrument} {h : Hit} {a₀ b₀ c₀ a b c : List ℤ}
       (subst (Room i.grid) (sym s.newer_kept) (room_of i.grid _ newer)))
 
   -- a step that is not done leaves the two levels
-  pub played-kept : {whole : AfterSteps} {n : ℕ} {r : Steps} {samples : List ℤ} → x.within ≡ false
+  pub played-kept : {whole : AfterSteps} {n : ℕ} {r : Steps} {samples : List ℤ} → all_within x ≡ false
       → Played whole n r (older_of p a₀ b₀ c₀) (newer_of p a₀ b₀ c₀) samples → Played whole n r (older_of p a b c) (newer_of p a b c)
       samples
   played-kept {whole} {n} {r} {samples} e q = coe 1 0 (k. Played whole n r (s.older_kept (inr e) k) (s.newer_kept k) samples) q

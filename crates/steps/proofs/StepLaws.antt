@@ -1,4 +1,5 @@
 -- A step of whole levels, in place or beside them, in any turn.
+use Rattle.std.proofs.Common.{Option}
 use mathlib.Core.Path.{◌≡◌, refl, sym, ap, ◌∙◌, subst}
 use mathlib.Core.Bool.{Bool, true, false, true≢false}
 use mathlib.Core.List.{List}
@@ -13,9 +14,9 @@ use Rattle.scheme.specs.Instruments.{points}
 use Rattle.stretches.specs.Pieces.{piece}
 use Rattle.turns.proofs.TurnLaws.{AtTurn}
 use Rattle.plans.specs.declared.Plan.{Plan}
-use Rattle.steps.specs.declared.progress.Progress.{Progress}
 use Rattle.turns.specs.declared.Turn.{Turn}
 use Rattle.turns.specs.Turns.{of_two, older_of, newer_of, out_of}
+use Rattle.steps.specs.Run.{all_within}
 use Rattle.steps.specs.Steps.{Steppable, Stepped, SteppedInPlace, SteppedIn}
 use Rattle.steps.specs.Pass.{Passable, Passed}
 
@@ -25,10 +26,10 @@ pub in_place_given : {p : Plan} {h : Hit} {older newer room : List ℤ} → Step
     → Passable p h true older newer room
 in_place_given s l = record { given = s; room = record { for_piece = λ e. l; for_all = λ e. absurd (true≢false e) } }
 
-module _ {i : Instrument} {h : Hit} {older₀ newer room₀ older₁ room₁ : List ℤ} {x : Progress}
+module _ {i : Instrument} {h : Hit} {older₀ newer room₀ older₁ room₁ : List ℤ} {x : Option ℕ}
     (p : Passed i h false true older₀ newer room₀ older₁ room₁ x) where
   -- a value lies beyond the ceiling: nothing was written
-  pub tested_not : x.within ≡ false → SteppedInPlace i h older₀ newer older₁ x
+  pub tested_not : all_within x ≡ false → SteppedInPlace i h older₀ newer older₁ x
   tested_not e = record {
     stepped = record {
       within_is = p.stepped.within_is;
@@ -40,7 +41,7 @@ module _ {i : Instrument} {h : Hit} {older₀ newer room₀ older₁ room₁ : L
   }
 
   -- none does: the second pass writes them all
-  pub tested_written : {room₂ older₂ : List ℤ} {y : Progress} → x.within ≡ true → Passed i h true true older₁ newer room₁ older₂ room₂ y
+  pub tested_written : {room₂ older₂ : List ℤ} {y : Option ℕ} → all_within x ≡ true → Passed i h true true older₁ newer room₁ older₂ room₂ y
       → SteppedInPlace i h older₀ newer older₂ y
   tested_written {older₂ = older₂} {y} e q =
       let s : Stepped i h true older₀ newer older₂ y =
@@ -59,10 +60,10 @@ small_given {p} {h} {older} {newer} s e = record {
   room = record { for_piece = λ t. absurd (true≢false (sym t)); for_all = λ t. omega (arith, ap length e, s.older_passes.long) };
 }
 
-module _ {i : Instrument} {h : Hit} {older₀ newer room₀ older₁ room₁ : List ℤ} {x : Progress}
+module _ {i : Instrument} {h : Hit} {older₀ newer room₀ older₁ room₁ : List ℤ} {x : Option ℕ}
     (p : Passed i h true false older₀ newer room₀ older₁ room₁ x) where
   -- a value lies beyond the ceiling: nothing was copied
-  pub small_not : length older₀ ≡ points i.grid → x.within ≡ false → SteppedInPlace i h older₀ newer older₁ x
+  pub small_not : length older₀ ≡ points i.grid → all_within x ≡ false → SteppedInPlace i h older₀ newer older₁ x
   small_not l e = record {
     stepped = record {
       within_is = p.stepped.within_is;
@@ -73,7 +74,7 @@ module _ {i : Instrument} {h : Hit} {older₀ newer room₀ older₁ room₁ : L
     kept = λ t. p.passing.kept refl;
   }
 
-  pub small_copied : {older₂ : List ℤ} → x.within ≡ true → older₂ ≡ room₁ → SteppedInPlace i h older₀ newer older₂ x
+  pub small_copied : {older₂ : List ℤ} → all_within x ≡ true → older₂ ≡ room₁ → SteppedInPlace i h older₀ newer older₂ x
   small_copied {older₂} e f = record {
     stepped = subst (λ (xs : List ℤ). Stepped i h true older₀ newer xs x) (sym f) p.stepped;
     kept = λ t. absurd (true≢false (sym e ∙ t));
@@ -93,7 +94,7 @@ module _ {p : Turn} {a₀ b₀ c₀ older newer out₀ : List ℤ} (r₀ : AtTur
       record { given = t; room = record { for_piece = λ e. absurd (true≢false (sym e)); for_all = λ e. omega (arith, t.room.long) } }
 
   -- the next level beside the two
-  pub stepped_in : {i : Instrument} {h : Hit} {a b c older₁ out : List ℤ} {x : Progress} → AtTurn p a b c older₁ newer out
+  pub stepped_in : {i : Instrument} {h : Hit} {a b c older₁ out : List ℤ} {x : Option ℕ} → AtTurn p a b c older₁ newer out
       → Passed i h true false older newer out₀ older₁ out x
       → SteppedIn p i h a₀ b₀ c₀ a b c x
   stepped_in {i} {h} {x = x} r s = record {
@@ -103,7 +104,7 @@ module _ {p : Turn} {a₀ b₀ c₀ older newer out₀ : List ℤ} (r₀ : AtTur
   }
 
   -- in place
-  pub in_place_in : {i : Instrument} {h : Hit} {a b c out : List ℤ} {x : Progress} → of_two p ≡ true → AtTurn p a b c out newer out
+  pub in_place_in : {i : Instrument} {h : Hit} {a b c out : List ℤ} {x : Option ℕ} → of_two p ≡ true → AtTurn p a b c out newer out
       → SteppedInPlace i h older newer out x
       → SteppedIn p i h a₀ b₀ c₀ a b c x
   in_place_in {i} {h} {x = x} l r s = record {
@@ -118,7 +119,7 @@ module _ {h h' : Hit} (e : h ≡ h') where
       → Passable q h' inPlace older newer out
   given_as {q} {inPlace} {older} {newer} {out} = subst (λ (h : Hit). Passable q h inPlace older newer out) e
 
-  pub stepped_as : {i : Instrument} {write inPlace : Bool} {older₀ newer out₀ older out : List ℤ} {x : Progress}
+  pub stepped_as : {i : Instrument} {write inPlace : Bool} {older₀ newer out₀ older out : List ℤ} {x : Option ℕ}
       → Passed i h' write inPlace older₀ newer out₀ older out x → Passed i h write inPlace older₀ newer out₀ older out x
   stepped_as {i} {write} {inPlace} {older₀} {newer} {out₀} {older} {out} {x} =
       subst (λ (h : Hit). Passed i h write inPlace older₀ newer out₀ older out x) (sym e)

@@ -1,5 +1,5 @@
 -- Whole levels: what a step and the steps of a block leave in the lent slices. Vocabulary of private functions.
-use Rattle.std.specs.Prelude.{◌≡◌, Bool, true, false, cond, not, List, ◌⊎◌, ℕ, ◌≤◌, ◌<◌, ltb, ℤ, pos, length}
+use Rattle.std.specs.Prelude.{◌≡◌, Bool, true, false, cond, not, List, ◌⊎◌, ℕ, ◌≤◌, ◌<◌, ltb, ℤ, pos, length, Option}
 use Rattle.types.specs.declared.Grid.{Grid}
 use Rattle.types.specs.declared.Instrument.{Instrument}
 use Rattle.types.specs.declared.Hit.{Hit}
@@ -15,7 +15,7 @@ use Rattle.stretches.specs.Pieces.{piece}
 use Rattle.turns.specs.declared.Turn.{Turn}
 use Rattle.turns.specs.Turns.{of_two, older_of, newer_of, out_of}
 use Rattle.steps.specs.declared.play.Steps.{Steps}
-use Rattle.steps.specs.declared.progress.Progress.{Progress}
+use Rattle.steps.specs.Run.{all_within, inexact_of}
 use Rattle.steps.specs.Plan.{Planned}
 
 -- room for a level of the grid: 0 where nothing moves
@@ -33,16 +33,16 @@ pub record Steppable (p : Plan) (h : Hit) (older newer out : List ℤ) : Type 0 
   pub hit_low : too_strong h ≡ false
 
 -- what a step leaves: the next level in out, if it is written, and its inexact points counted, where it lies within the ceiling
-pub record Stepped (i : Instrument) (h : Hit) (write : Bool) (older newer out : List ℤ) (r : Progress) : Type 0 where
-  pub within_is : r.within ≡ not (some_beyond (next_level i h older newer))
-  pub next_is : write ≡ true → r.within ≡ true → out ≡ next_level i h older newer
-  pub inexact_is : write ≡ true → r.within ≡ true → r.inexact ≡ inexact_in i h older newer
+pub record Stepped (i : Instrument) (h : Hit) (write : Bool) (older newer out : List ℤ) (r : Option ℕ) : Type 0 where
+  pub within_is : all_within r ≡ not (some_beyond (next_level i h older newer))
+  pub next_is : write ≡ true → all_within r ≡ true → out ≡ next_level i h older newer
+  pub inexact_is : write ≡ true → all_within r ≡ true → inexact_of r ≡ inexact_in i h older newer
   pub long : length out ≡ points i.grid
 
 -- the same in place: the next level in older itself, which is as it was where a point would lie beyond the ceiling
-pub record SteppedInPlace (i : Instrument) (h : Hit) (older₀ newer older : List ℤ) (r : Progress) : Type 0 where
+pub record SteppedInPlace (i : Instrument) (h : Hit) (older₀ newer older : List ℤ) (r : Option ℕ) : Type 0 where
   pub stepped : Stepped i h true older₀ newer older r
-  pub kept : r.within ≡ false → older ≡ older₀
+  pub kept : all_within r ≡ false → older ≡ older₀
 
 -- of two levels the third slice has room for a piece of a row
 abbrev pub Third : Turn → (c : List ℤ) → Type 0
@@ -54,9 +54,9 @@ pub record Begins (turn : Turn) (p : Plan) (h : Hit) (a b c : List ℤ) : Type 0
   pub third : Third turn c
 
 -- what a step leaves in the slices: the next level in its place, newer as it was, and older too where it is not overwritten
-pub record SteppedIn (turn : Turn) (i : Instrument) (h : Hit) (a₀ b₀ c₀ a b c : List ℤ) (r : Progress) : Type 0 where
+pub record SteppedIn (turn : Turn) (i : Instrument) (h : Hit) (a₀ b₀ c₀ a b c : List ℤ) (r : Option ℕ) : Type 0 where
   pub stepped : Stepped i h true (older_of turn a₀ b₀ c₀) (newer_of turn a₀ b₀ c₀) (out_of turn a b c) r
-  pub older_kept : (of_two turn ≡ false) ⊎ (r.within ≡ false) → older_of turn a b c ≡ older_of turn a₀ b₀ c₀
+  pub older_kept : (of_two turn ≡ false) ⊎ (all_within r ≡ false) → older_of turn a b c ≡ older_of turn a₀ b₀ c₀
   pub newer_kept : newer_of turn a b c ≡ newer_of turn a₀ b₀ c₀
 
 -- what the steps of a block leave, with n places for samples: p is what the definition says

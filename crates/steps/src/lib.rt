@@ -9,7 +9,6 @@ mod pieces;
 mod plates;
 mod play;
 mod points;
-mod progress;
 mod step;
 mod within;
 

@@ -45,15 +45,14 @@ pub(crate) fn play(
     let mut turn = first;
     for (j, place) in samples.iter_mut().enumerate() {
         let h = hit_after(hit, j);
-        let p = step_in_turn(plan, edges, older, newer, work, h, turn);
-        if !p.within {
+        let Some(n) = step_in_turn(plan, edges, older, newer, work, h, turn) else {
             return Steps {
                 done: j,
                 inexact,
                 turn,
             };
-        }
-        inexact = capped_sum(inexact, p.inexact);
+        };
+        inexact = capped_sum(inexact, n);
         *place = sample_in_turn(older, newer, work, pick, turn);
         turn = turn.next();
     }

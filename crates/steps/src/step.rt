@@ -12,7 +12,6 @@ ghost use Rattle.steps.specs.Steps.{Steppable, SteppedInPlace, SteppedIn, Third}
 
 use crate::arithmetic::sample;
 use crate::level::next_level;
-use crate::progress::Progress;
 use plans::Plan;
 use slices::copy;
 use stretches::PIECE;
@@ -27,17 +26,15 @@ fn small_step(
     newer: &[i64],
     room: &mut [i64],
     hit: Hit,
-) -> Progress
+) -> Option<u64>
     requires steppable { Steppable plan hit older.old newer.now older.old × (length room.old ≡ length older.old) }
     requires edges_of { EdgesOf plan.instrument.grid edges.now }
     ensures { SteppedInPlace plan.instrument hit older.old newer.now older.new result }
 {
     copy(older, room);
-    let p = next_level(plan, edges, older, newer, room, hit, true, false);
-    if p.within {
-        copy(room, older);
-    }
-    p
+    let inexact = next_level::<true, false>(plan, edges, older, newer, room, hit)?;
+    copy(room, older);
+    Some(inexact)
 }
 
 // A step of two levels: no point of older is written unless every next value lies within the ceiling.
@@ -48,7 +45,7 @@ fn step_in_place(
     newer: &[i64],
     room: &mut [i64],
     hit: Hit,
-) -> Progress
+) -> Option<u64>
     requires steppable { Steppable plan hit older.old newer.now older.old × (piece ≤ length room.old) }
     requires edges_of { EdgesOf plan.instrument.grid edges.now }
     ensures { SteppedInPlace plan.instrument hit older.old newer.now older.new result }
@@ -57,11 +54,8 @@ fn step_in_place(
     if n <= PIECE {
         return small_step(plan, edges, older, newer, &mut room[..n], hit);
     }
-    let tested = next_level(plan, edges, older, newer, room, hit, false, true);
-    if !tested.within {
-        return tested;
-    }
-    next_level(plan, edges, older, newer, room, hit, true, true)
+    next_level::<false, true>(plan, edges, older, newer, room, hit)?;
+    next_level::<true, true>(plan, edges, older, newer, room, hit)
 }
 
 // A step in the turn that the slices are in.
@@ -73,7 +67,7 @@ pub(crate) fn step_in_turn(
     work: &mut [i64],
     hit: Hit,
     turn: Turn,
-) -> Progress
+) -> Option<u64>
     requires steppable { Steppable plan hit (older_of turn older.old newer.old work.old) (newer_of turn older.old newer.old work.old)
         (out_of turn older.old newer.old work.old) }
     requires edges_of { EdgesOf plan.instrument.grid edges.now × Third turn work.old }
@@ -81,9 +75,9 @@ pub(crate) fn step_in_turn(
         older.new newer.new work.new result }
 {
     match turn {
-        Turn::First => next_level(plan, edges, older, newer, work, hit, true, false),
-        Turn::Second => next_level(plan, edges, newer, work, older, hit, true, false),
-        Turn::Last => next_level(plan, edges, work, older, newer, hit, true, false),
+        Turn::First => next_level::<true, false>(plan, edges, older, newer, work, hit),
+        Turn::Second => next_level::<true, false>(plan, edges, newer, work, older, hit),
+        Turn::Last => next_level::<true, false>(plan, edges, work, older, newer, hit),
         Turn::There => step_in_place(plan, edges, older, newer, work, hit),
         Turn::Exchanged => step_in_place(plan, edges, newer, older, work, hit),
     }

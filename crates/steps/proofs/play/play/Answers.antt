@@ -1,6 +1,5 @@
-use Rattle.std.proofs.Common.{◌≡◌, ◌+◌, ◌<◌, ◌≤◌, length, sym, ap, ◌∙◌, subst, arith}
+use Rattle.std.proofs.Common.{◌≡◌, ◌+◌, ◌<◌, ◌≤◌, length, refl, sym, ap, ◌∙◌, subst, arith}
 use Rattle.std.proofs.lemmas.List.{set-get_or}
-use borrow.Author.Tests.{not-true}
 use mir.Syntax.{w16}
 use mir.ValLaws.{to_z-of_z}
 use Rattle.scheme.proofs.Laws.Refusals.{passes_low}
@@ -18,46 +17,46 @@ loop-j-init c = record {
   turn_is = turn_start c.args.first;
 }
 
-pub step_in_turn-p-requires-clause-steppable : goal.step_in_turn-p-requires-clause-steppable
-step_in_turn-p-requires-clause-steppable c =
+pub step_in_turn-requires-clause-steppable : goal.step_in_turn-requires-clause-steppable
+step_in_turn-requires-clause-steppable c =
     let inv = c.loop-j.invariant in playing_steppable c.requires.begins.0.given c.hit_after-h.ensures inv.playing inv.room
 
 -- of two levels the third slice has room for a piece, as it had first
-pub step_in_turn-p-requires-clause-edges_of : goal.step_in_turn-p-requires-clause-edges_of
-step_in_turn-p-requires-clause-edges_of c = (
+pub step_in_turn-requires-clause-edges_of : goal.step_in_turn-requires-clause-edges_of
+step_in_turn-requires-clause-edges_of c = (
   c.requires.edges_of,
   λ two. let was = sym (two_after c.args.first c.loop-j.j) ∙ sym (ap of_two c.loop-j.invariant.turn_is) ∙ two in
       omega (arith, c.requires.begins.0.third was),
 )
 
-pub returns-then-not-p : goal.returns-then-not-p
-returns-then-not-p c =
+pub returns-in_default : goal.returns-in_default
+returns-in_default c =
     let inv = c.loop-j.invariant in
-    let left = c.step_in_turn-p.ensures in
+    let left = c.in_default.ensures in
     let place : c.loop-j.j < length c.args.samples.now = omega arith in (
       subst (Played _ _ _ _ _) (sym (set-get_or _ _ _))
-          (played-kept left (not-true _ c.if-not-p.true)
-          (playing_ends inv.playing place c.hit_after-h.ensures left.stepped _ c.if-not-p.true)),
+          (played-kept left refl
+          (playing_ends inv.playing place c.hit_after-h.ensures left.stepped _ refl)),
       inv.turn_is,
     )
 
 pub sample_in_turn-requires : goal.sample_in_turn-requires
 sample_in_turn-requires c =
     let place : c.loop-j.j < length c.args.samples.now = omega arith in
-    let next = stepped_passes c.loop-j.invariant.playing place c.hit_after-h.ensures c.step_in_turn-p.ensures.stepped c.if-not-p.false in
+    let next = stepped_passes c.loop-j.invariant.playing place c.hit_after-h.ensures c.in-Some.ensures.stepped refl in
     (omega (arith, next.long, c.requires.begins.1), passes_low _ _ next)
 
 pub loop-j-preserved : goal.loop-j-preserved
 loop-j-preserved c =
     let inv = c.loop-j.invariant in
-    let left = c.step_in_turn-p.ensures in
+    let left = c.in-Some.ensures in
     let turned = c.next-turn.ensures in
     let sample = c.sample_in_turn in
     let place : c.loop-j.j < length c.args.samples.now = omega arith in
     let held = to_z-of_z w16 sample.result (record { sfits = sample.type_inv }) in
     record {
       playing = playing_turned left turned
-          (playing_on inv.playing place c.hit_after-h.ensures left.stepped c.if-not-p.false _ (held ∙ sample.ensures) _
+          (playing_on inv.playing place c.hit_after-h.ensures left.stepped refl _ (held ∙ sample.ensures) _
           c.capped_sum-inexact.ensures);
       room = room_turned left turned inv.playing.older_passes inv.playing.newer_passes;
       turn_is = turned ∙ ap next_turn inv.turn_is ∙ turn_next c.args.first c.loop-j.j (c.loop-j.j + 1) (omega arith);
