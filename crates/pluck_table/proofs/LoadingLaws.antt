@@ -8,10 +8,10 @@ use native.Mathlib.Omega.{arith}
 use borrow.Author.Tests.{eq-eqb, eqb-true, le-leb}
 use lib.Dec.{T, leb}
 use lib.ListN.{length, get_or, take}
-use Rattle.pluck_table.specs.declared.LoadedTable.TheVariants.{Sound, Broken}
 use Rattle.pluck_table.specs.Table.{ShapeRule, table}
 use Rattle.pluck_table.specs.Loading.{never_falls, keeps_rule, loaded_table, loaded_number, loaded_last, TablesLoaded}
 use Rattle.pluck_table.proofs.TableLaws.{rises, table_rule}
+use Rattle.std.specs.Prelude.{Some, None, Option}
 
 -- ---- the first entries
 
@@ -61,9 +61,9 @@ keeps t r =
     ap₂ ◌&&◌ (eq-eqb (length t) 1025 r.long) (ap₂ ◌&&◌ ends (not_falling t (λ k h. r.rises k (omega (arith, h, r.long)))))
 
 -- a table that keeps the rule is loaded
-pub loads : (t : List ℕ) → ShapeRule t → loaded_table t ≡ Sound 1024
+pub loads : (t : List ℕ) → ShapeRule t → loaded_table t ≡ Some 1024
 unfolding loaded_table
-loads t r = ap (λ (b : Bool). cond b (Sound 1024) Broken) (keeps t r)
+loads t r = ap (λ (b : Bool). cond b (Some 1024) None) (keeps t r)
 
 split : {a b : Bool} → (a && b) ≡ true → (a ≡ true) × (b ≡ true)
 split {a = true} e = (refl, e)
@@ -88,39 +88,39 @@ pub kept : (t : List ℕ) → loaded_number (loaded_table t) ≡ 0 → ShapeRule
 unfolding loaded_table
 kept t = go (keeps_rule t) refl
   where
-    go : (b : Bool) → keeps_rule t ≡ b → loaded_number (cond b (Sound 1024) Broken) ≡ 0 → ShapeRule t
+    go : (b : Bool) → keeps_rule t ≡ b → loaded_number (cond b (Some 1024) None) ≡ 0 → ShapeRule t
     go true k e = keeps_rule_lem t k
     go false k e = absurd (omega (arith, e))
 
 -- and its last place is 1024
-pub last_is : (t : List ℕ) (last : ℕ) → loaded_table t ≡ Sound last → last ≡ 1024
+pub last_is : (t : List ℕ) (last : ℕ) → loaded_table t ≡ Some last → last ≡ 1024
 last_is t last e = ap loaded_last (sym e ∙ loads t (kept t (ap loaded_number e)))
 
 -- one that does not keep it is broken
-pub unkept : (t : List ℕ) → (ShapeRule t → ⊥) → loaded_table t ≡ Broken
+pub unkept : (t : List ℕ) → (ShapeRule t → ⊥) → loaded_table t ≡ None
 unfolding loaded_table
 unkept t breaks = go (keeps_rule t) refl
   where
-    go : (b : Bool) → keeps_rule t ≡ b → cond b (Sound 1024) Broken ≡ Broken
+    go : (b : Bool) → keeps_rule t ≡ b → cond {A = Option ℕ} b (Some 1024) None ≡ None
     go true k = absurd (breaks (keeps_rule_lem t k))
     go false k = refl
 
 -- by its length, by its first entry, by its last
-pub length_wrong : (t : List ℕ) → (length t ≡ 1025 → ⊥) → loaded_table t ≡ Broken
+pub length_wrong : (t : List ℕ) → (length t ≡ 1025 → ⊥) → loaded_table t ≡ None
 length_wrong t h = unkept t (λ r. h r.long)
 
-pub first_wrong : (t : List ℕ) → (get_or t 0 0 ≡ 0 → ⊥) → loaded_table t ≡ Broken
+pub first_wrong : (t : List ℕ) → (get_or t 0 0 ≡ 0 → ⊥) → loaded_table t ≡ None
 first_wrong t h = unkept t (λ r. h r.begins)
 
-pub last_wrong : (t : List ℕ) → (get_or t 1024 0 ≡ 65536 → ⊥) → loaded_table t ≡ Broken
+pub last_wrong : (t : List ℕ) → (get_or t 1024 0 ≡ 65536 → ⊥) → loaded_table t ≡ None
 last_wrong t h = unkept t (λ r. h r.ends)
 
 -- by what the test of its entries says
-pub falling : (t : List ℕ) → never_falls t ≡ false → loaded_table t ≡ Broken
+pub falling : (t : List ℕ) → never_falls t ≡ false → loaded_table t ≡ None
 falling t f = unkept t (λ r. true≢false (sym (not_falling t (λ k h. r.rises k (omega (arith, h, r.long)))) ∙ f))
 
 pub rising : (t : List ℕ) → length t ≡ 1025 → get_or t 0 0 ≡ 0 → get_or t 1024 0 ≡ 65536 → never_falls t ≡ true
-    → loaded_table t ≡ Sound 1024
+    → loaded_table t ≡ Some 1024
 rising t l b e n =
     loads t (record { long = l; begins = b; ends = e; rises = λ j h. rises t (subst T (sym n) tt) j (omega (arith, h, l)) })
 
@@ -132,7 +132,7 @@ tables_loaded = record {
 }
 
 -- T is one
-pub table_loads : loaded_table table ≡ Sound 1024
+pub table_loads : loaded_table table ≡ Some 1024
 table_loads = loads table table_rule.shape
 
 -- what each test of `load_table` says of the answer

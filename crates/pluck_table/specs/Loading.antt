@@ -1,10 +1,8 @@
 -- Request 7: "A pluck may take a lent table of 1025 numbers in place of T. On loading it must begin at 0, end at 65536 and never fall;
 -- the mirrored sum is not required of it."
-use Rattle.std.specs.Prelude.{◌≡◌, Bool, true, ◌&&◌, cond, List, [], ◌∷◌, ℕ, leb, eqb, length, get_or}
+use Rattle.std.specs.Prelude.{◌≡◌, Option, Some, None, Bool, true, ◌&&◌, cond, List, [], ◌∷◌, ℕ, leb, eqb, length, get_or}
 use Rattle.types.specs.declared.Refusal.TheVariants.{BrokenTable}
 use Rattle.types.specs.Numbers.{number}
-use Rattle.pluck_table.specs.declared.LoadedTable.{LoadedTable}
-use Rattle.pluck_table.specs.declared.LoadedTable.TheVariants.{Sound, Broken}
 use Rattle.pluck_table.specs.Table.{ShapeRule}
 
 -- "never fall": no entry is below the one before it
@@ -18,18 +16,18 @@ unfoldable pub keeps_rule : List ℕ → Bool
 keeps_rule t = eqb (length t) 1025 && (eqb (get_or t 0 0) 0 && eqb (get_or t 1024 0) 65536 && never_falls t)
 
 -- what loading answers: for a table that keeps the rule the place of its last entry
-unfoldable pub loaded_table : List ℕ → LoadedTable
-loaded_table t = cond (keeps_rule t) (Sound 1024) Broken
+unfoldable pub loaded_table : List ℕ → Option ℕ
+loaded_table t = cond (keeps_rule t) (Some 1024) None
 
 -- "Answers: 14, the table breaks a rule or has another length": the paper's number of each answer of loading, 0 for none
-abbrev pub loaded_number : LoadedTable → ℕ
-loaded_number (Sound last) = 0
-loaded_number Broken = number BrokenTable
+abbrev pub loaded_number : Option ℕ → ℕ
+loaded_number (Some last) = 0
+loaded_number None = number BrokenTable
 
 -- and its value: the place of the table's last entry; a broken one has none, here 0
-abbrev pub loaded_last : LoadedTable → ℕ
-loaded_last (Sound last) = last
-loaded_last Broken = 0
+abbrev pub loaded_last : Option ℕ → ℕ
+loaded_last (Some last) = last
+loaded_last None = 0
 
 -- 14 lets a table pass exactly where it keeps the rule of a shape, entry by entry; its last place is then 1024. Proved as `tables_loaded`.
 pub record TablesLoaded : Type 0 where

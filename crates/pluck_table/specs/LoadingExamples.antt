@@ -1,6 +1,5 @@
 -- A table of examples for loading: what it answers, and tables that break the rule in one place. By hand.
-use Rattle.std.specs.Prelude.{◌≡◌, List, [], ◌∷◌, ◌++◌, map, ℕ, zero, suc, ◌+◌}
-use Rattle.pluck_table.specs.declared.LoadedTable.TheVariants.{Sound, Broken}
+use Rattle.std.specs.Prelude.{◌≡◌, Some, None, List, [], ◌∷◌, ◌++◌, map, ℕ, zero, suc, ◌+◌}
 use Rattle.pluck_table.specs.Table.{table}
 use Rattle.pluck_table.specs.Loading.{loaded_table, loaded_number, loaded_last}
 
@@ -30,8 +29,8 @@ numbers ts = map (λ t. loaded_number (loaded_table t)) ts
 pub record LoadingHold : Type 0 where
   -- of each answer the paper's number and its value; T's equal neighbours are fine
   pub answers :
-      (map loaded_number (Sound 1024 ∷ Broken ∷ []) ≡ 0 ∷ 14 ∷ []) × (map loaded_last (Sound 1024 ∷ Broken ∷ []) ≡ 1024 ∷ 0 ∷ [])
-      × (loaded_table table ≡ Sound 1024) × (loaded_table straight ≡ Sound 1024) × (loaded_table [] ≡ Broken)
+      (map loaded_number (Some 1024 ∷ None ∷ []) ≡ 0 ∷ 14 ∷ []) × (map loaded_last (Some 1024 ∷ None ∷ []) ≡ 1024 ∷ 0 ∷ [])
+      × (loaded_table table ≡ Some 1024) × (loaded_table straight ≡ Some 1024) × (loaded_table [] ≡ None)
   -- "or has another length": 3, 1024 and 1026 entries that keep the rule but for the length, and 1025; then none, and straight ones of 1024
   -- and 1026, which end elsewhere too
   pub lengths : numbers (joined 1 [] 1 65536 ∷ joined 1 [] 1022 65536 ∷ joined 1 [] 1024 65536 ∷ joined 1 [] 1023 65536

@@ -5,7 +5,8 @@ use Rattle.integers.specs.Sum.{sum, sum_over}
 use Rattle.pluck_table.specs.Table.{table}
 use Rattle.pluck_table.specs.Loading.{keeps_rule, loaded_table}
 use Rattle.scheme.specs.Lists.{tabulate, some_below, count_below, only}
-use Rattle.scheme.specs.Instruments.{kind_of, size_in, stable_in, round_edge, fixed_in, moving, free_in}
+use Rattle.types.specs.Numbers.{kind_of}
+use Rattle.scheme.specs.Instruments.{size_in, stable_in, round_edge, fixed_in, moving, free_in}
 use Rattle.scheme.specs.Step.{beside, neighbours, laplacian, inner_laplacian, numerator, round_away, next_at, next_level, inexact_at}
 use Rattle.scheme.specs.Step.{inexact_in, some_beyond, sample_of, float_of}
 use Rattle.scheme.specs.Pluck.{pluck_at, pluck_level}
@@ -108,7 +109,7 @@ further_hold = record {
   reading_refusals = refl;
   lowest_first = refl;
   samples = refl;
-  readings = (refl, refl, refl);
+  readings = (refl, refl, refl, refl);
   plucked = refl;
   plucked_down = refl;
   plucked_free = (refl, refl);

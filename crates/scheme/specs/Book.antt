@@ -1,10 +1,9 @@
 -- "Energy and distance": the book of the unrounded scheme, and a list of calls with the book beside it.
-use Rattle.std.specs.Prelude.{Bool, false, ◌&&◌, cond, List, [], ◌∷◌, ℕ, zero, suc, ◌+◌, ◌^◌, eqb, ℤ, pos, ◌*ℤ◌}
+use Rattle.std.specs.Prelude.{Bool, false, ◌&&◌, cond, List, [], ◌∷◌, ℕ, zero, suc, ◌+◌, ◌^◌, eqb, ℤ, pos, ◌*ℤ◌, Option, None, Result}
 use Rattle.types.specs.declared.Settings.{Settings}
 use Rattle.types.specs.declared.Grid.{Grid}
 use Rattle.types.specs.declared.Instrument.{Instrument}
 use Rattle.types.specs.declared.Hit.{Hit}
-use Rattle.types.specs.declared.Hit.TheVariants.{Absent}
 use Rattle.types.specs.declared.BlockAnswer.{BlockAnswer}
 use Rattle.types.specs.declared.Refusal.{Refusal}
 use Rattle.pluck_table.specs.Table.{table}
@@ -37,12 +36,12 @@ scale c n = pos (divisor c ^ n)
 
 -- "every moving point becomes the numerator of "One step" over D+s,
 -- not rounded, with u and p from the book's own levels": held times (D+s)ⁿ⁺¹
-unfoldable pub unrounded_at : Instrument → Hit → Book → ℕ → ℤ
+unfoldable pub unrounded_at : Instrument → Option Hit → Book → ℕ → ℤ
 unrounded_at i h b k = cond (moving i.grid k)
     (numerator i (point b.newer) (point b.older) (λ j. scale i.settings b.n *ℤ force_of h j) k) (pos 0)
 
 -- "Fixed points remain 0, newer becomes older, n grows by 1."
-unfoldable pub unrounded_step : Instrument → Hit → Book → Book
+unfoldable pub unrounded_step : Instrument → Option Hit → Book → Book
 unrounded_step i h b = record {
   n = suc b.n;
   older = times (pos (divisor i.settings)) b.newer;
@@ -51,9 +50,9 @@ unrounded_step i h b = record {
 }
 
 -- "for each step done .. the block's hit in the first of them"
-unfoldable pub unrounded_steps : Instrument → Hit → ℕ → Book → Book
+unfoldable pub unrounded_steps : Instrument → Option Hit → ℕ → Book → Book
 unrounded_steps i h zero b = b
-unrounded_steps i h (suc k) b = unrounded_steps i Absent k (unrounded_step i h b)
+unrounded_steps i h (suc k) b = unrounded_steps i None k (unrounded_step i h b)
 
 -- one kind, grid and settings
 abbrev pub same_instrument : Instrument → Instrument → Bool
@@ -68,7 +67,7 @@ goes_on i (step_of l) = same_instrument i l
 
 -- "A block with no step done, refused or not, changes nothing in the book";
 -- one with steps done "first takes the two levels lent to this block, with n 0"
-unfoldable pub book_block : Instrument → Hit → (older newer : List ℤ) → ℕ → Book → Book
+unfoldable pub book_block : Instrument → Option Hit → (older newer : List ℤ) → ℕ → Book → Book
 book_block i h older newer zero b = b
 book_block i h older newer (suc k) b = unrounded_steps i h (suc k) (cond (goes_on i b.last) b (fresh b.last older newer))
 
@@ -92,8 +91,8 @@ sum_pluck done sum = cond done 0 sum
 -- "Each block or pluck in it gets both levels as the last one left them": its other arguments.
 -- `in_place_call` is "a block that takes only older and newer", `pluck_with_call` a pluck that takes "a lent table".
 pub data Call : Type 0 where
-  block_call : Instrument → (work samples : List ℤ) → ℕ → Hit → Call
-  in_place_call : Instrument → (samples : List ℤ) → ℕ → Hit → Call
+  block_call : Instrument → (work samples : List ℤ) → ℕ → Option Hit → Call
+  in_place_call : Instrument → (samples : List ℤ) → ℕ → Option Hit → Call
   pluck_call : Grid → ℕ → ℕ → ℤ → Call
   pluck_with_call : Grid → ℕ → ℕ → ℤ → (lent : List ℕ) → Call
 
@@ -101,7 +100,7 @@ pub data Call : Type 0 where
 pub data Outcome : Type 0 where
   block_outcome : BlockAnswer → (work samples : List ℤ) → Outcome
   in_place_outcome : BlockAnswer → (samples : List ℤ) → Outcome
-  pluck_outcome : Refusal → Outcome
+  pluck_outcome : Result Unit Refusal → Outcome
 
 abbrev pub steps_of : Outcome → ℕ
 steps_of (block_outcome a work samples) = a.steps
@@ -118,9 +117,9 @@ samples_of (block_outcome a work samples) = samples
 samples_of (in_place_outcome a samples) = samples
 samples_of (pluck_outcome r) = []
 
-abbrev pub refusal_of : Outcome → Refusal
-refusal_of (block_outcome a work samples) = a.refusal
-refusal_of (in_place_outcome a samples) = a.refusal
+abbrev pub refusal_of : Outcome → Result Unit Refusal
+refusal_of (block_outcome a work samples) = a.outcome
+refusal_of (in_place_outcome a samples) = a.outcome
 refusal_of (pluck_outcome r) = r
 
 -- all that a call leaves
@@ -136,7 +135,7 @@ abbrev pub left_by_in_place : AfterInPlace → Left
 left_by_in_place a = record { outcome = in_place_outcome a.answer a.samples; older = a.older; newer = a.newer }
 
 abbrev pub left_by_pluck : AfterPluck → Left
-left_by_pluck a = record { outcome = pluck_outcome a.refusal; older = a.older; newer = a.newer }
+left_by_pluck a = record { outcome = pluck_outcome a.outcome; older = a.older; newer = a.newer }
 
 -- a call of the two levels
 unfoldable pub leaves : Call → (older newer : List ℤ) → Left

@@ -1,11 +1,9 @@
 -- Demand 3 as four propositions. Their proofs are in proofs/:
 -- `energy_never_negative`, `energy_never_raised`, `energy-kept`, `distance-bound`.
-use Rattle.std.specs.Prelude.{◌≡◌, false, List, [], ◌∷◌, ℕ, zero, suc, ◌*◌, ℤ, pos, ◌*ℤ◌, length, ◌≤ℤ◌}
+use Rattle.std.specs.Prelude.{◌≡◌, false, List, [], ◌∷◌, ℕ, zero, suc, ◌*◌, ℤ, pos, ◌*ℤ◌, length, ◌≤ℤ◌, Option, None, Ok}
 use Rattle.types.specs.declared.Grid.{Grid}
 use Rattle.types.specs.declared.Instrument.{Instrument}
 use Rattle.types.specs.declared.Hit.{Hit}
-use Rattle.types.specs.declared.Hit.TheVariants.{Absent}
-use Rattle.types.specs.declared.Refusal.TheVariants.{Nothing}
 use Rattle.scheme.specs.Lists.{point, square}
 use Rattle.scheme.specs.Instruments.{points}
 use Rattle.scheme.specs.Step.{divisor, some_beyond}
@@ -23,17 +21,17 @@ pub record LevelPasses (g : Grid) (xs : List ℤ) : Type 0 where
 
 -- "any kind, grid and settings that 1, 2, 4 and 5 let pass, any two levels of that grid that 11 and 12 let pass"
 pub record Passes (i : Instrument) (older newer : List ℤ) : Type 0 where
-  pub instrument : instrument_refusal i ≡ Nothing
+  pub instrument : instrument_refusal i ≡ Ok tt
   pub older_passes : LevelPasses i.grid older
   pub newer_passes : LevelPasses i.grid newer
 
 -- "any number of steps, each with or without a hit at a moving point", of any force
-pub data HitsPass (g : Grid) : List Hit → Type 0 where
+pub data HitsPass (g : Grid) : List (Option Hit) → Type 0 where
   done : HitsPass g []
-  more : {h : Hit} {hs : List Hit} → not_moving g h ≡ false → HitsPass g hs → HitsPass g (h ∷ hs)
+  more : {h : Option Hit} {hs : List (Option Hit)} → not_moving g h ≡ false → HitsPass g hs → HitsPass g (h ∷ hs)
 
 -- the book's own step, once for each hit or none
-unfoldable pub unrounded_run : Instrument → List Hit → Book → Book
+unfoldable pub unrounded_run : Instrument → List (Option Hit) → Book → Book
 unrounded_run i [] b = b
 unrounded_run i (h ∷ hs) b = unrounded_run i hs (unrounded_step i h b)
 
@@ -44,7 +42,7 @@ book_energy i b = energy i (point b.newer) (point b.older)
 -- a property of every book that the unrounded scheme reaches
 abbrev pub OfEveryReached : (Instrument → Book → Type 0) → Type 0
 OfEveryReached P =
-    (i : Instrument) (older newer : List ℤ) (hs : List Hit) → Passes i older newer → HitsPass i.grid hs
+    (i : Instrument) (older newer : List ℤ) (hs : List (Option Hit)) → Passes i older newer → HitsPass i.grid hs
     → P i (unrounded_run i hs (fresh no_step older newer))
 
 -- "the energy is never below zero"
@@ -54,12 +52,12 @@ EnergyNeverNegative = OfEveryReached (λ i b. pos 0 ≤ℤ book_energy i b)
 -- "never raised by a step without a hit": after it the levels are held times D+s more, so the energy times (D+s)² more
 abbrev pub EnergyNeverRaised : Type 0
 EnergyNeverRaised = OfEveryReached (λ i b.
-    book_energy i (unrounded_step i Absent b) ≤ℤ (square (pos (divisor i.settings)) *ℤ book_energy i b))
+    book_energy i (unrounded_step i None b) ≤ℤ (square (pos (divisor i.settings)) *ℤ book_energy i b))
 
 -- "kept without loss"
 abbrev pub EnergyKept : Type 0
 EnergyKept = OfEveryReached (λ i b. i.settings.s ≡ 0 →
-    book_energy i (unrounded_step i Absent b) ≡ square (pos (divisor i.settings)) *ℤ book_energy i b)
+    book_energy i (unrounded_step i None b) ≡ square (pos (divisor i.settings)) *ℤ book_energy i b)
 
 -- ---- distance
 

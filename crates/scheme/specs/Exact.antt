@@ -1,6 +1,6 @@
 -- Request 3: "A user whose sum stays 0 from the start may read the levels as the unrounded scheme itself, and that is to be proved."
 -- Its proofs are in proofs/: `exact_since`, `exact_from_start`, `program_exact_since`, `program_exact_from_start`, `never_inexact`.
-use Rattle.std.specs.Prelude.{◌≡◌, Bool, true, ◌&&◌, List, ℕ, ◌%◌, eqb, ℤ, pos}
+use Rattle.std.specs.Prelude.{◌≡◌, Bool, true, ◌&&◌, List, ℕ, ◌%◌, eqb, ℤ, pos, Option}
 use Rattle.types.specs.declared.Settings.{Settings}
 use Rattle.types.specs.declared.Instrument.{Instrument}
 use Rattle.types.specs.declared.Hit.{Hit}
@@ -49,4 +49,4 @@ never_rounded c = eqb (c.q % D) 0 && (eqb c.m 0 && eqb c.s 0)
 
 -- with such settings no step has an inexact point
 abbrev pub NeverInexact : Type 0
-NeverInexact = (i : Instrument) (h : Hit) (older newer : List ℤ) → never_rounded i.settings ≡ true → inexact_in i h older newer ≡ 0
+NeverInexact = (i : Instrument) (h : Option Hit) (older newer : List ℤ) → never_rounded i.settings ≡ true → inexact_in i h older newer ≡ 0

@@ -1,11 +1,11 @@
 -- "Table of examples": A to J, one table, one statement.
-use Rattle.std.specs.Prelude.{◌≡◌, true, List, [], ◌∷◌, map, ℕ, ℤ, pos, neg_ℤ}
+use Rattle.std.specs.Prelude.{◌≡◌, true, List, [], ◌∷◌, map, ℕ, ℤ, pos, neg_ℤ, None}
 use Rattle.types.specs.declared.Grid.{Grid}
 use Rattle.types.specs.declared.Instrument.{Instrument}
-use Rattle.types.specs.declared.Hit.TheVariants.{Absent}
-use Rattle.types.specs.Numbers.{number}
+use Rattle.types.specs.Numbers.{number_of}
 use Rattle.scheme.specs.Lists.{count_below}
-use Rattle.scheme.specs.Instruments.{kind_of, size_in, moving}
+use Rattle.types.specs.Numbers.{kind_of}
+use Rattle.scheme.specs.Instruments.{size_in, moving}
 use Rattle.scheme.specs.Step.{next_level}
 use Rattle.scheme.specs.Refusals.{instrument_refusal}
 
@@ -27,7 +27,7 @@ minus n = neg_ℤ (pos n)
 
 -- the next level without a hit, from newer and older
 abbrev pub next : Instrument → (newer older : List ℤ) → List ℤ
-next i newer older = next_level i Absent older newer
+next i newer older = next_level i None older newer
 
 -- three points with fixed ends, and nine with a fixed ring: the middle
 abbrev pub middle3 : ℤ → List ℤ
@@ -38,7 +38,7 @@ middle9 x = pos 0 ∷ pos 0 ∷ pos 0 ∷ pos 0 ∷ x ∷ pos 0 ∷ pos 0 ∷ po
 
 -- the number of the refusal of 1, 2, 4 and 5 at every size that the table admits
 abbrev pub AtEverySize : ℕ → ℕ → ℕ → ℕ → Type 0
-AtEverySize k q m n = (c r : ℕ) → size_in (kind_of k) c r ≡ true → number (instrument_refusal (instrument k c r q m 0)) ≡ n
+AtEverySize k q m n = (c r : ℕ) → size_in (kind_of k) c r ≡ true → number_of (instrument_refusal (instrument k c r q m 0)) ≡ n
 
 -- "Proved together, as one statement over one table"
 pub record ExamplesHold : Type 0 where

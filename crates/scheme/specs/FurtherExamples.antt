@@ -1,22 +1,21 @@
 -- A second table: what A to J leave loose. Each kind's step, both sides of every refusal's border,
 -- remainders and counts, samples, readings, plucks, blocks, blocks on two levels, energy, and the book of lists of calls.
 -- The numbers come from the reference in another language under host/, or by hand.
-use Rattle.std.specs.Prelude.{◌≡◌, false, cond, List, [], ◌∷◌, map, ℕ, ◌+◌, ◌-◌, ◌^◌, ℤ, pos, length}
+use Rattle.std.specs.Prelude.{◌≡◌, false, cond, List, [], ◌∷◌, map, ℕ, ◌+◌, ◌-◌, ◌^◌, ℤ, pos, length, Option, None, Ok, Err}
 use Rattle.std.specs.Float.{binary64}
 use Rattle.std.specs.Float.Ieee.{of_bits}
 use Rattle.types.specs.declared.Instrument.{Instrument}
 use Rattle.types.specs.declared.Hit.{Hit}
-use Rattle.types.specs.declared.Hit.TheVariants.{Absent, At}
-use Rattle.types.specs.declared.Refusal.TheVariants.{Nothing, UnknownKind, WrongSize, SheetNumber, Coefficient, Unstable}
+use Rattle.types.specs.declared.Refusal.TheVariants.{UnknownKind, WrongSize, SheetNumber, Coefficient, Unstable}
 use Rattle.types.specs.declared.Refusal.TheVariants.{WrongLength, NotMoving, TooStrong, PickUp, HalfWidth, PointBeyond}
 use Rattle.types.specs.declared.Refusal.TheVariants.{FixedNotZero, NextBeyond, BrokenTable}
-use Rattle.types.specs.Numbers.{ceiling, number}
+use Rattle.types.specs.Numbers.{ceiling, number, number_of, hit_at}
 use Rattle.pluck_table.specs.Table.{table}
 use Rattle.scheme.specs.Lists.{point}
 use Rattle.scheme.specs.Step.{round_away, next_level, remainder_of, inexact_in, sample_of}
 use Rattle.scheme.specs.Pluck.{pluck_level}
 use Rattle.scheme.specs.Refusals.{wrong_length, instrument_refusal, block_refusal, pluck_refusal, reading_refusal}
-use Rattle.scheme.specs.Calls.{AfterBlock, capped, reported, block, AfterInPlace, in_place_left, block_in_place, pluck, reading}
+use Rattle.scheme.specs.Calls.{AfterBlock, capped, reported, block, AfterInPlace, in_place_left, block_in_place, pluck, reading, reading_value}
 use Rattle.scheme.specs.Energy.{energy}
 use Rattle.scheme.specs.Book.{step_of, Call, block_call, in_place_call, pluck_call, pluck_with_call, block_outcome, in_place_outcome}
 use Rattle.scheme.specs.Book.{pluck_outcome, Outcome, Left, AfterCalls, State, start, calls}
@@ -26,7 +25,7 @@ use Rattle.scheme.specs.Examples.{grid, instrument, level, minus, next, middle3,
 
 -- the numbers of refusals
 abbrev instrument_numbers : List Instrument → List ℕ
-instrument_numbers is = map (λ i. number (instrument_refusal i)) is
+instrument_numbers is = map (λ i. number_of (instrument_refusal i)) is
 
 -- a string of four points at rest, and what a block of it is refused by
 abbrev pub rest : List ℤ
@@ -35,16 +34,16 @@ rest = level (0 ∷ 0 ∷ 0 ∷ 0 ∷ [])
 abbrev string : Instrument
 string = instrument 1 4 1 65536 0 0
 
-abbrev refused_by : (older newer work : List ℤ) → ℕ → Hit → ℕ
-refused_by older newer work pick h = number (block_refusal string older newer (wrong_length string.grid (length work)) pick h)
+abbrev refused_by : (older newer work : List ℤ) → ℕ → Option Hit → ℕ
+refused_by older newer work pick h = number_of (block_refusal string older newer (wrong_length string.grid (length work)) pick h)
 
 -- what a block of that string from rest with this hit is refused by
 abbrev hit_refused_by : ℕ → ℤ → ℕ
-hit_refused_by p f = refused_by rest rest rest 0 (At p f)
+hit_refused_by p f = refused_by rest rest rest 0 (hit_at p f)
 
 -- what a pluck of a string of five points is refused by
 abbrev pluck_refused_by : ℕ → (older newer : List ℤ) → ℕ → ℕ → ℤ → ℕ
-pluck_refused_by k older newer c w a = number (pluck_refusal (grid k 5 1) (length older) (length newer) c w a)
+pluck_refused_by k older newer c w a = number_of (pluck_refusal (grid k 5 1) (length older) (length newer) c w a)
 
 abbrev pub five : List ℤ
 five = level (0 ∷ 0 ∷ 0 ∷ 0 ∷ 0 ∷ [])
@@ -63,19 +62,19 @@ nines = level (9 ∷ 9 ∷ 9 ∷ 9 ∷ [])
 
 -- two steps with a hit; the same refused; one step; one step with another loss; no step, with a hit; a pluck; a pluck refused
 abbrev pub two_steps : Call
-two_steps = block_call (voice 5) nines (level (0 ∷ 0 ∷ [])) 1 (At 1 (pos 7))
+two_steps = block_call (voice 5) nines (level (0 ∷ 0 ∷ [])) 1 (hit_at 1 (pos 7))
 
 abbrev refused : Call
-refused = block_call (voice 5) nines (level (0 ∷ 0 ∷ [])) 9 (At 1 (pos 7))
+refused = block_call (voice 5) nines (level (0 ∷ 0 ∷ [])) 9 (hit_at 1 (pos 7))
 
 abbrev pub one_step : Call
-one_step = block_call (voice 5) nines (level (0 ∷ [])) 1 Absent
+one_step = block_call (voice 5) nines (level (0 ∷ [])) 1 None
 
 abbrev other_step : Call
-other_step = block_call (voice 6) nines (level (0 ∷ [])) 1 Absent
+other_step = block_call (voice 6) nines (level (0 ∷ [])) 1 None
 
 abbrev no_steps : Call
-no_steps = block_call (voice 6) nines [] 1 (At 2 (pos 5))
+no_steps = block_call (voice 6) nines [] 1 (hit_at 2 (pos 5))
 
 abbrev plucks : Call
 plucks = pluck_call (grid 1 4 1) 2 2 (pos 9)
@@ -125,12 +124,12 @@ abbrev zigzag20 : List ℤ
 zigzag20 = level (0 ∷ 1 ∷ 0 ∷ 1 ∷ 0 ∷ 1 ∷ 0 ∷ 1 ∷ 0 ∷ 1 ∷ 0 ∷ 1 ∷ 0 ∷ 1 ∷ 0 ∷ 1 ∷ 0 ∷ 1 ∷ 0 ∷ 1 ∷ [])
 
 abbrev after_halves : State
-after_halves = (calls (block_call halves still20 (level (0 ∷ [])) 0 Absent ∷ []) (start still20 zigzag20)).state
+after_halves = (calls (block_call halves still20 (level (0 ∷ [])) 0 None ∷ []) (start still20 zigzag20)).state
 
 -- two steps that leave a string where it is
 abbrev faded : ℤ → AfterBlock
 faded x = record {
-  answer = record { steps = 2; inexact = 2; refusal = Nothing };
+  answer = record { steps = 2; inexact = 2; outcome = Ok tt };
   older = middle3 x;
   newer = middle3 x;
   work = middle3 (pos 0);
@@ -139,15 +138,15 @@ faded x = record {
 
 -- a block on two levels of a string of five points at rest, hit by 4
 abbrev struck : List ℤ → AfterInPlace
-struck places = block_in_place (instrument 1 5 1 16384 0 0) five five places 1 (At 1 (pos 4))
+struck places = block_in_place (instrument 1 5 1 16384 0 0) five five places 1 (hit_at 1 (pos 4))
 
 -- what one of the string of four points is refused by
 abbrev in_place_refused_by : (older newer : List ℤ) → ℕ
-in_place_refused_by older newer = number (block_in_place string older newer (level (7 ∷ [])) 0 Absent).answer.refusal
+in_place_refused_by older newer = number_of (block_in_place string older newer (level (7 ∷ [])) 0 None).answer.outcome
 
 -- the count of a step without a hit, from newer and older
 abbrev count : Instrument → (newer older : List ℤ) → ℕ
-count i newer older = inexact_in i Absent older newer
+count i newer older = inexact_in i None older newer
 
 -- the count of a step where its settings are such that no point is ever inexact, else 0
 abbrev where_never_rounded : Instrument → (newer older : List ℤ) → ℕ
@@ -178,7 +177,7 @@ pub record FurtherHold : Type 0 where
       (pos 0 ∷ pos 1 ∷ minus 2 ∷ pos 3 ∷ pos 5 ∷ pos 0 ∷ [])
       ≡ pos 0 ∷ pos 1 ∷ pos 13 ∷ minus 9 ∷ minus 6 ∷ pos 0 ∷ []
   pub free_with_hit :
-      next_level (instrument 3 4 1 40000 0 12345) (At 3 (pos 7)) (level (1 ∷ 2 ∷ 3 ∷ 4 ∷ [])) (pos 10 ∷ minus 20 ∷ pos 30 ∷ minus 40 ∷ [])
+      next_level (instrument 3 4 1 40000 0 12345) (hit_at 3 (pos 7)) (level (1 ∷ 2 ∷ 3 ∷ 4 ∷ [])) (pos 10 ∷ minus 20 ∷ pos 30 ∷ minus 40 ∷ [])
       ≡ minus 15 ∷ pos 6 ∷ minus 13 ∷ pos 8 ∷ []
   -- with q, m and s 0 the next value is 2u − p: 2 at each moving point of a level of ones over zeros
   pub fixed_ring : next (instrument 5 4 3 0 0 0) (level (1 ∷ 1 ∷ 1 ∷ 1 ∷ 1 ∷ 1 ∷ 1 ∷ 1 ∷ 1 ∷ 1 ∷ 1 ∷ 1 ∷ [])) []
@@ -218,16 +217,16 @@ pub record FurtherHold : Type 0 where
       ≡ 2 ∷ 2 ∷ []
   -- "a multiple of D+s", the force in it: a numerator of D over 2D, and one of D + 1 over D + 1
   pub by_divisor :
-      inexact_in (instrument 1 3 1 0 0 65536) (At 1 (pos 1)) (middle3 (pos 0)) (middle3 (pos 0)) ∷
+      inexact_in (instrument 1 3 1 0 0 65536) (hit_at 1 (pos 1)) (middle3 (pos 0)) (middle3 (pos 0)) ∷
       count (instrument 1 3 1 0 0 1) (middle3 (pos 1)) (middle3 (pos 1)) ∷ []
       ≡ 1 ∷ 0 ∷ []
   -- all points of a free string
   pub free_ends_counted : count halves zigzag20 still20 ≡ 20
   -- "the sum over its steps done": 0, 0, 2 and 3
   pub count_of_steps :
-      block (instrument 1 5 1 16384 0 0) five five five (level (7 ∷ 7 ∷ 7 ∷ 7 ∷ [])) 1 (At 1 (pos 4))
+      block (instrument 1 5 1 16384 0 0) five five five (level (7 ∷ 7 ∷ 7 ∷ 7 ∷ [])) 1 (hit_at 1 (pos 4))
       ≡ record {
-        answer = record { steps = 4; inexact = 5; refusal = Nothing };
+        answer = record { steps = 4; inexact = 5; outcome = Ok tt };
         older = level (0 ∷ 5 ∷ 3 ∷ 0 ∷ 0 ∷ []);
         newer = level (0 ∷ 2 ∷ 5 ∷ 1 ∷ 0 ∷ []);
         work = five;
@@ -236,25 +235,25 @@ pub record FurtherHold : Type 0 where
   -- 13 at the second step, in which two points would have been inexact as well; 13 at the first
   pub count_before_end :
       (block (instrument 1 4 1 1 0 0) (pos 0 ∷ minus 1 ∷ pos 6000000000000 ∷ pos 0 ∷ []) (level (0 ∷ 1 ∷ 7000000000000 ∷ 0 ∷ []))
-      rest (level (7 ∷ 8 ∷ 9 ∷ [])) 2 Absent
+      rest (level (7 ∷ 8 ∷ 9 ∷ [])) 2 None
       ≡ record {
-        answer = record { steps = 1; inexact = 2; refusal = NextBeyond };
+        answer = record { steps = 1; inexact = 2; outcome = Err NextBeyond };
         older = level (0 ∷ 1 ∷ 7000000000000 ∷ 0 ∷ []);
         newer = level (0 ∷ 106811526 ∷ 7999786376953 ∷ 0 ∷ []);
         work = rest;
         samples = level (29802 ∷ 8 ∷ 9 ∷ []);
       }) ×
       ((block (instrument 1 4 1 1 0 0) (level (0 ∷ 1 ∷ 7000000000000 ∷ 0 ∷ [])) (level (0 ∷ 106811526 ∷ 7999786376953 ∷ 0 ∷ []))
-      rest (level (7 ∷ 8 ∷ 9 ∷ [])) 2 Absent).answer
-      ≡ record { steps = 0; inexact = 0; refusal = NextBeyond })
+      rest (level (7 ∷ 8 ∷ 9 ∷ [])) 2 None).answer
+      ≡ record { steps = 0; inexact = 0; outcome = Err NextBeyond })
   -- "held at 2⁶⁴ − 1", and in a block's answer
   pub count_held :
       (map capped (0 ∷ 2 ^ 63 ∷ (2 ^ 64 - 1) ∷ 2 ^ 64 ∷ 2 ^ 65 ∷ [])
       ≡ 0 ∷ 9223372036854775808 ∷ 18446744073709551615 ∷ 18446744073709551615 ∷ 18446744073709551615 ∷ []) ×
-      (reported (record { steps = 7; inexact = 2 ^ 64; refusal = Nothing }) ≡ record {
+      (reported (record { steps = 7; inexact = 2 ^ 64; outcome = Ok tt }) ≡ record {
         steps = 7;
         inexact = 18446744073709551615;
-        refusal = Nothing;
+        outcome = Ok tt;
       })
   -- R = 1 and q 0; R of a half, q 65535, a stiffness and a loss, with which points are inexact
   pub never_inexact :
@@ -262,7 +261,7 @@ pub record FurtherHold : Type 0 where
       (map (λ i. where_never_rounded i (level (0 ∷ 1 ∷ 0 ∷ 0 ∷ [])) rest) settled ≡ 0 ∷ 0 ∷ 0 ∷ 0 ∷ 0 ∷ 0 ∷ [])
   -- ---- 1, 2, 4 and 5
   pub numbers :
-      map number (Nothing ∷ UnknownKind ∷ WrongSize ∷ SheetNumber ∷ Coefficient ∷ Unstable ∷ WrongLength ∷ NotMoving ∷ TooStrong ∷ PickUp
+      number_of (Ok tt) ∷ map number (UnknownKind ∷ WrongSize ∷ SheetNumber ∷ Coefficient ∷ Unstable ∷ WrongLength ∷ NotMoving ∷ TooStrong ∷ PickUp
       ∷ HalfWidth ∷ PointBeyond ∷ FixedNotZero ∷ NextBeyond ∷ BrokenTable ∷ [])
       ≡ 0 ∷ 1 ∷ 2 ∷ 3 ∷ 4 ∷ 5 ∷ 6 ∷ 7 ∷ 8 ∷ 9 ∷ 10 ∷ 11 ∷ 12 ∷ 13 ∷ 14 ∷ []
   pub kinds :
@@ -295,8 +294,8 @@ pub record FurtherHold : Type 0 where
       ∷ instrument 5 3 3 0 1 0 ∷ instrument 6 3 3 0 1 0 ∷ instrument 7 3 3 0 1 0 ∷ []) ≡ 5 ∷ 5 ∷ 5 ∷ 0 ∷ 5 ∷ 5 ∷ 0 ∷ []
   -- ---- the refusals of a block, a pluck and a reading
   pub lengths :
-      refused_by rest rest rest 0 Absent ∷ refused_by five rest rest 0 Absent ∷ refused_by rest five rest 0 Absent
-      ∷ refused_by rest rest five 0 Absent ∷ refused_by rest rest (middle3 (pos 0)) 0 Absent ∷ []
+      refused_by rest rest rest 0 None ∷ refused_by five rest rest 0 None ∷ refused_by rest five rest 0 None
+      ∷ refused_by rest rest five 0 None ∷ refused_by rest rest (middle3 (pos 0)) 0 None ∷ []
       ≡ 0 ∷ 6 ∷ 6 ∷ 6 ∷ 6 ∷ []
   pub hits : hit_refused_by 0 (pos 0) ∷ hit_refused_by 1 (pos 0) ∷ hit_refused_by 2 (pos 0) ∷ hit_refused_by 3 (pos 0) ∷ hit_refused_by 4
       (pos 0) ∷ []
@@ -304,23 +303,23 @@ pub record FurtherHold : Type 0 where
   pub forces : hit_refused_by 1 (pos ceiling) ∷ hit_refused_by 1 (pos above) ∷ hit_refused_by 1 (minus ceiling) ∷ hit_refused_by 1
       (minus above)
       ∷ [] ≡ 0 ∷ 8 ∷ 0 ∷ 8 ∷ []
-  pub pick_ups : refused_by rest rest rest 3 Absent ∷ refused_by rest rest rest 4 Absent ∷ [] ≡ 0 ∷ 9 ∷ []
+  pub pick_ups : refused_by rest rest rest 3 None ∷ refused_by rest rest rest 4 None ∷ [] ≡ 0 ∷ 9 ∷ []
   pub high_points :
-      refused_by (level (0 ∷ ceiling ∷ 0 ∷ 0 ∷ [])) rest rest 0 Absent ∷ refused_by (level (0 ∷ above ∷ 0 ∷ 0 ∷ [])) rest rest 0 Absent ∷
-      refused_by rest (pos 0 ∷ pos 0 ∷ minus ceiling ∷ pos 0 ∷ []) rest 0 Absent
-      ∷ refused_by rest (pos 0 ∷ pos 0 ∷ minus above ∷ pos 0 ∷ []) rest 0 Absent ∷
-      refused_by rest rest (level (above ∷ above ∷ above ∷ above ∷ [])) 0 Absent ∷ []
+      refused_by (level (0 ∷ ceiling ∷ 0 ∷ 0 ∷ [])) rest rest 0 None ∷ refused_by (level (0 ∷ above ∷ 0 ∷ 0 ∷ [])) rest rest 0 None ∷
+      refused_by rest (pos 0 ∷ pos 0 ∷ minus ceiling ∷ pos 0 ∷ []) rest 0 None
+      ∷ refused_by rest (pos 0 ∷ pos 0 ∷ minus above ∷ pos 0 ∷ []) rest 0 None ∷
+      refused_by rest rest (level (above ∷ above ∷ above ∷ above ∷ [])) 0 None ∷ []
       ≡ 0 ∷ 11 ∷ 0 ∷ 11 ∷ 0 ∷ []
   pub fixed_points :
-      refused_by (level (1 ∷ 0 ∷ 0 ∷ 0 ∷ [])) rest rest 0 Absent ∷ refused_by (level (0 ∷ 0 ∷ 0 ∷ 1 ∷ [])) rest rest 0 Absent ∷
-      refused_by rest (minus 1 ∷ pos 0 ∷ pos 0 ∷ pos 0 ∷ []) rest 0 Absent ∷ refused_by rest (level (0 ∷ 0 ∷ 0 ∷ 1 ∷ [])) rest 0 Absent
-      ∷ refused_by rest (level (0 ∷ 1 ∷ 1 ∷ 0 ∷ [])) rest 0 Absent ∷ []
+      refused_by (level (1 ∷ 0 ∷ 0 ∷ 0 ∷ [])) rest rest 0 None ∷ refused_by (level (0 ∷ 0 ∷ 0 ∷ 1 ∷ [])) rest rest 0 None ∷
+      refused_by rest (minus 1 ∷ pos 0 ∷ pos 0 ∷ pos 0 ∷ []) rest 0 None ∷ refused_by rest (level (0 ∷ 0 ∷ 0 ∷ 1 ∷ [])) rest 0 None
+      ∷ refused_by rest (level (0 ∷ 1 ∷ 1 ∷ 0 ∷ [])) rest 0 None ∷ []
       ≡ 12 ∷ 12 ∷ 12 ∷ 12 ∷ 0 ∷ []
   pub pluck_kinds :
       pluck_refused_by 0 five five 2 1 (pos 0) ∷ pluck_refused_by 1 five five 2 1 (pos 0) ∷ pluck_refused_by 2 five five 2 1 (pos 0)
       ∷ pluck_refused_by 3 five five 2 1 (pos 0) ∷ pluck_refused_by 4 five five 2 1 (pos 0) ∷
       pluck_refused_by 5 five five 2 1 (pos 0) ∷ pluck_refused_by 6 five five 2 1 (pos 0) ∷ pluck_refused_by 7 five five 2 1 (pos 0)
-      ∷ number (pluck_refusal (grid 1 5 2) 5 5 2 1 (pos 0)) ∷ []
+      ∷ number_of (pluck_refusal (grid 1 5 2) 5 5 2 1 (pos 0)) ∷ []
       ≡ 1 ∷ 0 ∷ 0 ∷ 0 ∷ 0 ∷ 1 ∷ 1 ∷ 1 ∷ 2 ∷ []
   pub pluck_lengths : pluck_refused_by 1 rest five 2 1 (pos 0) ∷ pluck_refused_by 1 five rest 2 1 (pos 0)
       ∷ pluck_refused_by 1 (level (above ∷ 1 ∷ 1 ∷ 1 ∷ 1 ∷ [])) five 2 1 (pos 0) ∷ [] ≡ 6 ∷ 6 ∷ 0 ∷ []
@@ -334,22 +333,22 @@ pub record FurtherHold : Type 0 where
       (pos 0) ∷ []
       ≡ 10 ∷ 0 ∷ 10 ∷ []
   pub reading_refusals :
-      number (reading_refusal (grid 0 4 1) rest 0) ∷ number (reading_refusal (grid 5 4 1) rest 0)
-      ∷ number (reading_refusal (grid 1 4 1) five 0) ∷ number (reading_refusal (grid 1 4 1) rest 4) ∷
-      number (reading_refusal (grid 1 4 1) (level (0 ∷ above ∷ 0 ∷ 0 ∷ [])) 0)
-      ∷ number (reading_refusal (grid 1 4 1) (level (1 ∷ 0 ∷ 0 ∷ 0 ∷ [])) 0) ∷ number (reading_refusal (grid 1 4 1) rest 3) ∷ []
+      number_of (reading_refusal (grid 0 4 1) rest 0) ∷ number_of (reading_refusal (grid 5 4 1) rest 0)
+      ∷ number_of (reading_refusal (grid 1 4 1) five 0) ∷ number_of (reading_refusal (grid 1 4 1) rest 4) ∷
+      number_of (reading_refusal (grid 1 4 1) (level (0 ∷ above ∷ 0 ∷ 0 ∷ [])) 0)
+      ∷ number_of (reading_refusal (grid 1 4 1) (level (1 ∷ 0 ∷ 0 ∷ 0 ∷ [])) 0) ∷ number_of (reading_refusal (grid 1 4 1) rest 3) ∷ []
       ≡ 1 ∷ 2 ∷ 6 ∷ 9 ∷ 11 ∷ 12 ∷ 0 ∷ []
   -- where several apply
   pub lowest_first :
-      number (block_refusal (instrument 9 1 9 65537 1 0) five rest false 9 (At 9 (pos above)))
-      ∷ number (block_refusal (instrument 1 2 1 65537 1 0) five rest false 9 (At 9 (pos above))) ∷
-      number (block_refusal (instrument 1 4 1 65537 1 0) five rest false 9 (At 9 (pos above)))
-      ∷ number (block_refusal (instrument 1 4 1 0 1 0) five rest false 9 (At 9 (pos above))) ∷
-      refused_by five (level (1 ∷ above ∷ 0 ∷ 0 ∷ [])) rest 9 (At 9 (pos above))
-      ∷ refused_by rest (level (1 ∷ above ∷ 0 ∷ 0 ∷ [])) rest 9 (At 9 (pos above)) ∷
-      refused_by rest (level (1 ∷ above ∷ 0 ∷ 0 ∷ [])) rest 9 (At 1 (pos above))
-      ∷ refused_by rest (level (1 ∷ above ∷ 0 ∷ 0 ∷ [])) rest 9 (At 1 (pos 1))
-      ∷ refused_by rest (level (1 ∷ above ∷ 0 ∷ 0 ∷ [])) rest 0 Absent ∷ []
+      number_of (block_refusal (instrument 9 1 9 65537 1 0) five rest false 9 (hit_at 9 (pos above)))
+      ∷ number_of (block_refusal (instrument 1 2 1 65537 1 0) five rest false 9 (hit_at 9 (pos above))) ∷
+      number_of (block_refusal (instrument 1 4 1 65537 1 0) five rest false 9 (hit_at 9 (pos above)))
+      ∷ number_of (block_refusal (instrument 1 4 1 0 1 0) five rest false 9 (hit_at 9 (pos above))) ∷
+      refused_by five (level (1 ∷ above ∷ 0 ∷ 0 ∷ [])) rest 9 (hit_at 9 (pos above))
+      ∷ refused_by rest (level (1 ∷ above ∷ 0 ∷ 0 ∷ [])) rest 9 (hit_at 9 (pos above)) ∷
+      refused_by rest (level (1 ∷ above ∷ 0 ∷ 0 ∷ [])) rest 9 (hit_at 1 (pos above))
+      ∷ refused_by rest (level (1 ∷ above ∷ 0 ∷ 0 ∷ [])) rest 9 (hit_at 1 (pos 1))
+      ∷ refused_by rest (level (1 ∷ above ∷ 0 ∷ 0 ∷ [])) rest 0 None ∷ []
       ≡ 1 ∷ 2 ∷ 4 ∷ 5 ∷ 6 ∷ 7 ∷ 8 ∷ 9 ∷ 11 ∷ []
   -- ---- samples, readings, plucks, blocks
   -- a few units from zero, both sides of a half and of three halves, the ceiling
@@ -362,24 +361,24 @@ pub record FurtherHold : Type 0 where
   -- 2⁴² reads 0.5, −2⁴¹ reads −0.25, and a refused reading 0
   pub readings :
       (reading (grid 1 4 1) (level (0 ∷ 2 ^ 42 ∷ 0 ∷ 0 ∷ [])) 1
-      ≡ record { value = of_bits binary64 0x3fe0_0000_0000_0000; refusal = Nothing }) ×
+      ≡ Ok (of_bits binary64 0x3fe0_0000_0000_0000)) ×
       (reading (grid 1 4 1) (pos 0 ∷ pos 0 ∷ minus (2 ^ 41) ∷ pos 0 ∷ []) 2
-      ≡ record { value = of_bits binary64 0xbfd0_0000_0000_0000; refusal = Nothing }) ×
-      (reading (grid 1 4 1) (level (0 ∷ 2 ^ 42 ∷ 0 ∷ 0 ∷ [])) 4 ≡ record { value = of_bits binary64 0; refusal = PickUp })
+      ≡ Ok (of_bits binary64 0xbfd0_0000_0000_0000)) ×
+      (reading (grid 1 4 1) (level (0 ∷ 2 ^ 42 ∷ 0 ∷ 0 ∷ [])) 4 ≡ Err PickUp) × (reading_value (Err PickUp) ≡ of_bits binary64 0)
   pub plucked : pluck_level table (grid 1 5 1) 2 3 (pos 1000) ≡ level (0 ∷ 749 ∷ 1000 ∷ 749 ∷ 0 ∷ [])
   pub plucked_down : pluck_level table (grid 1 5 1) 2 2 (minus 3) ≡ pos 0 ∷ minus 1 ∷ minus 3 ∷ minus 1 ∷ pos 0 ∷ []
   pub plucked_free : (pluck_level table (grid 3 5 1) 0 4 (pos 65536) ≡ level (65536 ∷ 55938 ∷ 32768 ∷ 9598 ∷ 0 ∷ []))
       × (pluck_level table (grid 2 5 1) 4 3 (pos 7000) ≡ level (0 ∷ 0 ∷ 1746 ∷ 5243 ∷ 7000 ∷ []))
   pub plucked_both :
       (pluck (grid 4 5 1) (level (7 ∷ 7 ∷ 7 ∷ 7 ∷ 7 ∷ [])) five 1 1 (pos 9)
-      ≡ record { refusal = Nothing; older = level (0 ∷ 9 ∷ 0 ∷ 0 ∷ 0 ∷ []); newer = level (0 ∷ 9 ∷ 0 ∷ 0 ∷ 0 ∷ []) }) ×
-      (pluck (grid 4 5 1) (level (7 ∷ [])) five 1 1 (pos 9) ≡ record { refusal = WrongLength; older = level (7 ∷ []); newer = five })
+      ≡ record { outcome = Ok tt; older = level (0 ∷ 9 ∷ 0 ∷ 0 ∷ 0 ∷ []); newer = level (0 ∷ 9 ∷ 0 ∷ 0 ∷ 0 ∷ []) }) ×
+      (pluck (grid 4 5 1) (level (7 ∷ [])) five 1 1 (pos 9) ≡ record { outcome = Err WrongLength; older = level (7 ∷ []); newer = five })
   -- the listing of the program `ring`: `1 3 1 65536 0 0 1 4 1 268435456`, from rest
   pub ring_listing :
       block (instrument 1 3 1 65536 0 0) (middle3 (pos 0)) (middle3 (pos 0)) (middle3 (pos 5)) (level (7 ∷ 7 ∷ 7 ∷ 7 ∷ [])) 1
-      (At 1 (pos 268435456))
+      (hit_at 1 (pos 268435456))
       ≡ record {
-        answer = record { steps = 4; inexact = 0; refusal = Nothing };
+        answer = record { steps = 4; inexact = 0; outcome = Ok tt };
         older = middle3 (minus 268435456);
         newer = middle3 (pos 0);
         work = middle3 (pos 0);
@@ -387,16 +386,16 @@ pub record FurtherHold : Type 0 where
       }
   -- "A fading voice sits a few units below zero", or above, and reads 0
   pub silence :
-      (block (instrument 1 3 1 8192 0 12000) (middle3 (minus 2)) (middle3 (minus 2)) (middle3 (pos 5)) (level (7 ∷ 8 ∷ [])) 1 Absent
+      (block (instrument 1 3 1 8192 0 12000) (middle3 (minus 2)) (middle3 (minus 2)) (middle3 (pos 5)) (level (7 ∷ 8 ∷ [])) 1 None
       ≡ faded (minus 2)) ×
-      (block (instrument 1 3 1 8192 0 12000) (middle3 (pos 2)) (middle3 (pos 2)) (middle3 (pos 5)) (level (7 ∷ 8 ∷ [])) 1 Absent
+      (block (instrument 1 3 1 8192 0 12000) (middle3 (pos 2)) (middle3 (pos 2)) (middle3 (pos 5)) (level (7 ∷ 8 ∷ [])) 1 None
       ≡ faded (pos 2))
   -- 13 at the second step: point 1 would have become 5, point 2 would have passed the ceiling
   pub ended_block :
       block (instrument 1 4 1 0 0 0) (pos 0 ∷ minus 1 ∷ pos 6000000000000 ∷ pos 0 ∷ []) (level (0 ∷ 1 ∷ 7000000000000 ∷ 0 ∷ []))
-      (level (1 ∷ 2 ∷ 3 ∷ 4 ∷ [])) (level (7 ∷ 8 ∷ 9 ∷ [])) 2 Absent
+      (level (1 ∷ 2 ∷ 3 ∷ 4 ∷ [])) (level (7 ∷ 8 ∷ 9 ∷ [])) 2 None
       ≡ record {
-        answer = record { steps = 1; inexact = 0; refusal = NextBeyond };
+        answer = record { steps = 1; inexact = 0; outcome = Err NextBeyond };
         older = level (0 ∷ 1 ∷ 7000000000000 ∷ 0 ∷ []);
         newer = level (0 ∷ 3 ∷ 8000000000000 ∷ 0 ∷ []);
         work = rest;
@@ -404,26 +403,26 @@ pub record FurtherHold : Type 0 where
       }
   -- the next point at the ceiling, and one above it: 13 at the first step
   pub at_once :
-      (block (instrument 1 3 1 0 0 0) (middle3 (minus 1)) (middle3 (pos 4397912293375)) (middle3 (pos 5)) (level (7 ∷ [])) 1 (At 1 (pos 1))
+      (block (instrument 1 3 1 0 0 0) (middle3 (minus 1)) (middle3 (pos 4397912293375)) (middle3 (pos 5)) (level (7 ∷ [])) 1 (hit_at 1 (pos 1))
       ≡ record {
-        answer = record { steps = 1; inexact = 0; refusal = Nothing };
+        answer = record { steps = 1; inexact = 0; outcome = Ok tt };
         older = middle3 (pos 4397912293375);
         newer = middle3 (pos ceiling);
         work = middle3 (pos 0);
         samples = level (32767 ∷ []);
       }) ×
-      (block (instrument 1 3 1 0 0 0) (middle3 (minus 1)) (middle3 (pos 4397912293375)) (middle3 (pos 5)) (level (7 ∷ [])) 1 (At 1 (pos 2))
+      (block (instrument 1 3 1 0 0 0) (middle3 (minus 1)) (middle3 (pos 4397912293375)) (middle3 (pos 5)) (level (7 ∷ [])) 1 (hit_at 1 (pos 2))
       ≡ record {
-        answer = record { steps = 0; inexact = 0; refusal = NextBeyond };
+        answer = record { steps = 0; inexact = 0; outcome = Err NextBeyond };
         older = middle3 (minus 1);
         newer = middle3 (pos 4397912293375);
         work = middle3 (pos 0);
         samples = level (7 ∷ []);
       })
   pub block_turned_down :
-      block string rest (level (0 ∷ 1 ∷ 2 ∷ 0 ∷ [])) (level (1 ∷ 2 ∷ 3 ∷ 4 ∷ [])) (level (7 ∷ 8 ∷ [])) 4 Absent
+      block string rest (level (0 ∷ 1 ∷ 2 ∷ 0 ∷ [])) (level (1 ∷ 2 ∷ 3 ∷ 4 ∷ [])) (level (7 ∷ 8 ∷ [])) 4 None
       ≡ record {
-        answer = record { steps = 0; inexact = 0; refusal = PickUp };
+        answer = record { steps = 0; inexact = 0; outcome = Err PickUp };
         older = rest;
         newer = level (0 ∷ 1 ∷ 2 ∷ 0 ∷ []);
         work = level (1 ∷ 2 ∷ 3 ∷ 4 ∷ []);
@@ -431,9 +430,9 @@ pub record FurtherHold : Type 0 where
       }
   -- "A block of length 0 passes the same checks, answers 0 steps and drops its hit."
   pub empty_block :
-      block string rest (level (0 ∷ 1 ∷ 2 ∷ 0 ∷ [])) (level (1 ∷ 2 ∷ 3 ∷ 4 ∷ [])) [] 0 (At 1 (pos 5))
+      block string rest (level (0 ∷ 1 ∷ 2 ∷ 0 ∷ [])) (level (1 ∷ 2 ∷ 3 ∷ 4 ∷ [])) [] 0 (hit_at 1 (pos 5))
       ≡ record {
-        answer = record { steps = 0; inexact = 0; refusal = Nothing };
+        answer = record { steps = 0; inexact = 0; outcome = Ok tt };
         older = rest;
         newer = level (0 ∷ 1 ∷ 2 ∷ 0 ∷ []);
         work = rest;
@@ -443,31 +442,31 @@ pub record FurtherHold : Type 0 where
   -- "A step that would exceed the ceiling must be found before any point is overwritten": point 1 would have become 5
   pub in_place_ended :
       block_in_place (instrument 1 4 1 0 0 0) (pos 0 ∷ minus 1 ∷ pos 6000000000000 ∷ pos 0 ∷ []) (level (0 ∷ 1 ∷ 7000000000000 ∷ 0 ∷ []))
-      (level (7 ∷ 8 ∷ 9 ∷ [])) 2 Absent
-      ≡ in_place_left (record { steps = 1; inexact = 0; refusal = NextBeyond }) (level (0 ∷ 1 ∷ 7000000000000 ∷ 0 ∷ []))
+      (level (7 ∷ 8 ∷ 9 ∷ [])) 2 None
+      ≡ in_place_left (record { steps = 1; inexact = 0; outcome = Err NextBeyond }) (level (0 ∷ 1 ∷ 7000000000000 ∷ 0 ∷ []))
       (level (0 ∷ 3 ∷ 8000000000000 ∷ 0 ∷ [])) (level (29802 ∷ 8 ∷ 9 ∷ []))
   -- 13 at the first step
   pub in_place_at_once :
-      block_in_place (instrument 1 3 1 0 0 0) (middle3 (minus 1)) (middle3 (pos 4397912293375)) (level (7 ∷ [])) 1 (At 1 (pos 2))
-      ≡ in_place_left (record { steps = 0; inexact = 0; refusal = NextBeyond }) (middle3 (minus 1)) (middle3 (pos 4397912293375))
+      block_in_place (instrument 1 3 1 0 0 0) (middle3 (minus 1)) (middle3 (pos 4397912293375)) (level (7 ∷ [])) 1 (hit_at 1 (pos 2))
+      ≡ in_place_left (record { steps = 0; inexact = 0; outcome = Err NextBeyond }) (middle3 (minus 1)) (middle3 (pos 4397912293375))
       (level (7 ∷ []))
   -- an odd and an even number of steps
   pub in_place_steps :
-      (struck (level (7 ∷ 7 ∷ 7 ∷ [])) ≡ in_place_left (record { steps = 3; inexact = 2; refusal = Nothing })
+      (struck (level (7 ∷ 7 ∷ 7 ∷ [])) ≡ in_place_left (record { steps = 3; inexact = 2; outcome = Ok tt })
       (level (0 ∷ 6 ∷ 1 ∷ 0 ∷ 0 ∷ []))
       (level (0 ∷ 5 ∷ 3 ∷ 0 ∷ 0 ∷ [])) (level (0 ∷ 0 ∷ 0 ∷ []))) ×
-      (struck (level (7 ∷ 7 ∷ 7 ∷ 7 ∷ [])) ≡ in_place_left (record { steps = 4; inexact = 5; refusal = Nothing })
+      (struck (level (7 ∷ 7 ∷ 7 ∷ 7 ∷ [])) ≡ in_place_left (record { steps = 4; inexact = 5; outcome = Ok tt })
       (level (0 ∷ 5 ∷ 3 ∷ 0 ∷ 0 ∷ [])) (level (0 ∷ 2 ∷ 5 ∷ 1 ∷ 0 ∷ [])) (level (0 ∷ 0 ∷ 0 ∷ 0 ∷ [])))
   -- "Refusal 6 looks at the two lengths only."
   pub in_place_lengths :
       in_place_refused_by rest rest ∷ in_place_refused_by five rest ∷ in_place_refused_by rest five ∷ in_place_refused_by five five ∷ []
       ≡ 0 ∷ 6 ∷ 6 ∷ 6 ∷ []
   pub in_place_turned_down :
-      block_in_place string rest (level (0 ∷ 1 ∷ 2 ∷ 0 ∷ [])) (level (7 ∷ 8 ∷ [])) 4 Absent
-      ≡ in_place_left (record { steps = 0; inexact = 0; refusal = PickUp }) rest (level (0 ∷ 1 ∷ 2 ∷ 0 ∷ [])) (level (7 ∷ 8 ∷ []))
+      block_in_place string rest (level (0 ∷ 1 ∷ 2 ∷ 0 ∷ [])) (level (7 ∷ 8 ∷ [])) 4 None
+      ≡ in_place_left (record { steps = 0; inexact = 0; outcome = Err PickUp }) rest (level (0 ∷ 1 ∷ 2 ∷ 0 ∷ [])) (level (7 ∷ 8 ∷ []))
   pub in_place_empty :
-      block_in_place string rest (level (0 ∷ 1 ∷ 2 ∷ 0 ∷ [])) [] 0 (At 1 (pos 5))
-      ≡ in_place_left (record { steps = 0; inexact = 0; refusal = Nothing }) rest (level (0 ∷ 1 ∷ 2 ∷ 0 ∷ [])) []
+      block_in_place string rest (level (0 ∷ 1 ∷ 2 ∷ 0 ∷ [])) [] 0 (hit_at 1 (pos 5))
+      ≡ in_place_left (record { steps = 0; inexact = 0; outcome = Ok tt }) rest (level (0 ∷ 1 ∷ 2 ∷ 0 ∷ [])) []
   -- ---- energy, distance and book
   -- times 2D
   pub energies :
@@ -510,15 +509,15 @@ pub record FurtherHold : Type 0 where
     inexact = 2;
   }
   pub outcomes : outcomes_of (from_here (two_steps ∷ refused ∷ no_steps ∷ plucks ∷ pluck_turned_down ∷ [])) ≡
-      block_outcome (record { steps = 2; inexact = 4; refusal = Nothing }) rest (level (0 ∷ 0 ∷ [])) ∷
-      block_outcome (record { steps = 0; inexact = 0; refusal = PickUp }) nines (level (0 ∷ 0 ∷ [])) ∷
-      block_outcome (record { steps = 0; inexact = 0; refusal = Nothing }) rest [] ∷
-      pluck_outcome Nothing ∷
-      pluck_outcome NotMoving ∷ []
+      block_outcome (record { steps = 2; inexact = 4; outcome = Ok tt }) rest (level (0 ∷ 0 ∷ [])) ∷
+      block_outcome (record { steps = 0; inexact = 0; outcome = Err PickUp }) nines (level (0 ∷ 0 ∷ [])) ∷
+      block_outcome (record { steps = 0; inexact = 0; outcome = Ok tt }) rest [] ∷
+      pluck_outcome (Ok tt) ∷
+      pluck_outcome (Err NotMoving) ∷ []
   pub in_place_outcomes : outcomes_of (from_here (map on_two (two_steps ∷ refused ∷ no_steps ∷ []))) ≡
-      in_place_outcome (record { steps = 2; inexact = 4; refusal = Nothing }) (level (0 ∷ 0 ∷ [])) ∷
-      in_place_outcome (record { steps = 0; inexact = 0; refusal = PickUp }) (level (0 ∷ 0 ∷ [])) ∷
-      in_place_outcome (record { steps = 0; inexact = 0; refusal = Nothing }) [] ∷ []
+      in_place_outcome (record { steps = 2; inexact = 4; outcome = Ok tt }) (level (0 ∷ 0 ∷ [])) ∷
+      in_place_outcome (record { steps = 0; inexact = 0; outcome = Err PickUp }) (level (0 ∷ 0 ∷ [])) ∷
+      in_place_outcome (record { steps = 0; inexact = 0; outcome = Ok tt }) [] ∷ []
   -- the distance of `book_goes_on`, times 2 × (D+s)⁶, and its bound times 32 × (D+s)⁶
   pub distances :
       (distance (voice 5) 3 (level (0 ∷ 22 ∷ 16 ∷ 0 ∷ [])) (level (0 ∷ 5982145047920445 ∷ 4594315337286502 ∷ 0 ∷ []))

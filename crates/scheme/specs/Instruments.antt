@@ -1,9 +1,12 @@
 -- "The instrument and its numbers".
-use Rattle.std.specs.Prelude.{Bool, true, false, not, ◌&&◌, ◌||◌, [], ◌∷◌, ℕ, ◌+◌, ◌*◌, ◌/◌, ◌%◌, leb, ltb, eqb, ℤ, pos, nat_abs, ◌+ℤ◌}
-use Rattle.std.specs.Prelude.{◌-ℤ◌, get_or}
+use Rattle.std.specs.Prelude.{Bool, true, false, not, ◌&&◌, ◌||◌, ℕ, ◌+◌, ◌*◌, ◌/◌, ◌%◌, leb, ltb, eqb, ℤ, pos, nat_abs, ◌+ℤ◌}
+use Rattle.std.specs.Prelude.{◌-ℤ◌}
 use Rattle.std.specs.Int.Signed.{le_z}
 use Rattle.types.specs.declared.Grid.{Grid}
-use Rattle.types.specs.Numbers.{D, ceiling}
+use Rattle.types.specs.declared.Kind.{Kind}
+use Rattle.types.specs.declared.Kind.TheVariants.{Unknown, StringFixed, StringFixedFree, StringFree, Bar, MembraneRectangular}
+use Rattle.types.specs.declared.Kind.TheVariants.{MembraneRound, Plate}
+use Rattle.types.specs.Numbers.{D, ceiling, kind_of}
 use Rattle.scheme.specs.Lists.{square}
 
 -- "Settings are whole numbers over D = 65536", "The ceiling is 32767 × 2²⁸": `D` and `ceiling` of crate types
@@ -12,14 +15,7 @@ use Rattle.scheme.specs.Lists.{square}
 abbrev pub beyond : ℤ → Bool
 beyond z = ltb ceiling (nat_abs z)
 
--- the table's kinds, "thin rectangular plates .. as kind 7", and what every other number is
-pub data Kind : Type 0 where
-  unknown fixedString halfFreeString freeString bar membrane roundMembrane plate : Kind
-
--- the table's first column
-unfoldable pub kind_of : ℕ → Kind
-kind_of k = get_or (unknown ∷ fixedString ∷ halfFreeString ∷ freeString ∷ bar ∷ membrane ∷ roundMembrane ∷ plate ∷ []) k unknown
-
+-- the table's kinds: `Kind` of crate types, and `kind_of` the kind of each number
 abbrev pub kind : Grid → Kind
 kind g = kind_of g.kind
 
@@ -48,14 +44,14 @@ grid_size c r = within 3 64 c && within 3 64 r
 
 -- the table's last column, "columns × rows"; plates have "sizes as kind 5": c columns, r rows
 unfoldable pub size_in : Kind → ℕ → ℕ → Bool
-size_in unknown c r = false
-size_in fixedString c r = line_size c r
-size_in halfFreeString c r = line_size c r
-size_in freeString c r = line_size c r
-size_in bar c r = line_size c r
-size_in membrane c r = grid_size c r
-size_in roundMembrane c r = within 3 64 c && eqb r c
-size_in plate c r = grid_size c r
+size_in Unknown c r = false
+size_in StringFixed c r = line_size c r
+size_in StringFixedFree c r = line_size c r
+size_in StringFree c r = line_size c r
+size_in Bar c r = line_size c r
+size_in MembraneRectangular c r = grid_size c r
+size_in MembraneRound c r = within 3 64 c && eqb r c
+size_in Plate c r = grid_size c r
 
 -- the table has these columns and rows for this kind
 abbrev pub in_table : Grid → Bool
@@ -64,14 +60,14 @@ in_table g = size_in (kind g) g.columns g.rows
 -- "Stable means: kinds 1 to 3, q ≤ 65536; kind 4, q + 4m ≤ 65536; kinds 5 and 6, 2q ≤ 65536. Only kind 4 may have m above 0."
 -- Of a plate, "Stable is 2q + 16m ≤ 65536, and m may now be above 0 here too."
 unfoldable pub stable_in : Kind → ℕ → ℕ → Bool
-stable_in unknown q m = false
-stable_in fixedString q m = leb q D && eqb m 0
-stable_in halfFreeString q m = leb q D && eqb m 0
-stable_in freeString q m = leb q D && eqb m 0
-stable_in bar q m = leb (q + 4 * m) D
-stable_in membrane q m = leb (2 * q) D && eqb m 0
-stable_in roundMembrane q m = leb (2 * q) D && eqb m 0
-stable_in plate q m = leb (2 * q + 16 * m) D
+stable_in Unknown q m = false
+stable_in StringFixed q m = leb q D && eqb m 0
+stable_in StringFixedFree q m = leb q D && eqb m 0
+stable_in StringFree q m = leb q D && eqb m 0
+stable_in Bar q m = leb (q + 4 * m) D
+stable_in MembraneRectangular q m = leb (2 * q) D && eqb m 0
+stable_in MembraneRound q m = leb (2 * q) D && eqb m 0
+stable_in Plate q m = leb (2 * q + 16 * m) D
 
 -- the first or the last of n
 abbrev pub at_edge : ℕ → ℕ → Bool
@@ -92,14 +88,14 @@ round_edge G a b = le_z (square (pos G -ℤ pos 1)) (square (off_centre G a) +�
 -- "Fixed points are the ends named above, the outer ring of kind 5, and in kind 6 ..": at column a and row b of c columns and r rows.
 -- A plate has "the edge supported on all four sides, its outer ring fixed".
 unfoldable pub fixed_in : Kind → ℕ → ℕ → ℕ → ℕ → Bool
-fixed_in unknown c r a b = true
-fixed_in fixedString c r a b = at_edge c a
-fixed_in halfFreeString c r a b = eqb a 0
-fixed_in freeString c r a b = false
-fixed_in bar c r a b = at_edge c a
-fixed_in membrane c r a b = outer_ring c r a b
-fixed_in roundMembrane c r a b = round_edge c a b
-fixed_in plate c r a b = outer_ring c r a b
+fixed_in Unknown c r a b = true
+fixed_in StringFixed c r a b = at_edge c a
+fixed_in StringFixedFree c r a b = eqb a 0
+fixed_in StringFree c r a b = false
+fixed_in Bar c r a b = at_edge c a
+fixed_in MembraneRectangular c r a b = outer_ring c r a b
+fixed_in MembraneRound c r a b = round_edge c a b
+fixed_in Plate c r a b = outer_ring c r a b
 
 abbrev pub fixed : Grid → ℕ → Bool
 fixed g i = fixed_in (kind g) g.columns g.rows (column g i) (row g i)
@@ -110,14 +106,14 @@ moving g i = ltb i (points g) && not (fixed g i)
 
 -- the free ends that the table names: "last free", "both ends free"
 unfoldable pub free_in : Kind → ℕ → ℕ → Bool
-free_in unknown c a = false
-free_in fixedString c a = false
-free_in halfFreeString c a = eqb (a + 1) c
-free_in freeString c a = at_edge c a
-free_in bar c a = false
-free_in membrane c a = false
-free_in roundMembrane c a = false
-free_in plate c a = false
+free_in Unknown c a = false
+free_in StringFixed c a = false
+free_in StringFixedFree c a = eqb (a + 1) c
+free_in StringFree c a = at_edge c a
+free_in Bar c a = false
+free_in MembraneRectangular c a = false
+free_in MembraneRound c a = false
+free_in Plate c a = false
 
 abbrev pub free_end : Grid → ℕ → Bool
 free_end g i = free_in (kind g) g.columns (column g i)

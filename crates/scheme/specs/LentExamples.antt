@@ -1,8 +1,8 @@
 -- A table for plucks by a lent table (request 7): the order of refusals, the filling, list and book. `LoadingExamples` of crate pluck_table
 -- has each break of a table's rule. The numbers come by hand, or from the reference in another language under host/.
-use Rattle.std.specs.Prelude.{◌≡◌, List, [], ◌∷◌, map, ℕ, ℤ, pos, length}
-use Rattle.types.specs.declared.Refusal.TheVariants.{Nothing, BrokenTable}
-use Rattle.types.specs.Numbers.{number}
+use Rattle.std.specs.Prelude.{◌≡◌, List, [], ◌∷◌, map, ℕ, ℤ, pos, length, Ok, Err}
+use Rattle.types.specs.declared.Refusal.TheVariants.{BrokenTable}
+use Rattle.types.specs.Numbers.{number_of}
 use Rattle.pluck_table.specs.Table.{table}
 use Rattle.pluck_table.specs.LoadingExamples.{straight, late, early, joined}
 use Rattle.scheme.specs.Refusals.{pluck_with_refusal}
@@ -13,7 +13,7 @@ use Rattle.scheme.specs.FurtherExamples.{five, above, voice, two_steps, one_step
 
 -- what a pluck of a line of five points by a lent table is refused by
 abbrev refused_by : ℕ → (older newer : List ℤ) → ℕ → ℕ → ℤ → List ℕ → ℕ
-refused_by k older newer c w a lent = number (pluck_with_refusal (grid k 5 1) (length older) (length newer) c w a lent)
+refused_by k older newer c w a lent = number_of (pluck_with_refusal (grid k 5 1) (length older) (length newer) c w a lent)
 
 -- a pluck of five points that hold 7 and 8
 abbrev sevens : List ℤ
@@ -33,7 +33,7 @@ pub record LentHold : Type 0 where
   -- "checked after 10": every other refusal of a pluck, with a broken table; then 14
   pub ordered :
       refused_by 9 five five 2 3 (pos 1000) [] ∷ refused_by 5 five five 2 3 (pos 1000) [] ∷
-      number (pluck_with_refusal (grid 1 5 2) 5 5 2 3 (pos 1000) []) ∷ refused_by 1 five [] 2 3 (pos 1000) [] ∷
+      number_of (pluck_with_refusal (grid 1 5 2) 5 5 2 3 (pos 1000) []) ∷ refused_by 1 five [] 2 3 (pos 1000) [] ∷
       refused_by 1 five five 0 3 (pos 1000) [] ∷ refused_by 1 five five 2 3 (minus above) [] ∷
       refused_by 1 five five 2 0 (pos 1000) (1 ∷ 2 ∷ 3 ∷ []) ∷ refused_by 1 five five 2 5 (pos 1000) [] ∷
       refused_by 1 five five 2 3 (pos 1000) (1 ∷ 2 ∷ 3 ∷ []) ∷ [] ≡ 1 ∷ 1 ∷ 2 ∷ 6 ∷ 7 ∷ 8 ∷ 10 ∷ 10 ∷ 14 ∷ []
@@ -48,7 +48,7 @@ pub record LentHold : Type 0 where
   pub late_rise : plucks 3 0 4 (minus 7) late ≡ overwritten (minus 7 ∷ pos 0 ∷ pos 0 ∷ pos 0 ∷ pos 0 ∷ [])
   pub early_rise : plucks 2 4 3 (pos 7) early ≡ overwritten (level (0 ∷ 0 ∷ 7 ∷ 7 ∷ 7 ∷ []))
   -- "it returns and leaves what 1 to 12 do"
-  pub turned_down : plucks 1 2 3 (pos 1000) [] ≡ pluck_left BrokenTable sevens eights
+  pub turned_down : plucks 1 2 3 (pos 1000) [] ≡ pluck_left (Err BrokenTable) sevens eights
   -- "An accepted pluck puts the levels its rule gives into the book, with n 0. A refused one changes nothing."
   pub book : after (two_steps ∷ of_four straight ∷ []) ≡ record {
     older = level (0 ∷ 5 ∷ 9 ∷ 0 ∷ []);
@@ -57,4 +57,4 @@ pub record LentHold : Type 0 where
     inexact = 0;
   }
   pub book_of_refused : after (two_steps ∷ of_four [] ∷ one_step ∷ []) ≡ three_on
-  pub outcomes : outcomes_of (from_here (of_four straight ∷ of_four [] ∷ [])) ≡ pluck_outcome Nothing ∷ pluck_outcome BrokenTable ∷ []
+  pub outcomes : outcomes_of (from_here (of_four straight ∷ of_four [] ∷ [])) ≡ pluck_outcome (Ok tt) ∷ pluck_outcome (Err BrokenTable) ∷ []

@@ -1,9 +1,9 @@
 -- Request 5: "A percussionist strikes from below and expects the mirror image."
 -- Its proofs are in proofs/: `mirror_image`, `mirror_measures`, `program_mirror_image`.
-use Rattle.std.specs.Prelude.{◌≡◌, List, [], ◌++◌, map, ℕ, ℤ, pos, neg_ℤ, length, take, drop, replicate}
+use Rattle.std.specs.Prelude.{◌≡◌, List, [], ◌++◌, map, ℕ, ℤ, pos, neg_ℤ, length, take, drop, replicate, Option, Some, None}
 use Rattle.types.specs.declared.Instrument.{Instrument}
 use Rattle.types.specs.declared.Hit.{Hit}
-use Rattle.types.specs.declared.Hit.TheVariants.{Absent, At}
+use Rattle.types.specs.Numbers.{hit_at}
 use Rattle.scheme.specs.Book.{Book, Call, block_call, in_place_call, pluck_call, pluck_with_call, Outcome, block_outcome, in_place_outcome}
 use Rattle.scheme.specs.Book.{pluck_outcome, Left, State, start, AfterCalls, calls}
 use Rattle.scheme.specs.Claims.{book_energy, distance}
@@ -16,9 +16,9 @@ negated xs = map neg_ℤ xs
 -- ---- the two lists
 
 -- "hits that are negatives at the same steps and points"
-abbrev pub mirror_hit : Hit → Hit
-mirror_hit Absent = Absent
-mirror_hit (At p f) = At p (neg_ℤ f)
+abbrev pub mirror_hit : Option Hit → Option Hit
+mirror_hit None = None
+mirror_hit (Some h) = hit_at h.point (neg_ℤ h.force)
 
 -- "with calls otherwise the same"; "It covers plucks of negated height too."
 abbrev pub mirror_call : Call → Call

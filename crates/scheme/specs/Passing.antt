@@ -1,9 +1,8 @@
 -- What it says that no refusal applies. Vocabulary of proofs and of private functions: no promise of a public function cites it.
-use Rattle.std.specs.Prelude.{◌≡◌, Bool, true, false, List, ℕ, ◌<◌, ℤ}
+use Rattle.std.specs.Prelude.{◌≡◌, Bool, true, false, List, ℕ, ◌<◌, ℤ, Option, Ok}
 use Rattle.types.specs.declared.Grid.{Grid}
 use Rattle.types.specs.declared.Instrument.{Instrument}
 use Rattle.types.specs.declared.Hit.{Hit}
-use Rattle.types.specs.declared.Refusal.TheVariants.{Nothing}
 use Rattle.scheme.specs.Instruments.{beyond, kind, points, within, size_in, stable_in, moving}
 use Rattle.scheme.specs.Refusals.{last_plucked, wrong_coefficient, not_moving, too_strong, wrong_width, instrument_refusal}
 use Rattle.scheme.specs.Claims.{LevelPasses}
@@ -15,8 +14,8 @@ pub record InstrumentPasses (i : Instrument) : Type 0 where
   pub stable : stable_in (kind i.grid) i.settings.q i.settings.m ≡ true
 
 -- each of a block's tests 1 to 12 has failed
-pub record BlockPasses (i : Instrument) (older newer : List ℤ) (wrong : Bool) (pick : ℕ) (h : Hit) : Type 0 where
-  pub instrument : instrument_refusal i ≡ Nothing
+pub record BlockPasses (i : Instrument) (older newer : List ℤ) (wrong : Bool) (pick : ℕ) (h : Option Hit) : Type 0 where
+  pub instrument : instrument_refusal i ≡ Ok tt
   pub older_passes : LevelPasses i.grid older
   pub newer_passes : LevelPasses i.grid newer
   pub rest_right : wrong ≡ false

@@ -1,11 +1,10 @@
 -- A table for plates, kind 7, beside the second one: a step on small plates and its count, both sides of every limit, refusals, a block,
 -- energy, book.
 -- The numbers come by hand, or from the reference in another language under host/. `FurtherExamples` has a row of every kind's number.
-use Rattle.std.specs.Prelude.{◌≡◌, false, List, [], ◌∷◌, map, ℕ, ℤ, pos}
+use Rattle.std.specs.Prelude.{◌≡◌, false, List, [], ◌∷◌, map, ℕ, ℤ, pos, None, Ok, Err}
 use Rattle.types.specs.declared.Instrument.{Instrument}
-use Rattle.types.specs.declared.Hit.TheVariants.{Absent, At}
-use Rattle.types.specs.declared.Refusal.TheVariants.{Nothing, NextBeyond}
-use Rattle.types.specs.Numbers.{number}
+use Rattle.types.specs.declared.Refusal.TheVariants.{NextBeyond}
+use Rattle.types.specs.Numbers.{number_of, hit_at}
 use Rattle.scheme.specs.Lists.{point, count_below}
 use Rattle.scheme.specs.Instruments.{moving}
 use Rattle.scheme.specs.Step.{next_level, inexact_in}
@@ -41,7 +40,7 @@ rest9 = middle9 (pos 0)
 
 -- the numbers of the refusals of plates, each by columns, rows, q and m
 abbrev refused_by : ℕ → ℕ → ℕ → ℕ → ℕ
-refused_by c r q m = number (instrument_refusal (instrument 7 c r q m 0))
+refused_by c r q m = number_of (instrument_refusal (instrument 7 c r q m 0))
 
 pub record PlatesHold : Type 0 where
   -- ---- one step
@@ -60,15 +59,15 @@ pub record PlatesHold : Type 0 where
       ≡ ring5 (row5 (pos 15) (pos 8) (minus 1) (ring5 []))
   pub with_loss : next stiff newer20 older20
       ≡ ring5 (row5 (minus 6) (pos 12) (minus 4) (row5 (minus 2) (minus 4) (pos 4) (ring5 [])))
-  pub with_hit : next_level stiff (At 12 (pos 7)) older20 newer20
+  pub with_hit : next_level stiff (hit_at 12 (pos 7)) older20 newer20
       ≡ ring5 (row5 (minus 6) (pos 12) (minus 4) (row5 (minus 2) (pos 3) (pos 4) (ring5 [])))
   -- without stiffness a plate is a rectangular membrane
   pub as_membrane : next (instrument 7 5 4 20000 0 100) newer20 older20 ≡ next (instrument 5 5 4 20000 0 100) newer20 older20
   -- inexact points: of `corner`, of a corner of 8, of `with_loss`
   pub counts :
-      inexact_in (bent 5 5) Absent [] (ring5 (row5 (pos 16) (pos 0) (pos 0) (ring5 (ring5 (ring5 []))))) ∷
-      inexact_in (bent 5 5) Absent [] (ring5 (row5 (pos 8) (pos 0) (pos 0) (ring5 (ring5 (ring5 []))))) ∷
-      inexact_in stiff Absent older20 newer20 ∷ []
+      inexact_in (bent 5 5) None [] (ring5 (row5 (pos 16) (pos 0) (pos 0) (ring5 (ring5 (ring5 []))))) ∷
+      inexact_in (bent 5 5) None [] (ring5 (row5 (pos 8) (pos 0) (pos 0) (ring5 (ring5 (ring5 []))))) ∷
+      inexact_in stiff None older20 newer20 ∷ []
       ≡ 0 ∷ 2 ∷ 6 ∷ []
   -- ---- 1, 2, 4, 5, 7, 12, plucks and readings
   -- "sizes as kind 5"
@@ -83,37 +82,37 @@ pub record PlatesHold : Type 0 where
       ≡ 0 ∷ 5 ∷ 0 ∷ 5 ∷ 0 ∷ 5 ∷ 0 ∷ 5 ∷ []
   -- m above 0 for kinds 4 and 7 alone
   pub stiff_kinds :
-      map (λ k. number (instrument_refusal (instrument k 5 5 0 1 0))) (5 ∷ 6 ∷ 7 ∷ [])
+      map (λ k. number_of (instrument_refusal (instrument k 5 5 0 1 0))) (5 ∷ 6 ∷ 7 ∷ [])
       ≡ 5 ∷ 5 ∷ 0 ∷ []
   pub coefficients : refused_by 5 4 65537 0 ∷ refused_by 5 4 0 65537 ∷ refused_by 5 4 65536 0 ∷ refused_by 5 4 0 65536 ∷ []
       ≡ 4 ∷ 4 ∷ 5 ∷ 5 ∷ []
   -- "its outer ring fixed": 6 of the 20 points of 5 × 4 move, 1 of 3 × 3
   pub ring_points : count_below 20 (moving (grid 7 5 4)) ∷ count_below 9 (moving (grid 7 3 3)) ∷ [] ≡ 6 ∷ 1 ∷ []
   pub hits :
-      map (λ p. number (block_refusal (bent 3 3) rest9 rest9 false 4 (At p (pos 1)))) (0 ∷ 1 ∷ 3 ∷ 4 ∷ 5 ∷ 7 ∷ 8 ∷ 9 ∷ [])
+      map (λ p. number_of (block_refusal (bent 3 3) rest9 rest9 false 4 (hit_at p (pos 1)))) (0 ∷ 1 ∷ 3 ∷ 4 ∷ 5 ∷ 7 ∷ 8 ∷ 9 ∷ [])
       ≡ 7 ∷ 7 ∷ 7 ∷ 0 ∷ 7 ∷ 7 ∷ 7 ∷ 7 ∷ []
   pub fixed_points :
-      number (block_refusal (bent 3 3) (level (0 ∷ 1 ∷ 0 ∷ 0 ∷ 0 ∷ 0 ∷ 0 ∷ 0 ∷ 0 ∷ [])) rest9 false 4 Absent)
-      ∷ number (block_refusal (bent 3 3) rest9 (level (0 ∷ 0 ∷ 0 ∷ 0 ∷ 0 ∷ 1 ∷ 0 ∷ 0 ∷ 0 ∷ [])) false 4 Absent)
-      ∷ number (block_refusal (bent 3 3) rest9 (middle9 (pos 1)) false 4 Absent) ∷ []
+      number_of (block_refusal (bent 3 3) (level (0 ∷ 1 ∷ 0 ∷ 0 ∷ 0 ∷ 0 ∷ 0 ∷ 0 ∷ 0 ∷ [])) rest9 false 4 None)
+      ∷ number_of (block_refusal (bent 3 3) rest9 (level (0 ∷ 0 ∷ 0 ∷ 0 ∷ 0 ∷ 1 ∷ 0 ∷ 0 ∷ 0 ∷ [])) false 4 None)
+      ∷ number_of (block_refusal (bent 3 3) rest9 (middle9 (pos 1)) false 4 None) ∷ []
       ≡ 12 ∷ 12 ∷ 0 ∷ []
   -- "1 now admits kind 7 except for plucks": a pluck of a plate, a reading of it and of kind 8
   pub other_calls :
-      number (pluck_refusal (grid 7 3 3) 9 9 4 1 (pos 1)) ∷ number (reading_refusal (grid 7 3 3) rest9 4)
-      ∷ number (reading_refusal (grid 8 3 3) rest9 4) ∷ []
+      number_of (pluck_refusal (grid 7 3 3) 9 9 4 1 (pos 1)) ∷ number_of (reading_refusal (grid 7 3 3) rest9 4)
+      ∷ number_of (reading_refusal (grid 8 3 3) rest9 4) ∷ []
       ≡ 1 ∷ 0 ∷ 1 ∷ []
   -- ---- a block, energy and book
   -- the next value is u − p + f: four sample units, four again, 0; the hit of the second block passes the ceiling
   pub block_ended :
-      (block (bent 3 3) rest9 rest9 rest9 (level (7 ∷ 7 ∷ 7 ∷ [])) 4 (At 4 (pos 1073741824)) ≡ record {
-        answer = record { steps = 3; inexact = 0; refusal = Nothing };
+      (block (bent 3 3) rest9 rest9 rest9 (level (7 ∷ 7 ∷ 7 ∷ [])) 4 (hit_at 4 (pos 1073741824)) ≡ record {
+        answer = record { steps = 3; inexact = 0; outcome = Ok tt };
         older = middle9 (pos 1073741824);
         newer = middle9 (pos 0);
         work = rest9;
         samples = level (4 ∷ 4 ∷ 0 ∷ []);
       }) ×
-      (block (bent 3 3) rest9 (middle9 (pos 8795824586752)) rest9 (level (7 ∷ 7 ∷ [])) 4 (At 4 (pos 1)) ≡ record {
-        answer = record { steps = 0; inexact = 0; refusal = NextBeyond };
+      (block (bent 3 3) rest9 (middle9 (pos 8795824586752)) rest9 (level (7 ∷ 7 ∷ [])) 4 (hit_at 4 (pos 1)) ≡ record {
+        answer = record { steps = 0; inexact = 0; outcome = Err NextBeyond };
         older = rest9;
         newer = middle9 (pos 8795824586752);
         work = rest9;
@@ -122,7 +121,7 @@ pub record PlatesHold : Type 0 where
   -- times 2D
   pub energies : energy stiff (point newer20) (point older20) ≡ pos 46191416
   -- "Plates are owed the same rounding, energy rule and distance as drumheads": after one step the book's newer is the numerator
-  pub book : (calls (block_call (bent 3 3) rest9 (level (0 ∷ [])) 4 Absent ∷ []) (start (middle9 (pos 1)) (middle9 (pos 3)))).state
+  pub book : (calls (block_call (bent 3 3) rest9 (level (0 ∷ [])) 4 None ∷ []) (start (middle9 (pos 1)) (middle9 (pos 3)))).state
       ≡ record {
         older = middle9 (pos 3);
         newer = middle9 (pos 2);

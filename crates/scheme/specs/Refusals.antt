@@ -1,21 +1,20 @@
 -- "Refusals from the input", "Refusals from the state": a test for each number, their order, and the checks of each call.
 use Rattle.std.specs.Prelude.{◌≡◌, Bool, true, false, not, ◌&&◌, ◌||◌, cond, List, [], ◌∷◌, ◌++◌, ℕ, ◌-◌, T, leb, ltb, eqb, ℤ, nat_abs}
-use Rattle.std.specs.Prelude.{length}
+use Rattle.std.specs.Prelude.{length, Option, Some, None, Result, Ok, Err}
 use Rattle.types.specs.declared.Settings.{Settings}
 use Rattle.types.specs.declared.Grid.{Grid}
 use Rattle.types.specs.declared.Instrument.{Instrument}
 use Rattle.types.specs.declared.Hit.{Hit}
-use Rattle.types.specs.declared.Hit.TheVariants.{Absent, At}
 use Rattle.types.specs.declared.Refusal.{Refusal}
-use Rattle.types.specs.declared.Refusal.TheVariants.{Nothing, UnknownKind, WrongSize, Coefficient, Unstable, WrongLength, NotMoving}
+use Rattle.types.specs.declared.Refusal.TheVariants.{UnknownKind, WrongSize, Coefficient, Unstable, WrongLength, NotMoving}
 use Rattle.types.specs.declared.Refusal.TheVariants.{TooStrong, PickUp, HalfWidth, PointBeyond, FixedNotZero, BrokenTable}
-use Rattle.types.specs.Numbers.{D, number}
+use Rattle.types.specs.Numbers.{D, number, hit_at, number_of}
 use Rattle.pluck_table.specs.Loading.{loaded_table, loaded_number}
 use Rattle.scheme.specs.Lists.{point, some_below}
 use Rattle.scheme.specs.Instruments.{kind, beyond, points, within, in_table, stable_in, fixed, moving}
 use Rattle.scheme.specs.Step.{some_beyond}
 
--- the paper's number of each, 0 for none, is `number` of crate types
+-- the paper's number of each is `number` of crate types, that of an outcome, 0 for none, `number_of`
 
 -- the last kind, and the last that a pluck admits
 abbrev pub last_kind : ℕ
@@ -45,14 +44,14 @@ abbrev pub wrong_length : Grid → ℕ → Bool
 wrong_length g n = not (eqb n (points g))
 
 -- 7 "Hit or pluck centre not a moving point"
-abbrev pub not_moving : Grid → Hit → Bool
-not_moving g Absent = false
-not_moving g (At p f) = not (moving g p)
+abbrev pub not_moving : Grid → Option Hit → Bool
+not_moving g None = false
+not_moving g (Some h) = not (moving g h.point)
 
 -- 8 "Force or height beyond the ceiling"
-abbrev pub too_strong : Hit → Bool
-too_strong Absent = false
-too_strong (At p f) = beyond f
+abbrev pub too_strong : Option Hit → Bool
+too_strong None = false
+too_strong (Some h) = beyond h.force
 
 -- 9 "Pick-up not a grid point"
 abbrev pub not_grid_point : Grid → ℕ → Bool
@@ -80,9 +79,9 @@ pub data Check : Type 0 where
   ◌⇒◌ : Bool → Refusal → Check
 
 -- the first that applies of checks in order
-abbrev pub lowest : List Check → Refusal
-lowest [] = Nothing
-lowest ((true ⇒ r) ∷ cs) = r
+abbrev pub lowest : List Check → Result Unit Refusal
+lowest [] = Ok tt
+lowest ((true ⇒ r) ∷ cs) = Err r
 lowest ((false ⇒ r) ∷ cs) = lowest cs
 
 -- "The lowest number that applies answers": the order of all numbers; 14 is "checked after 10"
@@ -114,7 +113,7 @@ abbrev pub length_checks : (wrong : Bool) → List Check
 length_checks wrong = wrong ⇒ WrongLength ∷ []
 
 -- 7 and 8
-abbrev pub hit_checks : Grid → Hit → List Check
+abbrev pub hit_checks : Grid → Option Hit → List Check
 hit_checks g h = not_moving g h ⇒ NotMoving ∷ too_strong h ⇒ TooStrong ∷ []
 
 -- 9
@@ -136,32 +135,32 @@ state_checks high unfixed = high ⇒ PointBeyond ∷ unfixed ⇒ FixedNotZero �
 -- ---- the checks of each call
 
 -- "Refusals from the input" of a block: 1, 2 and 4 to 9
-abbrev pub input_checks : Instrument → (wrong : Bool) → ℕ → Hit → List Check
+abbrev pub input_checks : Instrument → (wrong : Bool) → ℕ → Option Hit → List Check
 input_checks i wrong pick h = instrument_checks i ++ (length_checks wrong ++ (hit_checks i.grid h ++ pick_checks i.grid pick))
 
 -- "A block meets 1, 2, 4 to 9 and 11 to 13, with 7 and 8 only if a hit is given": all but 13; `wrong` is 6's test of what else is lent
-abbrev pub block_checks : Instrument → (older newer : List ℤ) → (wrong : Bool) → ℕ → Hit → List Check
+abbrev pub block_checks : Instrument → (older newer : List ℤ) → (wrong : Bool) → ℕ → Option Hit → List Check
 block_checks i older newer wrong pick h =
     let g = i.grid in
     input_checks i (wrong_length g (length older) || wrong_length g (length newer) || wrong) pick h ++
     state_checks (some_beyond older || some_beyond newer) (fixed_not_zero g older || fixed_not_zero g newer)
 
-unfoldable pub block_refusal : Instrument → (older newer : List ℤ) → (wrong : Bool) → ℕ → Hit → Refusal
+unfoldable pub block_refusal : Instrument → (older newer : List ℤ) → (wrong : Bool) → ℕ → Option Hit → Result Unit Refusal
 block_refusal i older newer wrong pick h = lowest (block_checks i older newer wrong pick h)
 
 -- "A pluck (kind, columns, rows, two levels, centre, half width, height) meets 1, 2, 6, 7, 8 and 10": centre c, half width w, height a
 abbrev pub pluck_checks : Grid → (wrong : Bool) → ℕ → ℕ → ℤ → List Check
-pluck_checks g wrong c w a = grid_checks last_plucked g ++ (length_checks wrong ++ (hit_checks g (At c a) ++ width_checks g w))
+pluck_checks g wrong c w a = grid_checks last_plucked g ++ (length_checks wrong ++ (hit_checks g (hit_at c a) ++ width_checks g w))
 
 -- "A pluck looks at lent lengths, not at old contents."
-unfoldable pub pluck_refusal : Grid → (older newer : ℕ) → ℕ → ℕ → ℤ → Refusal
+unfoldable pub pluck_refusal : Grid → (older newer : ℕ) → ℕ → ℕ → ℤ → Result Unit Refusal
 pluck_refusal g older newer c w a = lowest (pluck_checks g (wrong_length g older || wrong_length g newer) c w a)
 
 -- a pluck by a lent table: "14 .. checked after 10"
 abbrev pub pluck_with_checks : Grid → (wrong : Bool) → ℕ → ℕ → ℤ → (lent : List ℕ) → List Check
 pluck_with_checks g wrong c w a lent = pluck_checks g wrong c w a ++ table_checks lent
 
-unfoldable pub pluck_with_refusal : Grid → (older newer : ℕ) → ℕ → ℕ → ℤ → (lent : List ℕ) → Refusal
+unfoldable pub pluck_with_refusal : Grid → (older newer : ℕ) → ℕ → ℕ → ℤ → (lent : List ℕ) → Result Unit Refusal
 pluck_with_refusal g older newer c w a lent = lowest (pluck_with_checks g (wrong_length g older || wrong_length g newer) c w a lent)
 
 -- "The float reading (kind, columns, rows, newer, pick-up) meets 1, 2, 6, 9, 11 and 12"
@@ -170,20 +169,20 @@ reading_checks g newer pick =
     grid_checks last_kind g ++ (length_checks (wrong_length g (length newer)) ++
     (pick_checks g pick ++ state_checks (some_beyond newer) (fixed_not_zero g newer)))
 
-unfoldable pub reading_refusal : Grid → List ℤ → ℕ → Refusal
+unfoldable pub reading_refusal : Grid → List ℤ → ℕ → Result Unit Refusal
 reading_refusal g newer pick = lowest (reading_checks g newer pick)
 
 -- "any kind, grid and settings that 1, 2, 4 and 5 let pass"
-unfoldable pub instrument_refusal : Instrument → Refusal
+unfoldable pub instrument_refusal : Instrument → Result Unit Refusal
 instrument_refusal i = lowest (instrument_checks i)
 
 -- what 14's check answers has the number that loading has. Proved as `number_of_loading`.
 abbrev pub NumberOfLoading : Type 0
-NumberOfLoading = (lent : List ℕ) → number (lowest (table_checks lent)) ≡ loaded_number (loaded_table lent)
+NumberOfLoading = (lent : List ℕ) → number_of (lowest (table_checks lent)) ≡ loaded_number (loaded_table lent)
 
 -- each call's checks stand in `order`, so that `lowest` answers the lowest that applies
 pub record ChecksInOrder : Type 0 where
-  pub block : (i : Instrument) (older newer : List ℤ) (wrong : Bool) (pick : ℕ) (h : Hit)
+  pub block : (i : Instrument) (older newer : List ℤ) (wrong : Bool) (pick : ℕ) (h : Option Hit)
       → T (stands_in order (block_checks i older newer wrong pick h))
   pub pluck : (g : Grid) (wrong : Bool) (c w : ℕ) (a : ℤ) → T (stands_in order (pluck_checks g wrong c w a))
   pub pluck_with : (g : Grid) (wrong : Bool) (c w : ℕ) (a : ℤ) (lent : List ℕ) → T (stands_in order (pluck_with_checks g wrong c w a lent))

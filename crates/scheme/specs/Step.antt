@@ -1,6 +1,6 @@
 -- "One step".
 use Rattle.std.specs.Prelude.{◌≡◌, Bool, true, cond, not, ◌&&◌, List, ◌++◌, ℕ, suc, ◌+◌, ◌-◌, ◌*◌, ◌/◌, ◌%◌, ◌^◌, ◌≤◌, ◌<◌, ltb, eqb, Float}
-use Rattle.std.specs.Prelude.{ℤ, pos, negsuc, neg_ℤ, nat_abs, ◌+ℤ◌, ◌-ℤ◌, ◌*ℤ◌, length}
+use Rattle.std.specs.Prelude.{ℤ, pos, negsuc, neg_ℤ, nat_abs, ◌+ℤ◌, ◌-ℤ◌, ◌*ℤ◌, length, Option, Some, None}
 use Rattle.std.specs.Float.{binary64}
 use Rattle.std.specs.Float.Ieee.{of_int, div}
 use Rattle.integers.specs.Sum.{sum_over}
@@ -8,7 +8,6 @@ use Rattle.types.specs.declared.Settings.{Settings}
 use Rattle.types.specs.declared.Grid.{Grid}
 use Rattle.types.specs.declared.Instrument.{Instrument}
 use Rattle.types.specs.declared.Hit.{Hit}
-use Rattle.types.specs.declared.Hit.TheVariants.{Absent, At}
 use Rattle.types.specs.Numbers.{D, ceiling}
 use Rattle.scheme.specs.Lists.{tabulate, point, some_below, count_below, only}
 use Rattle.scheme.specs.Instruments.{beyond, points, column, row, moving, free_end}
@@ -54,20 +53,20 @@ round_away (pos n) d = pos (nearest n d)
 round_away (negsuc n) d = neg_ℤ (pos (nearest (suc n) d))
 
 -- "f is the hit's force in units at the hit point, else 0"
-abbrev pub force_of : Hit → ℕ → ℤ
-force_of Absent k = pos 0
-force_of (At p f) k = cond (eqb k p) f (pos 0)
+abbrev pub force_of : Option Hit → ℕ → ℤ
+force_of None k = pos 0
+force_of (Some h) k = cond (eqb k h.point) h.force (pos 0)
 
 -- "divided by D+s"
 abbrev pub divisor : Settings → ℕ
 divisor c = D + c.s
 
 -- "For each moving point .. the numerator .. divided by D+s and rounded"; "Fixed points remain 0"
-unfoldable pub next_at : Instrument → Hit → (older newer : List ℤ) → ℕ → ℤ
+unfoldable pub next_at : Instrument → Option Hit → (older newer : List ℤ) → ℕ → ℤ
 next_at i h older newer k = cond (moving i.grid k)
     (round_away (numerator i (point newer) (point older) (force_of h) k) (divisor i.settings)) (pos 0)
 
-unfoldable pub next_level : Instrument → Hit → (older newer : List ℤ) → List ℤ
+unfoldable pub next_level : Instrument → Option Hit → (older newer : List ℤ) → List ℤ
 next_level i h older newer = tabulate (points i.grid) (next_at i h older newer)
 
 -- ---- what rounding leaves
@@ -92,12 +91,12 @@ abbrev pub RemaindersKeepRule : Type 0
 RemaindersKeepRule = (n : ℤ) (d : ℕ) → 0 < d → RemainderRule n d
 
 -- "moving points whose numerator was not a multiple of D+s"
-unfoldable pub inexact_at : Instrument → Hit → (older newer : List ℤ) → ℕ → Bool
+unfoldable pub inexact_at : Instrument → Option Hit → (older newer : List ℤ) → ℕ → Bool
 inexact_at i h older newer k = moving i.grid k
     && not (is_multiple (numerator i (point newer) (point older) (force_of h) k) (divisor i.settings))
 
 -- "the step and every block give the count": a step
-unfoldable pub inexact_in : Instrument → Hit → (older newer : List ℤ) → ℕ
+unfoldable pub inexact_in : Instrument → Option Hit → (older newer : List ℤ) → ℕ
 inexact_in i h older newer = count_below (points i.grid) (inexact_at i h older newer)
 
 -- ---- the ceiling, and the reading

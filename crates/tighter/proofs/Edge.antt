@@ -16,7 +16,8 @@ use Rattle.integers.proofs.Sum.{sum_ext, sum_cong, sum-add, sum-scale, sum_0, su
 use Rattle.integers.proofs.Sum.{over-append, over_nonneg}
 use Rattle.forms.proofs.Level.{Level, Still}
 use Rattle.types.specs.declared.Grid.{Grid}
-use Rattle.scheme.specs.Instruments.{Kind, unknown, fixedString, halfFreeString, freeString, bar, membrane, roundMembrane, plate}
+use Rattle.types.specs.declared.Kind.{Kind}
+use Rattle.types.specs.declared.Kind.TheVariants.{Unknown, StringFixed, StringFixedFree, StringFree, Bar, MembraneRectangular, MembraneRound, Plate}
 use Rattle.scheme.specs.Instruments.{kind, within, grid_size, size_in, points, at_edge, outer_ring, fixed_in, round_edge, off_centre}
 use Rattle.scheme.specs.Instruments.{moving}
 use Rattle.scheme.specs.Instruments.{free_in, free_end}
@@ -266,7 +267,7 @@ outer_ringed K c r outer e = record {
   rows_low = (within_is 3 64 r (and_both (within 3 64 c) (within 3 64 r) e).1).0;
 }
 
-round_ringed : (c r : ℕ) → size_in roundMembrane c r ≡ true → Ringed roundMembrane c r
+round_ringed : (c r : ℕ) → size_in MembraneRound c r ≡ true → Ringed MembraneRound c r
 unfolding fixed_in size_in
 round_ringed c r e =
     let p = and_both (within 3 64 c) (eqb r c) e in
@@ -333,11 +334,11 @@ module _ (g : Grid) (size : size_in (kind g) g.columns g.rows ≡ true) where
           (λ x l. zero-at x 0 l (e.rows_fixed x 0 refl))
           (λ x l. zero-at x b l (e.rows_fixed x b (last_edge g.rows (omega (arith, e.rows_low)))))
 
-    half_held : kind g ≡ halfFreeString → size_in halfFreeString g.columns g.rows ≡ true
+    half_held : kind g ≡ StringFixedFree → size_in StringFixedFree g.columns g.rows ≡ true
         → pos 24 *ℤ weighed g c c ⩽ pos (span (2 * a)) *ℤ P
     unfolding fixed_in size_in weight free_in
     half_held k e = half_fixed g wide c ε unit u walk (eqb-true g.rows 1 (and_both (within 3 1024 g.columns) (eqb g.rows 1) e).1)
-        (ap c (omega arith) ∙ zero-at halfFreeString k 0 0 (omega (arith, wide)) refl) free
+        (ap c (omega arith) ∙ zero-at StringFixedFree k 0 0 (omega (arith, wide)) refl) free
       where
         inside : a < g.columns
         inside = omega (arith, wide)
@@ -349,16 +350,16 @@ module _ (g : Grid) (size : size_in (kind g) g.columns g.rows ≡ true) where
     held_in : (K : Kind) → kind g ≡ K → size_in K g.columns g.rows ≡ true
         → let e : Edge = edge_in K a b in pos (grip e) *ℤ weighed g c c ⩽ pos (reach e) *ℤ P
     unfolding span edge_in grip reach fixed_in size_in
-    held_in unknown k e = absurd (true≢false (sym e))
-    held_in fixedString k e = weaker (omega arith) (omega arith) (line-held fixedString k (λ x y h. h))
-    held_in halfFreeString k e = weaker (omega arith) (omega arith) (half_held k e)
-    held_in freeString k e = weaker (omega arith) (omega arith) nothing-held
-    held_in bar k e = weaker (omega arith) (omega arith) (line-held bar k (λ x y h. h))
-    held_in membrane k e = weaker (omega arith) (omega arith)
-        (grid-held membrane k (outer_ringed membrane g.columns g.rows (λ x y. refl) e))
-    held_in roundMembrane k e = weaker (omega arith) (omega arith) (grid-held roundMembrane k (round_ringed g.columns g.rows e))
-    held_in plate k e = weaker (omega arith) (omega arith)
-        (grid-held plate k (outer_ringed plate g.columns g.rows (λ x y. refl) e))
+    held_in Unknown k e = absurd (true≢false (sym e))
+    held_in StringFixed k e = weaker (omega arith) (omega arith) (line-held StringFixed k (λ x y h. h))
+    held_in StringFixedFree k e = weaker (omega arith) (omega arith) (half_held k e)
+    held_in StringFree k e = weaker (omega arith) (omega arith) nothing-held
+    held_in Bar k e = weaker (omega arith) (omega arith) (line-held Bar k (λ x y h. h))
+    held_in MembraneRectangular k e = weaker (omega arith) (omega arith)
+        (grid-held MembraneRectangular k (outer_ringed MembraneRectangular g.columns g.rows (λ x y. refl) e))
+    held_in MembraneRound k e = weaker (omega arith) (omega arith) (grid-held MembraneRound k (round_ringed g.columns g.rows e))
+    held_in Plate k e = weaker (omega arith) (omega arith)
+        (grid-held Plate k (outer_ringed Plate g.columns g.rows (λ x y. refl) e))
 
     held_by : pos (grip (edge g)) *ℤ weighed g c c ⩽ pos (reach (edge g)) *ℤ P
     held_by = held_in (kind g) refl size

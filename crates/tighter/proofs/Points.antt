@@ -15,7 +15,8 @@ use Rattle.integers.proofs.Sum.{sum_nonneg}
 use Rattle.types.specs.declared.Instrument.{Instrument}
 use Rattle.types.specs.Numbers.{D}
 use Rattle.scheme.specs.Lists.{square}
-use Rattle.scheme.specs.Instruments.{kind_of, points, free_in}
+use Rattle.types.specs.Numbers.{kind_of}
+use Rattle.scheme.specs.Instruments.{points, free_in}
 use Rattle.scheme.specs.Energy.{weight, squares}
 use Rattle.scheme.specs.Book.{LastStep, no_step, step_of, scale, start, calls}
 use Rattle.scheme.specs.Claims.{distance, Near}

@@ -32,6 +32,7 @@ use Rattle.tighter.specs.Claims.{OfSteps, After, OfEveryList, difference, OfPoin
 use Rattle.tighter.specs.Samples.{OfSamples, EachSample, OfEverySample, OfProgramSamples, sample_error, beyond_half, SampleWithin}
 use Rattle.tighter.specs.Samples.{SampleBound, VoiceSampleWithin, VoiceSamples, SampleBounds, ProgramSamples}
 use Rattle.tighter.proofs.Points as P
+use Rattle.std.specs.Prelude.{Option, Result}
 
 -- ---- the read-out: half a sample unit
 
@@ -84,12 +85,12 @@ module _ (C : OfSteps) (S : OfSamples)
   unfolding calls
   whatever_next k t w ks = w (k ∷ ks)
 
-  block_samples : (i : Instrument) (work samples : List ℤ) (pick : ℕ) (h : Hit) (t : State) → Whatever t
+  block_samples : (i : Instrument) (work samples : List ℤ) (pick : ℕ) (h : Option Hit) (t : State) → Whatever t
       → EachSample S t (block_call i work samples pick h) (called (block_call i work samples pick h) t).outcome
   unfolding calls leaves book_block
   block_samples i work samples pick h t w = go (accepted refused) refl
     where
-      refused : Refusal
+      refused : Result Unit Refusal
       refused = block_refusal i t.older t.newer (wrong_length i.grid (length work)) pick h
 
       done : AfterBlock
@@ -115,7 +116,7 @@ module _ (C : OfSteps) (S : OfSamples)
           (subst AfterHere (block_cut i work samples pick h t z j l') (w (block_call i work (replicate (suc j) (pos 0)) pick h ∷ [])))))
 
   -- on two levels: those of a block with a work level of zeros
-  in_place_samples : (i : Instrument) (samples : List ℤ) (pick : ℕ) (h : Hit) (t : State) → Whatever t
+  in_place_samples : (i : Instrument) (samples : List ℤ) (pick : ℕ) (h : Option Hit) (t : State) → Whatever t
       → EachSample S t (in_place_call i samples pick h) (called (in_place_call i samples pick h) t).outcome
   unfolding leaves block_in_place
   in_place_samples i samples pick h t w = block_samples i (replicate (points i.grid) (pos 0)) samples pick h t w

@@ -5,7 +5,8 @@ use Rattle.types.specs.declared.Grid.{Grid}
 use Rattle.types.specs.declared.Instrument.{Instrument}
 use Rattle.types.specs.Numbers.{D}
 use Rattle.scheme.specs.Lists.{square}
-use Rattle.scheme.specs.Instruments.{Kind, unknown, fixedString, halfFreeString, freeString, bar, membrane, roundMembrane, plate}
+use Rattle.types.specs.declared.Kind.{Kind}
+use Rattle.types.specs.declared.Kind.TheVariants.{Unknown, StringFixed, StringFixedFree, StringFree, Bar, MembraneRectangular, MembraneRound, Plate}
 use Rattle.scheme.specs.Instruments.{kind, points}
 use Rattle.scheme.specs.Step.{divisor}
 use Rattle.scheme.specs.Book.{scale}
@@ -24,14 +25,14 @@ pub data Edge : Type 0 where
 
 -- a row with one end free counts as half of a row twice as long, its mirror image the other half
 unfoldable pub edge_in : Kind → (a b : ℕ) → Edge
-edge_in unknown a b = no_edge
-edge_in fixedString a b = both_ends a
-edge_in halfFreeString a b = both_ends (2 * a)
-edge_in freeString a b = no_edge
-edge_in bar a b = both_ends a
-edge_in membrane a b = all_round a b
-edge_in roundMembrane a b = all_round a b
-edge_in plate a b = all_round a b
+edge_in Unknown a b = no_edge
+edge_in StringFixed a b = both_ends a
+edge_in StringFixedFree a b = both_ends (2 * a)
+edge_in StringFree a b = no_edge
+edge_in Bar a b = both_ends a
+edge_in MembraneRectangular a b = all_round a b
+edge_in MembraneRound a b = all_round a b
+edge_in Plate a b = all_round a b
 
 -- a grid has a step less across than it has columns, and a step less down than rows
 abbrev pub edge : Grid → Edge

@@ -1,6 +1,6 @@
 -- What is heard: every sample that a block writes, beside the unrounded scheme after as many steps.
 -- Proofs: `sample_bound`, `voice_samples`, `sample_bounds`, `program_samples` in proofs/Samples.
-use Rattle.std.specs.Prelude.{◌≡◌, List, ℕ, suc, ◌-◌, ◌*◌, ◌^◌, ◌≤◌, ◌<◌, ℤ, pos, nat_abs, ◌-ℤ◌, ◌*ℤ◌, ◌≤ℤ◌}
+use Rattle.std.specs.Prelude.{◌≡◌, List, ℕ, suc, ◌-◌, ◌*◌, ◌^◌, ◌≤◌, ◌<◌, ℤ, pos, nat_abs, ◌-ℤ◌, ◌*ℤ◌, ◌≤ℤ◌, Option}
 use Rattle.types.specs.declared.Instrument.{Instrument}
 use Rattle.types.specs.declared.Hit.{Hit}
 use Rattle.scheme.specs.Lists.{point, square}
@@ -20,7 +20,7 @@ abbrev pub OfSamples : Type 1
 OfSamples = Instrument → (n pick : ℕ) (x v : ℤ) → Type 0
 
 -- each sample of a block's steps done, beside the book after as many of them
-abbrev pub OfBlock : OfSamples → State → Instrument → ℕ → Hit → Outcome → Type 0
+abbrev pub OfBlock : OfSamples → State → Instrument → ℕ → Option Hit → Outcome → Type 0
 OfBlock P t i pick h o = (j : ℕ) → j < steps_of o →
     let b = book_block i h t.older t.newer (suc j) t.book in P i b.n pick (point (samples_of o) j) (point b.newer pick)
 

@@ -2,7 +2,7 @@
 #![tactic(auto)]
 
 ghost use Rattle.std.specs.Prelude.{◌≡◌, pos};
-ghost use Rattle.types.specs.Numbers.{D, ceiling, kind_numbers, number};
+ghost use Rattle.types.specs.Numbers.{D, ceiling, kind_of, number, number_of};
 
 // q for the squared Courant number, m for the stiffness, s for the loss: whole numbers over D.
 #[derive(Clone, Copy)]
@@ -41,7 +41,41 @@ impl Settings {
     }
 }
 
-// A kind, and the size of its grid.
+// The kinds, in the order of their numbers, by the names of the C header; every number from 8 on is of an unknown one, as 0 is.
+#[derive(Clone, Copy, PartialEq, Eq)]
+pub enum Kind {
+    Unknown,
+    StringFixed,
+    StringFixedFree,
+    StringFree,
+    Bar,
+    MembraneRectangular,
+    MembraneRound,
+    Plate,
+}
+
+impl From<u64> for Kind {
+    ghost from_gives = { λ k r. r ≡ kind_of k };
+
+    // Ruled out: a bar and a rectangular membrane exchanged; 8 taken for a plate.
+    #[tactic(auto, unfolding(crate::specs::Numbers::kind_of))]
+    fn from(number: u64) -> Kind
+        ensures { result ≡ kind_of number }
+    {
+        match number {
+            1 => Kind::StringFixed,
+            2 => Kind::StringFixedFree,
+            3 => Kind::StringFree,
+            4 => Kind::Bar,
+            5 => Kind::MembraneRectangular,
+            6 => Kind::MembraneRound,
+            7 => Kind::Plate,
+            _ => Kind::Unknown,
+        }
+    }
+}
+
+// A kind's number, and the size of its grid. The number may be any: a call answers that no kind has it.
 #[derive(Clone, Copy)]
 pub struct Grid {
     pub kind: u64,
@@ -50,42 +84,12 @@ pub struct Grid {
 }
 
 impl Grid {
-    // The kinds, by the names of the C header.
-    pub const STRING_FIXED: u64 = 1;
+    // The first kind's number, the last, and the last that a pluck admits.
+    pub const FIRST: u64 = 1;
 
-    pub const STRING_FIXED_FREE: u64 = 2;
+    pub const LAST: u64 = 7;
 
-    pub const STRING_FREE: u64 = 3;
-
-    pub const BAR: u64 = 4;
-
-    pub const MEMBRANE_RECTANGULAR: u64 = 5;
-
-    pub const MEMBRANE_ROUND: u64 = 6;
-
-    pub const PLATE: u64 = 7;
-
-    // The first kind, the last, and the last that a pluck admits.
-    pub const FIRST: u64 = Grid::STRING_FIXED;
-
-    pub const LAST: u64 = Grid::PLATE;
-
-    pub const LAST_PLUCKED: u64 = Grid::BAR;
-
-    // The kinds' numbers, tied to the definitions'. Ruled out: a bar and a rectangular membrane exchanged.
-    pub(crate) fn kind_numbers() -> [u64; 7]
-        ensures { result ≡ kind_numbers }
-    {
-        [
-            Grid::STRING_FIXED,
-            Grid::STRING_FIXED_FREE,
-            Grid::STRING_FREE,
-            Grid::BAR,
-            Grid::MEMBRANE_RECTANGULAR,
-            Grid::MEMBRANE_ROUND,
-            Grid::PLATE,
-        ]
-    }
+    pub const LAST_PLUCKED: u64 = 4;
 
     // Ruled out: columns and rows exchanged; one row whatever is asked.
     pub fn new(kind: u64, columns: usize, rows: usize) -> Grid
@@ -106,18 +110,17 @@ pub struct Instrument {
     pub settings: Settings,
 }
 
-// A block's hit, if any, acts in its first step. The definition `force_of` tells the force on each point.
+// A block's hit acts in its first step. The definition `force_of` tells the force on each point.
 #[derive(Clone, Copy)]
-pub enum Hit {
-    Absent,
-    At { point: usize, force: i64 },
+pub struct Hit {
+    pub point: usize,
+    pub force: i64,
 }
 
-// What refuses a call, if anything does. The definition `number` tells the paper's number of each.
-#[derive(Clone, Copy)]
+// What refuses a call. The definition `number` tells the paper's number of each.
+#[derive(Clone, Copy, PartialEq, Eq)]
 pub enum Refusal {
-    Nothing,
-    UnknownKind,
+    UnknownKind = 1,
     WrongSize,
     SheetNumber,
     Coefficient,
@@ -134,27 +137,24 @@ pub enum Refusal {
 }
 
 impl Refusal {
-    // The paper's number of each, 0 for none. Ruled out: 13 answered as 12; 3 answered as 0; 14 answered as 10.
+    // The paper's number of each. Ruled out: 13 answered as 12; 3 answered as 0; 14 answered as 10.
     pub fn number(self) -> u64
         ensures { result ≡ number self }
     {
-        match self {
-            Refusal::Nothing => 0,
-            Refusal::UnknownKind => 1,
-            Refusal::WrongSize => 2,
-            Refusal::SheetNumber => 3,
-            Refusal::Coefficient => 4,
-            Refusal::Unstable => 5,
-            Refusal::WrongLength => 6,
-            Refusal::NotMoving => 7,
-            Refusal::TooStrong => 8,
-            Refusal::PickUp => 9,
-            Refusal::HalfWidth => 10,
-            Refusal::PointBeyond => 11,
-            Refusal::FixedNotZero => 12,
-            Refusal::NextBeyond => 13,
-            Refusal::BrokenTable => 14,
-        }
+        self as u64
+    }
+}
+
+// That a call is carried out, or what refuses it.
+pub type Outcome = Result<(), Refusal>;
+
+// The number of an outcome, 0 where the call is carried out. Ruled out: 1 for a call that is carried out; 0 for a refused one.
+pub fn number_of(outcome: Outcome) -> u64
+    ensures { result ≡ number_of outcome }
+{
+    match outcome {
+        Ok(()) => 0,
+        Err(refusal) => refusal.number(),
     }
 }
 
@@ -163,12 +163,5 @@ impl Refusal {
 pub struct BlockAnswer {
     pub steps: usize,
     pub inexact: u64,
-    pub refusal: Refusal,
-}
-
-// The float reading's answer: 0 where it is refused.
-#[derive(Clone, Copy)]
-pub struct ReadingAnswer {
-    pub value: f64,
-    pub refusal: Refusal,
+    pub outcome: Outcome,
 }

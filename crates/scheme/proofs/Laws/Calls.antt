@@ -9,16 +9,13 @@ use native.Mathlib.Decide.{dec_lt}
 use native.Mathlib.Omega.{arith}
 use borrow.Author.Tests.{lt-ltb, le-ltb, eq-eqb}
 use lib.Dec.{ltb}
-use lib.Ieee.{binary64, of_int}
 use lib.IntN.{ℤ, pos, nat_abs}
 use lib.ListN.{length, replicate, length-replicate}
 use Rattle.types.specs.declared.Grid.{Grid}
 use Rattle.types.specs.declared.Instrument.{Instrument}
 use Rattle.types.specs.declared.Hit.{Hit}
-use Rattle.types.specs.declared.Hit.TheVariants.{Absent}
 use Rattle.types.specs.declared.Refusal.{Refusal}
-use Rattle.types.specs.declared.Refusal.TheVariants.{Nothing, NextBeyond, BrokenTable}
-use Rattle.pluck_table.specs.declared.LoadedTable.{LoadedTable}
+use Rattle.types.specs.declared.Refusal.TheVariants.{NextBeyond, BrokenTable}
 use Rattle.pluck_table.specs.Table.{table}
 use Rattle.pluck_table.specs.Loading.{loaded_number}
 use Rattle.pluck_table.proofs.LoadingLaws.{table_loads}
@@ -38,9 +35,10 @@ use Rattle.scheme.proofs.Laws.Bools.{cases}
 use Rattle.scheme.proofs.Laws.Lists.{none_below}
 use Rattle.scheme.proofs.Laws.Step.{fixed-still, length-next, next-fixed}
 use Rattle.scheme.proofs.Laws.Refusals.{last_passed, accepted_is, block_passes}
+use Rattle.std.specs.Prelude.{Option, None, Result, Ok, Err}
 
 -- a next level within the ceiling passes
-pub next_passes : (i : Instrument) (h : Hit) (older newer : List ℤ) → some_beyond (next_level i h older newer) ≡ false
+pub next_passes : (i : Instrument) (h : Option Hit) (older newer : List ℤ) → some_beyond (next_level i h older newer) ≡ false
     → LevelPasses i.grid (next_level i h older newer)
 unfolding fixed_not_zero
 next_passes i h older newer e = record {
@@ -53,15 +51,15 @@ next_passes i h older newer e = record {
 
 -- ---- the steps of a block
 
-module _ (i : Instrument) (pick : ℕ) (h : Hit) (older newer : List ℤ) (x : ℤ) (xs : List ℤ) where
-  pub play-ends : some_beyond (next_level i h older newer) ≡ true → play i pick h older newer (x ∷ xs) ≡ ended NextBeyond older newer
+module _ (i : Instrument) (pick : ℕ) (h : Option Hit) (older newer : List ℤ) (x : ℤ) (xs : List ℤ) where
+  pub play-ends : some_beyond (next_level i h older newer) ≡ true → play i pick h older newer (x ∷ xs) ≡ ended (Err NextBeyond) older newer
       (x ∷ xs)
   unfolding play
   play-ends e = simp e
 
   pub play_goes : some_beyond (next_level i h older newer) ≡ false
       → play i pick h older newer (x ∷ xs) ≡ one_more (sample_of (point (next_level i h older newer) pick)) (inexact_in i h older newer)
-      (play i pick Absent newer (next_level i h older newer) xs)
+      (play i pick None newer (next_level i h older newer) xs)
   unfolding play
   play_goes e = simp e
 
@@ -78,22 +76,22 @@ stands_behind i pick h older newer [] = record {
   ends = inl (refl, refl);
 }
 stands_behind i pick h older newer (x ∷ xs) = go (some_beyond (next_level i h older newer)) refl
-    (stands_behind i pick Absent newer (next_level i h older newer) xs)
+    (stands_behind i pick None newer (next_level i h older newer) xs)
   where
     next : List ℤ
     next = next_level i h older newer
 
     rest : AfterSteps
-    rest = play i pick Absent newer next xs
+    rest = play i pick None newer next xs
 
     P : Bool → AfterSteps
-    P t = cond t (ended NextBeyond older newer (x ∷ xs)) (one_more (sample_of (point next pick)) (inexact_in i h older newer) rest)
+    P t = cond t (ended (Err NextBeyond) older newer (x ∷ xs)) (one_more (sample_of (point next pick)) (inexact_in i h older newer) rest)
 
-    same : (k : ℕ) → hit_after Absent k ≡ Absent
+    same : (k : ℕ) → hit_after None k ≡ None
     same zero = refl
     same (suc k) = refl
 
-    go : (t : Bool) → some_beyond next ≡ t → StandsBehind i pick Absent newer next xs rest → StandsBehind i pick h older newer (x ∷ xs)
+    go : (t : Bool) → some_beyond next ≡ t → StandsBehind i pick None newer next xs rest → StandsBehind i pick h older newer (x ∷ xs)
         (P t)
     go true e w = record {
       older_is = refl;
@@ -116,12 +114,12 @@ stands_behind i pick h older newer (x ∷ xs) = go (some_beyond (next_level i h 
       ends = over w.ends;
     }
       where
-        low-at : (j : ℕ) → j < suc rest.answer.steps → some_beyond (levels_after i Absent j newer next).newer ≡ false
+        low-at : (j : ℕ) → j < suc rest.answer.steps → some_beyond (levels_after i None j newer next).newer ≡ false
         low-at zero p = e
         low-at (suc j) p = w.low j (omega arith)
 
         sampled_at : (j : ℕ) → j < suc rest.answer.steps → point (sample_of (point next pick) ∷ rest.samples) j
-            ≡ sample_of (point (levels_after i Absent j newer next).newer pick)
+            ≡ sample_of (point (levels_after i None j newer next).newer pick)
         sampled_at zero p = refl
         sampled_at (suc j) p = w.sampled j (omega arith)
 
@@ -129,38 +127,38 @@ stands_behind i pick h older newer (x ∷ xs) = go (some_beyond (next_level i h 
         later-at zero p = absurd (omega arith)
         later-at (suc j) p = w.later j (omega arith)
 
-        over : ((rest.answer.refusal ≡ Nothing) × (rest.answer.steps ≡ length xs))
-            ⊎ ((rest.answer.refusal ≡ NextBeyond) × (rest.answer.steps < length xs)
-            × (some_beyond (next_level i (hit_after Absent rest.answer.steps) rest.older rest.newer) ≡ true))
-            → ((rest.answer.refusal ≡ Nothing) × (suc rest.answer.steps ≡ suc (length xs)))
-            ⊎ ((rest.answer.refusal ≡ NextBeyond) × (suc rest.answer.steps < suc (length xs))
-            × (some_beyond (next_level i Absent rest.older rest.newer) ≡ true))
+        over : ((rest.answer.outcome ≡ Ok tt) × (rest.answer.steps ≡ length xs))
+            ⊎ ((rest.answer.outcome ≡ Err NextBeyond) × (rest.answer.steps < length xs)
+            × (some_beyond (next_level i (hit_after None rest.answer.steps) rest.older rest.newer) ≡ true))
+            → ((rest.answer.outcome ≡ Ok tt) × (suc rest.answer.steps ≡ suc (length xs)))
+            ⊎ ((rest.answer.outcome ≡ Err NextBeyond) × (suc rest.answer.steps < suc (length xs))
+            × (some_beyond (next_level i None rest.older rest.newer) ≡ true))
         over (inl u) = inl (u.0, ap suc u.1)
         over (inr u) = inr (
           u.0,
           omega (arith, u.1),
-          ap (λ (h : Hit). some_beyond (next_level i h rest.older rest.newer)) (sym (same rest.answer.steps)) ∙ u.2,
+          ap (λ (h : Option Hit). some_beyond (next_level i h rest.older rest.newer)) (sym (same rest.answer.steps)) ∙ u.2,
         )
 
 -- where no step would pass the ceiling, as many are done as there are places
-pub all_done : (i : Instrument) (pick : ℕ) (h : Hit) (older newer places : List ℤ)
+pub all_done : (i : Instrument) (pick : ℕ) (h : Option Hit) (older newer places : List ℤ)
     → ((j : ℕ) → j < length places → some_beyond (levels_after i h (suc j) older newer).newer ≡ false)
     → (play i pick h older newer places).answer.steps ≡ length places
 unfolding play levels_after
 all_done i pick h older newer [] low = refl
 all_done i pick h older newer (x ∷ xs) low =
     ap (λ (p : AfterSteps). p.answer.steps) (play_goes i pick h older newer x xs (low zero (omega arith))) ∙
-    ap suc (all_done i pick Absent newer (next_level i h older newer) xs (λ j p. low (suc j) (omega arith)))
+    ap suc (all_done i pick None newer (next_level i h older newer) xs (λ j p. low (suc j) (omega arith)))
 
 -- levels that passed before k steps within the ceiling pass after them
-pub after_passes : (i : Instrument) (h : Hit) (k : ℕ) (older newer : List ℤ)
+pub after_passes : (i : Instrument) (h : Option Hit) (k : ℕ) (older newer : List ℤ)
     → ((j : ℕ) → j < k → some_beyond (levels_after i h (suc j) older newer).newer ≡ false)
     → LevelPasses i.grid older → LevelPasses i.grid newer → LevelPasses i.grid (levels_after i h k older newer).older
     × LevelPasses i.grid (levels_after i h k older newer).newer
 unfolding levels_after
 after_passes i h zero older newer low a b = (a, b)
 after_passes i h (suc k) older newer low a b =
-    after_passes i Absent k newer (next_level i h older newer) (λ j p. low (suc j) (omega arith)) b
+    after_passes i None k newer (next_level i h older newer) (λ j p. low (suc j) (omega arith)) b
     (next_passes i h older newer (low zero (omega arith)))
 
 -- ---- the count of a block
@@ -202,8 +200,8 @@ capped-add a b = go (dec_lt a (2 ^ 64))
 
 -- ---- a block
 
-module _ (i : Instrument) (older newer work samples : List ℤ) (pick : ℕ) (h : Hit) where
-  pub block-done : block_refusal i older newer (wrong_length i.grid (length work)) pick h ≡ Nothing
+module _ (i : Instrument) (older newer work samples : List ℤ) (pick : ℕ) (h : Option Hit) where
+  pub block-done : block_refusal i older newer (wrong_length i.grid (length work)) pick h ≡ Ok tt
       → block i older newer work samples pick h ≡ with_work_zero (points i.grid) (play i pick h older newer samples)
   unfolding block
   block-done e = simp e
@@ -215,7 +213,7 @@ module _ (i : Instrument) (older newer work samples : List ℤ) (pick : ℕ) (h 
   block_refused_lem e = simp e
 
   -- what an accepted block leaves passes 11 and 12
-  pub accepted-leaves : block_refusal i older newer (wrong_length i.grid (length work)) pick h ≡ Nothing
+  pub accepted-leaves : block_refusal i older newer (wrong_length i.grid (length work)) pick h ≡ Ok tt
       → LevelPasses i.grid (block i older newer work samples pick h).older
       × LevelPasses i.grid (block i older newer work samples pick h).newer
   accepted-leaves e =
@@ -229,12 +227,12 @@ module _ (i : Instrument) (older newer work samples : List ℤ) (pick : ℕ) (h 
 -- ---- a block on two levels
 
 -- with a work level of the grid's length, 6 looks at older and newer alone, and what is answered and left does not depend on work's points
-module _ (i : Instrument) (older newer work samples : List ℤ) (pick : ℕ) (h : Hit) (long : length work ≡ points i.grid) where
+module _ (i : Instrument) (older newer work samples : List ℤ) (pick : ℕ) (h : Option Hit) (long : length work ≡ points i.grid) where
   long_passes : block_refusal i older newer (wrong_length i.grid (length work)) pick h ≡ block_refusal i older newer false pick h
   long_passes = ap (λ (wrong : Bool). block_refusal i older newer wrong pick h)
       (ap not (eq-eqb (length work) (points i.grid) long))
 
-  long_done : block_refusal i older newer false pick h ≡ Nothing → without_work (block i older newer work samples pick h)
+  long_done : block_refusal i older newer false pick h ≡ Ok tt → without_work (block i older newer work samples pick h)
       ≡ without_work (with_work_zero (points i.grid) (play i pick h older newer samples))
   long_done e = ap (λ (a : AfterBlock). without_work a) (block-done i older newer work samples pick h (long_passes ∙ e))
 
@@ -242,23 +240,23 @@ module _ (i : Instrument) (older newer work samples : List ℤ) (pick : ℕ) (h 
       ≡ without_work (block_refused (block_refusal i older newer false pick h) older newer work samples)
   long_refused e =
       ap (λ (a : AfterBlock). without_work a)
-      (block_refused_lem i older newer work samples pick h (ap (λ (r : Refusal). accepted r) long_passes ∙ e)) ∙
-      ap (λ (r : Refusal). without_work (block_refused r older newer work samples)) long_passes
+      (block_refused_lem i older newer work samples pick h (ap (λ (r : Result Unit Refusal). accepted r) long_passes ∙ e)) ∙
+      ap (λ (r : Result Unit Refusal). without_work (block_refused r older newer work samples)) long_passes
 
-module _ (i : Instrument) (older newer samples : List ℤ) (pick : ℕ) (h : Hit) where
+module _ (i : Instrument) (older newer samples : List ℤ) (pick : ℕ) (h : Option Hit) where
   abbrev after : AfterSteps
   after = play i pick h older newer samples
 
   abbrev zeros : List ℤ
   zeros = replicate (points i.grid) (pos 0)
 
-  pub in_place_done : block_refusal i older newer false pick h ≡ Nothing → block_in_place i older newer samples pick h
+  pub in_place_done : block_refusal i older newer false pick h ≡ Ok tt → block_in_place i older newer samples pick h
       ≡ in_place_left (reported after.answer) after.older after.newer after.samples
   unfolding block_in_place
   in_place_done e = long_done i older newer zeros samples pick h (length-replicate (points i.grid) (pos 0)) e
 
   pub in_place_refused : accepted (block_refusal i older newer false pick h) ≡ false → block_in_place i older newer samples pick h
-      ≡ in_place_left (record { steps = 0; inexact = 0; refusal = block_refusal i older newer false pick h }) older newer samples
+      ≡ in_place_left (record { steps = 0; inexact = 0; outcome = block_refusal i older newer false pick h }) older newer samples
   unfolding block_in_place
   in_place_refused e = long_refused i older newer zeros samples pick h (length-replicate (points i.grid) (pos 0)) e
 
@@ -274,15 +272,15 @@ blocks_agree i older newer work samples pick h long =
 
 module _ (g : Grid) (older newer : List ℤ) (c w : ℕ) (a : ℤ) where
   -- by any table
-  pub by_done : (ts : List ℕ) {r : Refusal} → r ≡ Nothing → pluck_by ts r g older newer c w a ≡ overwritten (pluck_level ts g c w a)
+  pub by_done : (ts : List ℕ) {r : Result Unit Refusal} → r ≡ Ok tt → pluck_by ts r g older newer c w a ≡ overwritten (pluck_level ts g c w a)
   unfolding pluck_by
   by_done ts e = simp e
 
-  pub by_refused : (ts : List ℕ) {r : Refusal} → accepted r ≡ false → pluck_by ts r g older newer c w a ≡ pluck_refused r older newer
+  pub by_refused : (ts : List ℕ) {r : Result Unit Refusal} → accepted r ≡ false → pluck_by ts r g older newer c w a ≡ pluck_refused r older newer
   unfolding pluck_by
   by_refused ts e = simp e
 
-  pub pluck-done : pluck_refusal g (length older) (length newer) c w a ≡ Nothing → pluck g older newer c w a
+  pub pluck-done : pluck_refusal g (length older) (length newer) c w a ≡ Ok tt → pluck g older newer c w a
       ≡ overwritten (pluck_level table g c w a)
   unfolding pluck
   pluck-done e = by_done table e
@@ -293,7 +291,7 @@ module _ (g : Grid) (older newer : List ℤ) (c w : ℕ) (a : ℤ) where
   pluck-refused e = by_refused table e
 
   -- by a lent one
-  pub with_done : (lent : List ℕ) → pluck_with_refusal g (length older) (length newer) c w a lent ≡ Nothing
+  pub with_done : (lent : List ℕ) → pluck_with_refusal g (length older) (length newer) c w a lent ≡ Ok tt
       → pluck_with g older newer c w a lent ≡ overwritten (pluck_level lent g c w a)
   unfolding pluck_with
   with_done lent e = by_done lent e
@@ -307,19 +305,17 @@ module _ (g : Grid) (older newer : List ℤ) (c w : ℕ) (a : ℤ) where
 pub copy_plucks_alike : CopyPlucksAlike
 unfolding pluck pluck_with pluck_refusal pluck_with_refusal
 copy_plucks_alike g older newer c w a =
-    ap (λ (r : Refusal). pluck_by table r g older newer c w a)
+    ap (λ (r : Result Unit Refusal). pluck_by table r g older newer c w a)
     (last_passed (pluck_checks g (wrong_length g (length older) || wrong_length g (length newer)) c w a) (broken_table table) BrokenTable
-    (ap (λ (l : LoadedTable). ltb 0 (loaded_number l)) table_loads))
+    (ap (λ (l : Option ℕ). ltb 0 (loaded_number l)) table_loads))
 
 -- ---- the float reading
 
 module _ (g : Grid) (newer : List ℤ) (pick : ℕ) where
-  pub reading-done : reading_refusal g newer pick ≡ Nothing → reading g newer pick
-      ≡ record { value = float_of (point newer pick); refusal = Nothing }
+  pub reading-done : reading_refusal g newer pick ≡ Ok tt → reading g newer pick ≡ Ok (float_of (point newer pick))
   unfolding reading
   reading-done e = simp e
 
-  pub reading-refused : accepted (reading_refusal g newer pick) ≡ false → reading g newer pick
-      ≡ record { value = of_int binary64 (pos 0); refusal = reading_refusal g newer pick }
+  pub reading-refused : (r : Refusal) → reading_refusal g newer pick ≡ Err r → reading g newer pick ≡ Err r
   unfolding reading
-  reading-refused e = simp e
+  reading-refused r e = simp e

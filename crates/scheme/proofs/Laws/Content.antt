@@ -9,7 +9,6 @@ use lib.IntN.{ℤ, pos}
 use lib.ListN.{length, take, replicate, length-replicate}
 use Rattle.types.specs.declared.Instrument.{Instrument}
 use Rattle.types.specs.declared.Hit.{Hit}
-use Rattle.types.specs.declared.Hit.TheVariants.{Absent}
 use Rattle.types.specs.declared.Refusal.{Refusal}
 use Rattle.scheme.specs.Lists.{point}
 use Rattle.scheme.specs.Instruments.{points}
@@ -22,19 +21,20 @@ use Rattle.scheme.specs.Book.{leaves}
 use Rattle.scheme.specs.Mirror.{blank, heard_left}
 use Rattle.scheme.proofs.Laws.Refusals.{accepted_is}
 use Rattle.scheme.proofs.Laws.Calls.{play-ends, play_goes, block-done, block_refused_lem}
+use Rattle.std.specs.Prelude.{Option, None, Result}
 
 -- what the steps of a block leave, with the samples of the steps done alone
 abbrev done : AfterSteps → AfterSteps
 done p = record { answer = p.answer; older = p.older; newer = p.newer; samples = take p.answer.steps p.samples }
 
-play_content : (i : Instrument) (pick : ℕ) (h : Hit) (older newer xs ys : List ℤ) → length xs ≡ length ys
+play_content : (i : Instrument) (pick : ℕ) (h : Option Hit) (older newer xs ys : List ℤ) → length xs ≡ length ys
     → done (play i pick h older newer xs) ≡ done (play i pick h older newer ys)
 unfolding play
 play_content i pick h older newer [] [] e = refl
 play_content i pick h older newer [] (y ∷ ys) e = absurd (omega (arith, e))
 play_content i pick h older newer (x ∷ xs) [] e = absurd (omega (arith, e))
 play_content i pick h older newer (x ∷ xs) (y ∷ ys) e = go (some_beyond next) refl
-    (play_content i pick Absent newer next xs ys (omega (arith, e)))
+    (play_content i pick None newer next xs ys (omega (arith, e)))
   where
     next : List ℤ
     next = next_level i h older newer
@@ -42,7 +42,7 @@ play_content i pick h older newer (x ∷ xs) (y ∷ ys) e = go (some_beyond next
     more : AfterSteps → AfterSteps
     more p = one_more (sample_of (point next pick)) (inexact_in i h older newer) p
 
-    go : (t : Bool) → some_beyond next ≡ t → done (play i pick Absent newer next xs) ≡ done (play i pick Absent newer next ys)
+    go : (t : Bool) → some_beyond next ≡ t → done (play i pick None newer next xs) ≡ done (play i pick None newer next ys)
         → done (play i pick h older newer (x ∷ xs)) ≡ done (play i pick h older newer (y ∷ ys))
     go true q on = ap (λ (p : AfterSteps). done p) (play-ends i pick h older newer x xs q) ∙
         sym (ap (λ (p : AfterSteps). done p) (play-ends i pick h older newer y ys q))
@@ -58,12 +58,12 @@ abbrev done_block : AfterBlock → AfterInPlace
 done_block a = in_place_left a.answer a.older a.newer (take a.answer.steps a.samples)
 
 -- with any work level and any sample buffer of the same lengths
-block_content : (i : Instrument) (older newer work samples : List ℤ) (pick : ℕ) (h : Hit) (work' samples' : List ℤ)
+block_content : (i : Instrument) (older newer work samples : List ℤ) (pick : ℕ) (h : Option Hit) (work' samples' : List ℤ)
     → length work' ≡ length work → length samples' ≡ length samples
     → done_block (block i older newer work' samples' pick h) ≡ done_block (block i older newer work samples pick h)
 block_content i older newer work samples pick h work' samples' w s = go (accepted refusal) refl
   where
-    refusal : Refusal
+    refusal : Result Unit Refusal
     refusal = block_refusal i older newer (wrong_length i.grid (length work)) pick h
 
     same : block_refusal i older newer (wrong_length i.grid (length work')) pick h ≡ refusal
@@ -79,8 +79,8 @@ block_content i older newer work samples pick h work' samples' w s = go (accepte
         sym (ap (λ (a : AfterBlock). done_block a) (block-done i older newer work samples pick h z))
     go false e =
         ap (λ (a : AfterBlock). done_block a)
-        (block_refused_lem i older newer work' samples' pick h (ap (λ (r : Refusal). accepted r) same ∙ e)) ∙
-        ap (λ (r : Refusal). done_block (block_refused r older newer work samples)) same ∙
+        (block_refused_lem i older newer work' samples' pick h (ap (λ (r : Result Unit Refusal). accepted r) same ∙ e)) ∙
+        ap (λ (r : Result Unit Refusal). done_block (block_refused r older newer work samples)) same ∙
         sym (ap (λ (a : AfterBlock). done_block a) (block_refused_lem i older newer work samples pick h e))
 
 pub content_left : (k : Call) (older newer : List ℤ) → heard_left (leaves (blank k) older newer) ≡ heard_left (leaves k older newer)

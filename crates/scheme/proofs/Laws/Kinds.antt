@@ -13,7 +13,8 @@ use lib.ListN.{length, length-append}
 use Rattle.types.specs.declared.Grid.{Grid}
 use Rattle.types.specs.Numbers.{D}
 use Rattle.scheme.specs.Lists.{only}
-use Rattle.scheme.specs.Instruments.{Kind, unknown, fixedString, halfFreeString, freeString, bar, membrane, roundMembrane, plate}
+use Rattle.types.specs.declared.Kind.{Kind}
+use Rattle.types.specs.declared.Kind.TheVariants.{Unknown, StringFixed, StringFixedFree, StringFree, Bar, MembraneRectangular, MembraneRound, Plate}
 use Rattle.scheme.specs.Instruments.{kind, within, line_size, grid_size, size_in, stable_in, points, column, row, at_edge, free_in}
 use Rattle.scheme.specs.Instruments.{free_end}
 use Rattle.scheme.specs.Step.{beside}
@@ -22,24 +23,24 @@ use Rattle.scheme.proofs.Laws.Bools.{and_both, and_yes, same}
 
 -- "two neighbours, or four"
 abbrev pub degree : Kind → ℕ
-degree unknown = 4
-degree fixedString = 2
-degree halfFreeString = 2
-degree freeString = 2
-degree bar = 2
-degree membrane = 4
-degree roundMembrane = 4
-degree plate = 4
+degree Unknown = 4
+degree StringFixed = 2
+degree StringFixedFree = 2
+degree StringFree = 2
+degree Bar = 2
+degree MembraneRectangular = 4
+degree MembraneRound = 4
+degree Plate = 4
 
 pub degree-within : (K : Kind) → (1 ≤ degree K) × (degree K ≤ 4)
-degree-within unknown = omega arith
-degree-within fixedString = omega arith
-degree-within halfFreeString = omega arith
-degree-within freeString = omega arith
-degree-within bar = omega arith
-degree-within membrane = omega arith
-degree-within roundMembrane = omega arith
-degree-within plate = omega arith
+degree-within Unknown = omega arith
+degree-within StringFixed = omega arith
+degree-within StringFixedFree = omega arith
+degree-within StringFree = omega arith
+degree-within Bar = omega arith
+degree-within MembraneRectangular = omega arith
+degree-within MembraneRound = omega arith
+degree-within Plate = omega arith
 
 -- ---- sizes
 
@@ -97,14 +98,14 @@ sized_square c r e =
 
 pub sized : (K : Kind) (c r : ℕ) → size_in K c r ≡ true → Sized c r
 unfolding size_in
-sized unknown c r e = absurd (true≢false (sym e))
-sized fixedString c r e = sized_line c r e
-sized halfFreeString c r e = sized_line c r e
-sized freeString c r e = sized_line c r e
-sized bar c r e = sized_line c r e
-sized membrane c r e = sized_grid c r e
-sized roundMembrane c r e = sized_square c r e
-sized plate c r e = sized_grid c r e
+sized Unknown c r e = absurd (true≢false (sym e))
+sized StringFixed c r e = sized_line c r e
+sized StringFixedFree c r e = sized_line c r e
+sized StringFree c r e = sized_line c r e
+sized Bar c r e = sized_line c r e
+sized MembraneRectangular c r e = sized_grid c r e
+sized MembraneRound c r e = sized_square c r e
+sized Plate c r e = sized_grid c r e
 
 -- ---- how many points stand beside one
 
@@ -176,14 +177,14 @@ module _ (g : Grid) (i : ℕ) where
     -- a free end has one neighbour
     free_one : (K : Kind) → free_in K g.columns (column g i) ≡ true → length (beside g i) ≤ 1
     unfolding free_in
-    free_one unknown e = absurd (true≢false (sym e))
-    free_one fixedString e = absurd (true≢false (sym e))
-    free_one halfFreeString e = last_one (eqb-true (column g i + 1) g.columns e)
-    free_one freeString e = edge_one e
-    free_one bar e = absurd (true≢false (sym e))
-    free_one membrane e = absurd (true≢false (sym e))
-    free_one roundMembrane e = absurd (true≢false (sym e))
-    free_one plate e = absurd (true≢false (sym e))
+    free_one Unknown e = absurd (true≢false (sym e))
+    free_one StringFixed e = absurd (true≢false (sym e))
+    free_one StringFixedFree e = last_one (eqb-true (column g i + 1) g.columns e)
+    free_one StringFree e = edge_one e
+    free_one Bar e = absurd (true≢false (sym e))
+    free_one MembraneRectangular e = absurd (true≢false (sym e))
+    free_one MembraneRound e = absurd (true≢false (sym e))
+    free_one Plate e = absurd (true≢false (sym e))
 
     line-degree : 2 * length (beside g i) ≤ 2 * weight g i
     unfolding weight
@@ -196,14 +197,14 @@ module _ (g : Grid) (i : ℕ) where
   pub few : i < points g → (K : Kind) → kind g ≡ K → size_in K g.columns g.rows ≡ true → 2 * length (beside g i) ≤ degree K
       * weight g i
   unfolding size_in free_in
-  few p unknown k e = absurd (true≢false (sym e))
-  few p fixedString k e = line-degree (one_row g.columns g.rows e) p
-  few p halfFreeString k e = line-degree (one_row g.columns g.rows e) p
-  few p freeString k e = line-degree (one_row g.columns g.rows e) p
-  few p bar k e = line-degree (one_row g.columns g.rows e) p
-  few p membrane k e = grid-degree (ap (λ (K : Kind). free_in K g.columns (column g i)) k)
-  few p roundMembrane k e = grid-degree (ap (λ (K : Kind). free_in K g.columns (column g i)) k)
-  few p plate k e = grid-degree (ap (λ (K : Kind). free_in K g.columns (column g i)) k)
+  few p Unknown k e = absurd (true≢false (sym e))
+  few p StringFixed k e = line-degree (one_row g.columns g.rows e) p
+  few p StringFixedFree k e = line-degree (one_row g.columns g.rows e) p
+  few p StringFree k e = line-degree (one_row g.columns g.rows e) p
+  few p Bar k e = line-degree (one_row g.columns g.rows e) p
+  few p MembraneRectangular k e = grid-degree (ap (λ (K : Kind). free_in K g.columns (column g i)) k)
+  few p MembraneRound k e = grid-degree (ap (λ (K : Kind). free_in K g.columns (column g i)) k)
+  few p Plate k e = grid-degree (ap (λ (K : Kind). free_in K g.columns (column g i)) k)
 
 -- ---- stability
 
@@ -216,23 +217,23 @@ string q m e = let u = and_both (leb q D) (eqb m 0) e in (leb-true q D u.0, eqb-
 -- "Stable means", with the degree g: g·q + 2g²·m ≤ 2D
 pub stable_means : (K : Kind) (q m : ℕ) → stable_in K q m ≡ true → degree K * q + 2 * (degree K * degree K) * m ≤ 2 * D
 unfolding stable_in
-stable_means unknown q m e = absurd (true≢false (sym e))
-stable_means fixedString q m e = let u = string q m e in omega arith
-stable_means halfFreeString q m e = let u = string q m e in omega arith
-stable_means freeString q m e = let u = string q m e in omega arith
-stable_means bar q m e = omega (arith, leb-true (q + 4 * m) D e)
-stable_means membrane q m e = let u = soft 2 m q e in omega arith
-stable_means roundMembrane q m e = let u = soft 2 m q e in omega arith
-stable_means plate q m e = omega (arith, leb-true (2 * q + 16 * m) D e)
+stable_means Unknown q m e = absurd (true≢false (sym e))
+stable_means StringFixed q m e = let u = string q m e in omega arith
+stable_means StringFixedFree q m e = let u = string q m e in omega arith
+stable_means StringFree q m e = let u = string q m e in omega arith
+stable_means Bar q m e = omega (arith, leb-true (q + 4 * m) D e)
+stable_means MembraneRectangular q m e = let u = soft 2 m q e in omega arith
+stable_means MembraneRound q m e = let u = soft 2 m q e in omega arith
+stable_means Plate q m e = omega (arith, leb-true (2 * q + 16 * m) D e)
 
 -- where there is stiffness no end is free
 pub stiff-held : (K : Kind) (q m : ℕ) → stable_in K q m ≡ true → (m ≡ 0) ⊎ ((c a : ℕ) → free_in K c a ≡ false)
 unfolding stable_in free_in
-stiff-held unknown q m e = absurd (true≢false (sym e))
-stiff-held fixedString q m e = inl (string q m e).1
-stiff-held halfFreeString q m e = inl (string q m e).1
-stiff-held freeString q m e = inl (string q m e).1
-stiff-held bar q m e = inr (λ c a. refl)
-stiff-held membrane q m e = inl (soft 2 m q e).1
-stiff-held roundMembrane q m e = inl (soft 2 m q e).1
-stiff-held plate q m e = inr (λ c a. refl)
+stiff-held Unknown q m e = absurd (true≢false (sym e))
+stiff-held StringFixed q m e = inl (string q m e).1
+stiff-held StringFixedFree q m e = inl (string q m e).1
+stiff-held StringFree q m e = inl (string q m e).1
+stiff-held Bar q m e = inr (λ c a. refl)
+stiff-held MembraneRectangular q m e = inl (soft 2 m q e).1
+stiff-held MembraneRound q m e = inl (soft 2 m q e).1
+stiff-held Plate q m e = inr (λ c a. refl)

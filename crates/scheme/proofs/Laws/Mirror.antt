@@ -16,10 +16,9 @@ use Rattle.forms.proofs.Level.{Level, ◌⊡◌}
 use Rattle.types.specs.declared.Grid.{Grid}
 use Rattle.types.specs.declared.Instrument.{Instrument}
 use Rattle.types.specs.declared.Hit.{Hit}
-use Rattle.types.specs.declared.Hit.TheVariants.{Absent, At}
 use Rattle.types.specs.declared.Refusal.{Refusal}
 use Rattle.types.specs.declared.Refusal.TheVariants.{NotMoving, TooStrong}
-use Rattle.types.specs.Numbers.{ceiling}
+use Rattle.types.specs.Numbers.{ceiling, hit_at}
 use Rattle.pluck_table.specs.Table.{table}
 use Rattle.scheme.specs.Lists.{point, some_below, count_below}
 use Rattle.scheme.specs.Instruments.{points, fixed, moving}
@@ -36,6 +35,7 @@ use Rattle.scheme.proofs.Laws.Rounding.{round_odd, sample_rule}
 use Rattle.scheme.proofs.Laws.Step.{numerator-scale}
 use Rattle.scheme.proofs.Laws.Refusals.{accepted_is}
 use Rattle.scheme.proofs.Laws.Calls.{play-ends, play_goes, block-done, block_refused_lem, by_done, by_refused}
+use Rattle.std.specs.Prelude.{Option, None, Result, Some}
 
 -- ---- negated levels and forces
 
@@ -51,12 +51,12 @@ points-negated xs = fun_ext (λ k. point-negated xs k ∙ sym (minus_one (point 
 size-negated : (xs : List ℤ) (k : ℕ) → nat_abs (point (negated xs) k) ≡ nat_abs (point xs k)
 size-negated xs k = ap nat_abs (point-negated xs k) ∙ size-neg (point xs k)
 
-pub force_negated : (h : Hit) → force_of (mirror_hit h) ≡ negsuc 0 ⊡ force_of h
-force_negated Absent = fun_ext (λ k. refl)
-force_negated (At p f) = fun_ext (λ k. go (eqb k p))
+pub force_negated : (h : Option Hit) → force_of (mirror_hit h) ≡ negsuc 0 ⊡ force_of h
+force_negated None = fun_ext (λ k. refl)
+force_negated (Some h) = fun_ext (λ k. go (eqb k h.point))
   where
-    go : (t : Bool) → cond t (neg_ℤ f) (pos 0) ≡ negsuc 0 *ℤ cond t f (pos 0)
-    go true = sym (minus_one f)
+    go : (t : Bool) → cond t (neg_ℤ h.force) (pos 0) ≡ negsuc 0 *ℤ cond t h.force (pos 0)
+    go true = sym (minus_one h.force)
     go false = refl
 
 -- negated where a point moves, and 0 elsewhere
@@ -70,7 +70,7 @@ pub numerator_odd : (i : Instrument) (u p f : Level) (k : ℕ) → numerator i (
     ≡ neg_ℤ (numerator i u p f k)
 numerator_odd i u p f k = numerator-scale i k (negsuc 0) u p f ∙ minus_one (numerator i u p f k)
 
-module _ (i : Instrument) (h : Hit) (older newer : List ℤ) where
+module _ (i : Instrument) (h : Option Hit) (older newer : List ℤ) where
   abbrev num : ℕ → ℤ
   num k = numerator i (point newer) (point older) (force_of h) k
 
@@ -100,11 +100,11 @@ fixed_even : (g : Grid) (xs : List ℤ) → fixed_not_zero g (negated xs) ≡ fi
 unfolding fixed_not_zero
 fixed_even g xs = λ x. some_below (length-map xs neg_ℤ x) (λ k. fixed g k && ltb 0 (size-negated xs k x))
 
-hit_even : (g : Grid) (h : Hit) → hit_checks g (mirror_hit h) ≡ hit_checks g h
-hit_even g Absent = refl
-hit_even g (At p f) = ap (λ (n : ℕ). not (moving g p) ⇒ NotMoving ∷ ltb ceiling n ⇒ TooStrong ∷ []) (size-neg f)
+hit_even : (g : Grid) (h : Option Hit) → hit_checks g (mirror_hit h) ≡ hit_checks g h
+hit_even g None = refl
+hit_even g (Some h) = ap (λ (n : ℕ). not (moving g h.point) ⇒ NotMoving ∷ ltb ceiling n ⇒ TooStrong ∷ []) (size-neg h.force)
 
-pub block-refusal_even : (i : Instrument) (older newer : List ℤ) (wrong : Bool) (pick : ℕ) (h : Hit)
+pub block-refusal_even : (i : Instrument) (older newer : List ℤ) (wrong : Bool) (pick : ℕ) (h : Option Hit)
     → block_refusal i (negated older) (negated newer) wrong pick (mirror_hit h) ≡ block_refusal i older newer wrong pick h
 unfolding block_refusal
 block-refusal_even i older newer wrong pick h =
@@ -121,7 +121,7 @@ pluck_checks_even : (g : Grid) (older newer : List ℤ) (c w : ℕ) (a : ℤ)
 pluck_checks_even g older newer c w a = λ x.
     grid_checks last_plucked g ++ (length_checks (wrong_length g (length-map older neg_ℤ x) || wrong_length g (length-map newer neg_ℤ x))
     ++ (
-    hit_even g (At c a) x ++ width_checks g w))
+    hit_even g (hit_at c a) x ++ width_checks g w))
 
 pub pluck-refusal_even : (g : Grid) (older newer : List ℤ) (c w : ℕ) (a : ℤ)
     → pluck_refusal g (length (negated older)) (length (negated newer)) c w (neg_ℤ a) ≡ pluck_refusal g (length older) (length newer) c w a
@@ -145,12 +145,12 @@ mirror_steps p = record {
   samples = mirror_samples p.answer.steps p.samples;
 }
 
-pub play_mirrored : (i : Instrument) (pick : ℕ) (h : Hit) (older newer places : List ℤ)
+pub play_mirrored : (i : Instrument) (pick : ℕ) (h : Option Hit) (older newer places : List ℤ)
     → play i pick (mirror_hit h) (negated older) (negated newer) places ≡ mirror_steps (play i pick h older newer places)
 unfolding play
 play_mirrored i pick h older newer [] = refl
 play_mirrored i pick h older newer (x ∷ xs) = go (some_beyond next) refl
-    (ap (λ (l : List ℤ). play i pick Absent (negated newer) l xs) following ∙ play_mirrored i pick Absent newer next xs)
+    (ap (λ (l : List ℤ). play i pick None (negated newer) l xs) following ∙ play_mirrored i pick None newer next xs)
   where
     next : List ℤ
     next = next_level i h older newer
@@ -166,10 +166,10 @@ play_mirrored i pick h older newer (x ∷ xs) = go (some_beyond next) refl
         sample_rule.odd (point next pick)
 
     rest : AfterSteps
-    rest = play i pick Absent newer next xs
+    rest = play i pick None newer next xs
 
     go : (t : Bool) → some_beyond next ≡ t
-        → play i pick Absent (negated newer) (next_level i (mirror_hit h) (negated older) (negated newer)) xs ≡ mirror_steps rest
+        → play i pick None (negated newer) (next_level i (mirror_hit h) (negated older) (negated newer)) xs ≡ mirror_steps rest
         → play i pick (mirror_hit h) (negated older) (negated newer) (x ∷ xs) ≡ mirror_steps (play i pick h older newer (x ∷ xs))
     go true e on = play-ends i pick (mirror_hit h) (negated older) (negated newer) x xs (high ∙ e) ∙
         sym (ap (λ (p : AfterSteps). mirror_steps p) (play-ends i pick h older newer x xs e))
@@ -182,11 +182,11 @@ play_mirrored i pick h older newer (x ∷ xs) = go (some_beyond next) refl
 abbrev pub mirror_block : AfterBlock → AfterBlock
 mirror_block a = block_left a.answer (negated a.older) (negated a.newer) a.work (mirror_samples a.answer.steps a.samples)
 
-pub block_mirrored : (i : Instrument) (older newer work samples : List ℤ) (pick : ℕ) (h : Hit)
+pub block_mirrored : (i : Instrument) (older newer work samples : List ℤ) (pick : ℕ) (h : Option Hit)
     → block i (negated older) (negated newer) work samples pick (mirror_hit h) ≡ mirror_block (block i older newer work samples pick h)
 block_mirrored i older newer work samples pick h = go (accepted refusal) refl
   where
-    refusal : Refusal
+    refusal : Result Unit Refusal
     refusal = block_refusal i older newer (wrong_length i.grid (length work)) pick h
 
     even : block_refusal i (negated older) (negated newer) (wrong_length i.grid (length work)) pick (mirror_hit h) ≡ refusal
@@ -200,8 +200,8 @@ block_mirrored i older newer work samples pick h = go (accepted refusal) refl
         ap (λ (p : AfterSteps). with_work_zero (points i.grid) p) (play_mirrored i pick h older newer samples) ∙
         sym (ap (λ (a : AfterBlock). mirror_block a) (block-done i older newer work samples pick h z))
     go false e =
-        block_refused_lem i (negated older) (negated newer) work samples pick (mirror_hit h) (ap (λ (r : Refusal). accepted r) even ∙ e) ∙
-        ap (λ (r : Refusal). block_refused r (negated older) (negated newer) work samples) even ∙
+        block_refused_lem i (negated older) (negated newer) work samples pick (mirror_hit h) (ap (λ (r : Result Unit Refusal). accepted r) even ∙ e) ∙
+        ap (λ (r : Result Unit Refusal). block_refused r (negated older) (negated newer) work samples) even ∙
         sym (ap (λ (a : AfterBlock). mirror_block a) (block_refused_lem i older newer work samples pick h e))
 
 -- ---- a pluck: the cut toward zero is odd
@@ -222,10 +222,10 @@ shape_mirrored ts g c w a = sym (map-tabulate neg_ℤ (points g) _ _ (λ k l. sy
     (pluck_value ts w a (distance_from c k)) (cut_odd ts w a (distance_from c k)))))
 
 abbrev pub mirror_pluck : AfterPluck → AfterPluck
-mirror_pluck a = pluck_left a.refusal (negated a.older) (negated a.newer)
+mirror_pluck a = pluck_left a.outcome (negated a.older) (negated a.newer)
 
 -- by any table, where both are refused alike
-by_mirrored : (ts : List ℕ) (r r' : Refusal) (g : Grid) (older newer : List ℤ) (c w : ℕ) (a : ℤ) → r' ≡ r
+by_mirrored : (ts : List ℕ) (r r' : Result Unit Refusal) (g : Grid) (older newer : List ℤ) (c w : ℕ) (a : ℤ) → r' ≡ r
     → pluck_by ts r' g (negated older) (negated newer) c w (neg_ℤ a) ≡ mirror_pluck (pluck_by ts r g older newer c w a)
 by_mirrored ts r r' g older newer c w a even = go (accepted r) refl
   where
@@ -237,8 +237,8 @@ by_mirrored ts r r' g older newer c w a even = go (accepted r) refl
         ap (λ (l : List ℤ). overwritten l) (shape_mirrored ts g c w a) ∙
         sym (ap (λ (p : AfterPluck). mirror_pluck p) (by_done g older newer c w a ts z))
     go false e =
-        by_refused g (negated older) (negated newer) c w (neg_ℤ a) ts (ap (λ (r : Refusal). accepted r) even ∙ e) ∙
-        ap (λ (r : Refusal). pluck_refused r (negated older) (negated newer)) even ∙
+        by_refused g (negated older) (negated newer) c w (neg_ℤ a) ts (ap (λ (r : Result Unit Refusal). accepted r) even ∙ e) ∙
+        ap (λ (r : Result Unit Refusal). pluck_refused r (negated older) (negated newer)) even ∙
         sym (ap (λ (p : AfterPluck). mirror_pluck p) (by_refused g older newer c w a ts e))
 
 pub pluck_mirrored : (g : Grid) (older newer : List ℤ) (c w : ℕ) (a : ℤ) → pluck g (negated older) (negated newer) c w (neg_ℤ a)

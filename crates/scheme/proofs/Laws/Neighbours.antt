@@ -9,7 +9,8 @@ use borrow.Author.Tests.{lt-ltb, le-ltb, ne_eqb}
 use lib.Dec.{ltb}
 use Rattle.types.specs.declared.Grid.{Grid}
 use Rattle.scheme.specs.Lists.{only}
-use Rattle.scheme.specs.Instruments.{Kind, unknown, fixedString, halfFreeString, freeString, bar, membrane, roundMembrane, plate}
+use Rattle.types.specs.declared.Kind.{Kind}
+use Rattle.types.specs.declared.Kind.TheVariants.{Unknown, StringFixed, StringFixedFree, StringFree, Bar, MembraneRectangular, MembraneRound, Plate}
 use Rattle.scheme.specs.Instruments.{kind, points, column, row, free_in, free_end}
 use Rattle.scheme.specs.Step.{beside, neighbours}
 use Rattle.scheme.proofs.Laws.Bools.{neither_or}
@@ -25,14 +26,14 @@ only_ge a b j h = ap (λ (t : Bool). only t j) (le-ltb a b h)
 -- no inner point of a line is a free end
 inner-held : (K : Kind) (c a : ℕ) → 0 < a → a + 1 < c → free_in K c a ≡ false
 unfolding free_in
-inner-held unknown c a h k = refl
-inner-held fixedString c a h k = refl
-inner-held halfFreeString c a h k = ne_eqb (a + 1) c (λ e. omega arith)
-inner-held freeString c a h k = neither_or (ne_eqb a 0 (λ e. omega arith)) (ne_eqb (a + 1) c (λ e. omega arith))
-inner-held bar c a h k = refl
-inner-held membrane c a h k = refl
-inner-held roundMembrane c a h k = refl
-inner-held plate c a h k = refl
+inner-held Unknown c a h k = refl
+inner-held StringFixed c a h k = refl
+inner-held StringFixedFree c a h k = ne_eqb (a + 1) c (λ e. omega arith)
+inner-held StringFree c a h k = neither_or (ne_eqb a 0 (λ e. omega arith)) (ne_eqb (a + 1) c (λ e. omega arith))
+inner-held Bar c a h k = refl
+inner-held MembraneRectangular c a h k = refl
+inner-held MembraneRound c a h k = refl
+inner-held Plate c a h k = refl
 
 module _ (g : Grid) (i : ℕ) where
   -- by the four tests

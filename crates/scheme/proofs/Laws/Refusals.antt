@@ -5,8 +5,7 @@ use mathlib.Core.List.{List, [], ◌∷◌, ◌++◌}
 use Prim.Native.Nat.{ℕ, ◌≤◌, ◌<◌}
 use native.Mathlib.Omega.{arith}
 use borrow.Author.Tests.{eqb-true, ltb-true, ltb-false, not-false}
-use mir.Facts.{and_yes}
-use lib.Dec.{T, ltb}
+use lib.Dec.{ltb}
 use lib.IntN.{ℤ, pos, negsuc, nat_abs}
 use lib.ListN.{length, get_or-eq_default}
 use Rattle.forms.proofs.Level.{Still}
@@ -15,12 +14,8 @@ use Rattle.types.specs.declared.Grid.{Grid}
 use Rattle.types.specs.declared.Instrument.{Instrument}
 use Rattle.types.specs.declared.Hit.{Hit}
 use Rattle.types.specs.declared.Refusal.{Refusal}
-use Rattle.types.specs.declared.Refusal.TheVariants.{Nothing, UnknownKind, WrongSize, SheetNumber, Coefficient, Unstable}
-use Rattle.types.specs.declared.Refusal.TheVariants.{WrongLength, NotMoving, TooStrong, PickUp, HalfWidth, PointBeyond}
-use Rattle.types.specs.declared.Refusal.TheVariants.{FixedNotZero, NextBeyond, BrokenTable}
-use Rattle.types.specs.Numbers.{D, ceiling, number}
-use Rattle.pluck_table.specs.declared.LoadedTable.{LoadedTable}
-use Rattle.pluck_table.specs.declared.LoadedTable.TheVariants.{Sound, Broken}
+use Rattle.types.specs.declared.Refusal.TheVariants.{BrokenTable}
+use Rattle.types.specs.Numbers.{D, ceiling, number_of}
 use Rattle.pluck_table.specs.Loading.{loaded_table, loaded_number}
 use Rattle.scheme.specs.Lists.{point}
 use Rattle.scheme.specs.Instruments.{points, beyond, fixed, moving}
@@ -33,6 +28,7 @@ use Rattle.scheme.specs.Claims.{LevelPasses}
 use Rattle.scheme.specs.Passing.{InstrumentPasses, BlockPasses, PluckPasses, ReadingPasses}
 use Rattle.scheme.proofs.Laws.Bools.{or_neither}
 use Rattle.scheme.proofs.Laws.Lists.{none_at}
+use Rattle.std.specs.Prelude.{Option, Some, None, Result, Ok, Err}
 
 -- each call's checks stand in the order of all numbers: by computing
 pub checks_in_order : ChecksInOrder
@@ -47,9 +43,9 @@ checks_in_order = record {
 pub number_of_loading : NumberOfLoading
 number_of_loading lent = go (loaded_table lent)
   where
-    go : (l : LoadedTable) → number (lowest (ltb 0 (loaded_number l) ⇒ BrokenTable ∷ [])) ≡ loaded_number l
-    go (Sound last) = refl
-    go Broken = refl
+    go : (l : Option ℕ) → number_of (lowest (ltb 0 (loaded_number l) ⇒ BrokenTable ∷ [])) ≡ loaded_number l
+    go (Some last) = refl
+    go None = refl
 
 -- ---- a list of checks
 
@@ -58,17 +54,12 @@ abbrev pub NoneApplies : List Check → Type 0
 NoneApplies [] = Unit {0}
 NoneApplies ((b ⇒ r) ∷ cs) = (b ≡ false) × NoneApplies cs
 
--- each check of the list answers a refusal
-abbrev pub refusing : List Check → Bool
-refusing [] = true
-refusing ((b ⇒ r) ∷ cs) = ltb 0 (number r) && refusing cs
+pub none_applies : (cs : List Check) → lowest cs ≡ Ok tt → NoneApplies cs
+none_applies [] e = tt
+none_applies ((true ⇒ r) ∷ cs) e = absurd (cc)
+none_applies ((false ⇒ r) ∷ cs) e = (refl, none_applies cs e)
 
-pub none_applies : (cs : List Check) → T (refusing cs) → lowest cs ≡ Nothing → NoneApplies cs
-none_applies [] t e = tt
-none_applies ((true ⇒ r) ∷ cs) t e = absurd (subst (λ r. T (ltb 0 (number r))) e (and_yes (ltb 0 (number r)) (refusing cs) t).0)
-none_applies ((false ⇒ r) ∷ cs) t e = (refl, none_applies cs (and_yes (ltb 0 (number r)) (refusing cs) t).1 e)
-
-pub applies_none : (cs : List Check) → NoneApplies cs → lowest cs ≡ Nothing
+pub applies_none : (cs : List Check) → NoneApplies cs → lowest cs ≡ Ok tt
 applies_none [] n = refl
 applies_none ((true ⇒ r) ∷ cs) n = absurd (true≢false n.0)
 applies_none ((false ⇒ r) ∷ cs) n = applies_none cs n.1
@@ -80,22 +71,9 @@ last_passed ((true ⇒ x) ∷ cs) t r e = refl
 last_passed ((false ⇒ x) ∷ cs) t r e = last_passed cs t r e
 
 -- nothing refuses it
-pub accepted_is : (r : Refusal) → accepted r ≡ true → r ≡ Nothing
-accepted_is Nothing e = refl
-accepted_is UnknownKind e = absurd (true≢false (sym e))
-accepted_is WrongSize e = absurd (true≢false (sym e))
-accepted_is SheetNumber e = absurd (true≢false (sym e))
-accepted_is Coefficient e = absurd (true≢false (sym e))
-accepted_is Unstable e = absurd (true≢false (sym e))
-accepted_is WrongLength e = absurd (true≢false (sym e))
-accepted_is NotMoving e = absurd (true≢false (sym e))
-accepted_is TooStrong e = absurd (true≢false (sym e))
-accepted_is PickUp e = absurd (true≢false (sym e))
-accepted_is HalfWidth e = absurd (true≢false (sym e))
-accepted_is PointBeyond e = absurd (true≢false (sym e))
-accepted_is FixedNotZero e = absurd (true≢false (sym e))
-accepted_is NextBeyond e = absurd (true≢false (sym e))
-accepted_is BrokenTable e = absurd (true≢false (sym e))
+pub accepted_is : (r : Result Unit Refusal) → accepted r ≡ true → r ≡ Ok tt
+accepted_is (Ok tt) e = refl
+accepted_is (Err r) e = absurd (true≢false (sym e))
 
 -- ---- what has passed
 
@@ -138,18 +116,18 @@ passes_low g xs v k = go (ltb k (length xs)) refl
         (none_at (length xs) (λ k. beyond (point xs k)) v.low k (ltb-true k (length xs) e))
     go false e = subst (λ (z : ℤ). nat_abs z ≤ ceiling) (sym (get_or-eq_default xs (pos 0) (ltb-false k (length xs) e))) (omega arith)
 
-pub instrument_passes : (i : Instrument) → instrument_refusal i ≡ Nothing → InstrumentPasses i
+pub instrument_passes : (i : Instrument) → instrument_refusal i ≡ Ok tt → InstrumentPasses i
 unfolding instrument_refusal
-instrument_passes i e = let n = none_applies (instrument_checks i) tt e in
+instrument_passes i e = let n = none_applies (instrument_checks i) e in
     record { size = not-false _ n.1.0; coefficients = n.1.1.0; stable = not-false _ n.1.1.1.0 }
 
-pub block_passes : (i : Instrument) (older newer : List ℤ) (wrong : Bool) (pick : ℕ) (h : Hit) → block_refusal i older newer wrong pick h
-    ≡ Nothing
+pub block_passes : (i : Instrument) (older newer : List ℤ) (wrong : Bool) (pick : ℕ) (h : Option Hit) → block_refusal i older newer wrong pick h
+    ≡ Ok tt
     → BlockPasses i older newer wrong pick h
 unfolding block_refusal instrument_refusal
 block_passes i older newer wrong pick h e =
     let g = i.grid in
-    let n = none_applies (block_checks i older newer wrong pick h) tt e in
+    let n = none_applies (block_checks i older newer wrong pick h) e in
     let n5 = n.1.1.1.1 in
     let n9 = n5.1.1.1 in
     let l = or_neither (wrong_length g (length older) || wrong_length g (length newer)) wrong n5.0 in
@@ -166,10 +144,10 @@ block_passes i older newer wrong pick h e =
       pick_in = ltb-true pick (points g) (not-false _ n9.0);
     }
 
-pub pluck_passes : (g : Grid) (older newer c w : ℕ) (a : ℤ) → pluck_refusal g older newer c w a ≡ Nothing → PluckPasses g older newer c w a
+pub pluck_passes : (g : Grid) (older newer c w : ℕ) (a : ℤ) → pluck_refusal g older newer c w a ≡ Ok tt → PluckPasses g older newer c w a
 unfolding pluck_refusal
 pluck_passes g older newer c w a e =
-    let n = none_applies (pluck_checks g (wrong_length g older || wrong_length g newer) c w a) tt e in
+    let n = none_applies (pluck_checks g (wrong_length g older || wrong_length g newer) c w a) e in
     let n6 = n.1.1 in
     let l = or_neither (wrong_length g older) (wrong_length g newer) n6.0 in
     record {
@@ -182,10 +160,10 @@ pluck_passes g older newer c w a e =
       width_in = n6.1.1.1.0;
     }
 
-pub reading_passes : (g : Grid) (newer : List ℤ) (pick : ℕ) → reading_refusal g newer pick ≡ Nothing → ReadingPasses g newer pick
+pub reading_passes : (g : Grid) (newer : List ℤ) (pick : ℕ) → reading_refusal g newer pick ≡ Ok tt → ReadingPasses g newer pick
 unfolding reading_refusal
 reading_passes g newer pick e =
-    let n = none_applies (reading_checks g newer pick) tt e in
+    let n = none_applies (reading_checks g newer pick) e in
     let n6 = n.1.1 in
     let n11 = n6.1.1 in
     record {

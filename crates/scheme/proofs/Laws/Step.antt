@@ -22,6 +22,7 @@ use Rattle.scheme.specs.Step.{neighbours, laplacian, inner_laplacian, biharmonic
 use Rattle.scheme.specs.Step.{next_at, next_level, inexact_at, some_beyond}
 use Rattle.scheme.proofs.Laws.Bools.{and_both, and_no}
 use Rattle.scheme.proofs.Laws.Lists.{length-tabulate, get_d_tabulate, point-tabulate, none_at, none_below}
+use Rattle.std.specs.Prelude.{Option}
 
 -- ---- moving and fixed
 
@@ -99,7 +100,7 @@ module _ (i : Instrument) (k : ℕ) where
 
 -- ---- the next level
 
-module _ (i : Instrument) (h : Hit) (older newer : List ℤ) where
+module _ (i : Instrument) (h : Option Hit) (older newer : List ℤ) where
   pub length-next : length (next_level i h older newer) ≡ points i.grid
   unfolding next_level
   length-next = length-tabulate (points i.grid) (next_at i h older newer)

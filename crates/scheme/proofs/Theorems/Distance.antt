@@ -19,7 +19,6 @@ use Rattle.forms.proofs.Distance as Forms
 use Rattle.types.specs.declared.Settings.{Settings}
 use Rattle.types.specs.declared.Instrument.{Instrument}
 use Rattle.types.specs.declared.Hit.{Hit}
-use Rattle.types.specs.declared.Hit.TheVariants.{Absent}
 use Rattle.types.specs.Numbers.{D}
 use Rattle.scheme.specs.Lists.{point, square}
 use Rattle.scheme.specs.Instruments.{points, moving, free_end}
@@ -37,10 +36,11 @@ use Rattle.scheme.proofs.Theorems.Forms.{weighed, held, squares_are}
 use Rattle.scheme.proofs.Theorems.Instance.{free_step, scheme}
 use Rattle.scheme.proofs.Theorems.Energy.{unrounded_newer, unrounded_older}
 use Rattle.scheme.proofs.Theorems.Effects.{stepped, Effect, nothing, steps, overwrites, list_keeps}
+use Rattle.std.specs.Prelude.{Option, None}
 
 -- ---- what a step rounds off
 
-module _ (i : Instrument) (h : Hit) (older newer : List ℤ) where
+module _ (i : Instrument) (h : Option Hit) (older newer : List ℤ) where
   abbrev num : ℕ → ℤ
   num k = numerator i (point newer) (point older) (force_of h) k
 
@@ -109,7 +109,7 @@ gap_same : (c : Settings) (xs : List ℤ) → gap c 0 xs xs ≡ zeros
 gap_same c xs = fun_ext (λ k. ap (λ s. s *ℤ point xs k +ℤ negsuc 0 *ℤ point xs k) (ap pos (N.pow-zero (divisor c)))
     ∙ ring 1 (λ x. # 1 ⊗ x ⊕ con (negsuc 0) ⊗ x ≈ # 0) refl (point xs k))
 
-module _ (i : Instrument) (h : Hit) (older newer : List ℤ) (b : Book) where
+module _ (i : Instrument) (h : Option Hit) (older newer : List ℤ) (b : Book) where
   abbrev c : Settings
   c = i.settings
 
@@ -200,21 +200,21 @@ same_is i l e =
       };
     }
 
-pub steps_last : (i : Instrument) (h : Hit) (k : ℕ) (b : Book) → (unrounded_steps i h (suc k) b).last ≡ step_of i
+pub steps_last : (i : Instrument) (h : Option Hit) (k : ℕ) (b : Book) → (unrounded_steps i h (suc k) b).last ≡ step_of i
 unfolding unrounded_steps unrounded_step
 steps_last i h zero b = refl
-steps_last i h (suc k) b = steps_last i Absent k (unrounded_step i h b)
+steps_last i h (suc k) b = steps_last i None k (unrounded_step i h b)
 
-pub steps-count : (i : Instrument) (h : Hit) (k : ℕ) (b : Book) → (m : ℕ) × ((unrounded_steps i h (suc k) b).n ≡ suc m)
+pub steps-count : (i : Instrument) (h : Option Hit) (k : ℕ) (b : Book) → (m : ℕ) × ((unrounded_steps i h (suc k) b).n ≡ suc m)
 unfolding unrounded_steps unrounded_step
 steps-count i h zero b = (b.n, refl)
-steps-count i h (suc k) b = steps-count i Absent k (unrounded_step i h b)
+steps-count i h (suc k) b = steps-count i None k (unrounded_step i h b)
 
-after_long : (i : Instrument) (h : Hit) (k : ℕ) (older newer : List ℤ) → length (levels_after i h (suc k) older newer).newer
+after_long : (i : Instrument) (h : Option Hit) (k : ℕ) (older newer : List ℤ) → length (levels_after i h (suc k) older newer).newer
     ≡ points i.grid
 unfolding levels_after
 after_long i h zero older newer = length-next i h older newer
-after_long i h (suc k) older newer = after_long i Absent k newer (next_level i h older newer)
+after_long i h (suc k) older newer = after_long i None k newer (next_level i h older newer)
 
 module _ (P : OfErrors) (kept : StepsKeep P) where
   -- ---- the invariant of the steps of one instrument
@@ -232,7 +232,7 @@ module _ (P : OfErrors) (kept : StepsKeep P) where
         (kept.first i ok (scale i.settings 0));
   }
 
-  beside-step : (i : Instrument) (h : Hit) (older newer : List ℤ) (b : Book) → Beside i older newer b
+  beside-step : (i : Instrument) (h : Option Hit) (older newer : List ℤ) (b : Book) → Beside i older newer b
       → Beside i newer (next_level i h older newer) (unrounded_step i h b)
   unfolding unrounded_step
   beside-step i h older newer b now = record {
@@ -248,11 +248,11 @@ module _ (P : OfErrors) (kept : StepsKeep P) where
       c' : Settings
       c' = i.settings
 
-  beside-steps : (i : Instrument) (h : Hit) (k : ℕ) (older newer : List ℤ) (b : Book) → Beside i older newer b
+  beside-steps : (i : Instrument) (h : Option Hit) (k : ℕ) (older newer : List ℤ) (b : Book) → Beside i older newer b
       → Beside i (levels_after i h k older newer).older (levels_after i h k older newer).newer (unrounded_steps i h k b)
   unfolding levels_after unrounded_steps
   beside-steps i h zero older newer b v = v
-  beside-steps i h (suc k) older newer b v = beside-steps i Absent k newer (next_level i h older newer) (unrounded_step i h b)
+  beside-steps i h (suc k) older newer b v = beside-steps i None k newer (next_level i h older newer) (unrounded_step i h b)
       (beside-step i h older newer b v)
 
   -- ---- the invariant of a list of calls
@@ -282,7 +282,7 @@ module _ (P : OfErrors) (kept : StepsKeep P) where
           (same_is i s.instrument (subst (λ l. goes_on i l ≡ true) s.last q)) s.beside
       go v false q = beside-start i ok t.book.last t.older t.newer
 
-  steps-keep : (i : Instrument) (h : Hit) (k : ℕ) → InstrumentPasses i → (t : State) → Invariant t → Invariant (stepped i h k t)
+  steps-keep : (i : Instrument) (h : Option Hit) (k : ℕ) → InstrumentPasses i → (t : State) → Invariant t → Invariant (stepped i h k t)
   unfolding book_block sum_block levels_after
   steps-keep i h zero ok t v = v
   steps-keep i h (suc k) ok t v =

@@ -11,7 +11,6 @@ use Rattle.types.specs.declared.Grid.{Grid}
 use Rattle.types.specs.declared.Instrument.{Instrument}
 use Rattle.types.specs.declared.Hit.{Hit}
 use Rattle.types.specs.declared.Refusal.{Refusal}
-use Rattle.types.specs.declared.Refusal.TheVariants.{Nothing}
 use Rattle.pluck_table.specs.Table.{table}
 use Rattle.scheme.specs.Instruments.{points}
 use Rattle.scheme.specs.Pluck.{pluck_level}
@@ -24,9 +23,10 @@ use Rattle.scheme.specs.Book.{leaves, book_call, sum_call, State, state_after, c
 use Rattle.scheme.specs.Passing.{InstrumentPasses}
 use Rattle.scheme.proofs.Laws.Refusals.{accepted_is, instrument_passes, block_passes}
 use Rattle.scheme.proofs.Laws.Calls.{stands_behind, all_done, block-done, block_refused_lem, by_done, by_refused}
+use Rattle.std.specs.Prelude.{Option, Result, Ok}
 
 -- k steps of an instrument, the hit in the first, of the levels and in the book, and their inexact points
-abbrev pub stepped : Instrument → Hit → ℕ → State → State
+abbrev pub stepped : Instrument → Option Hit → ℕ → State → State
 stepped i h k t = let after = levels_after i h k t.older t.newer in
     record {
       older = after.older;
@@ -41,15 +41,15 @@ overwrote xs t = record { older = xs; newer = xs; book = fresh t.book.last xs xs
 
 pub data Effect (t t' : State) : Type 0 where
   nothing : t' ≡ t → Effect t t'
-  steps : (i : Instrument) (h : Hit) (k : ℕ) → InstrumentPasses i → t' ≡ stepped i h k t → Effect t t'
+  steps : (i : Instrument) (h : Option Hit) (k : ℕ) → InstrumentPasses i → t' ≡ stepped i h k t → Effect t t'
   overwrites : (xs : List ℤ) → t' ≡ overwrote xs t → Effect t t'
 
 -- the state after a call
 abbrev pub after_call : Call → State → State
 after_call k t = state_after k (called k t) t
 
-module _ (i : Instrument) (work samples : List ℤ) (pick : ℕ) (h : Hit) (t : State) where
-  abbrev refused : Refusal
+module _ (i : Instrument) (work samples : List ℤ) (pick : ℕ) (h : Option Hit) (t : State) where
+  abbrev refused : Result Unit Refusal
   refused = block_refusal i t.older t.newer (wrong_length i.grid (length work)) pick h
 
   abbrev after : AfterSteps
@@ -64,7 +64,7 @@ module _ (i : Instrument) (work samples : List ℤ) (pick : ℕ) (h : Hit) (t : 
   }
 
   -- an accepted block: the steps that it has done
-  pub block-stepped : refused ≡ Nothing → after_call (block_call i work samples pick h) t ≡ stepped i h after.answer.steps t
+  pub block-stepped : refused ≡ Ok tt → after_call (block_call i work samples pick h) t ≡ stepped i h after.answer.steps t
   unfolding leaves book_call sum_call left
   block-stepped e =
       let s = stands_behind i pick h t.older t.newer samples in
@@ -89,7 +89,7 @@ module _ (i : Instrument) (work samples : List ℤ) (pick : ℕ) (h : Hit) (t : 
       go false e = nothing (ap left (block_refused_lem i t.older t.newer work samples pick h e))
 
 -- a block cut after j + 1 of its steps is a block
-pub block_cut : (i : Instrument) (work samples : List ℤ) (pick : ℕ) (h : Hit) (t : State) → refused i work samples pick h t ≡ Nothing
+pub block_cut : (i : Instrument) (work samples : List ℤ) (pick : ℕ) (h : Option Hit) (t : State) → refused i work samples pick h t ≡ Ok tt
     → (j : ℕ) → j < (after i work samples pick h t).answer.steps
     → after_call (block_call i work (replicate (suc j) (pos 0)) pick h) t ≡ stepped i h (suc j) t
 block_cut i work samples pick h t e j l =
@@ -104,19 +104,19 @@ block_cut i work samples pick h t e j l =
     long = length-replicate (suc j) (pos 0)
 
 -- the state after a block on two levels is that after a block with a work level of zeros
-in_place_after : (i : Instrument) (samples : List ℤ) (pick : ℕ) (h : Hit) (t : State) → after_call (in_place_call i samples pick h) t
+in_place_after : (i : Instrument) (samples : List ℤ) (pick : ℕ) (h : Option Hit) (t : State) → after_call (in_place_call i samples pick h) t
     ≡ after_call (block_call i (replicate (points i.grid) (pos 0)) samples pick h) t
 unfolding block_in_place leaves book_call sum_call
 in_place_after i samples pick h t = refl
 
 -- a pluck by any table: both levels overwritten, or nothing
-module _ (ts : List ℕ) (r : Refusal) (g : Grid) (c w : ℕ) (a : ℤ) (t : State) where
+module _ (ts : List ℕ) (r : Result Unit Refusal) (g : Grid) (c w : ℕ) (a : ℤ) (t : State) where
   abbrev plucked : AfterPluck → State
   plucked p = record {
     older = p.older;
     newer = p.newer;
-    book = book_pluck (accepted p.refusal) (pluck_level ts g c w a) t.book;
-    inexact = sum_pluck (accepted p.refusal) t.inexact;
+    book = book_pluck (accepted p.outcome) (pluck_level ts g c w a) t.book;
+    inexact = sum_pluck (accepted p.outcome) t.inexact;
   }
 
   pluck_effect : Effect t (plucked (pluck_by ts r g t.older t.newer c w a))

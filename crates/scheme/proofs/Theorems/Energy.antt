@@ -13,7 +13,6 @@ use Rattle.forms.proofs.Energy as Forms
 use Rattle.types.specs.declared.Grid.{Grid}
 use Rattle.types.specs.declared.Instrument.{Instrument}
 use Rattle.types.specs.declared.Hit.{Hit}
-use Rattle.types.specs.declared.Hit.TheVariants.{Absent}
 use Rattle.types.specs.Numbers.{D}
 use Rattle.scheme.specs.Lists.{point, square}
 use Rattle.scheme.specs.Instruments.{moving}
@@ -28,10 +27,11 @@ use Rattle.scheme.proofs.Laws.Refusals.{instrument_passes, passes_still}
 use Rattle.scheme.proofs.Theorems.Forms.{weighed, held, energy_is}
 use Rattle.scheme.proofs.Theorems.Bounds.{energy_nonneg}
 use Rattle.scheme.proofs.Theorems.Instance.{free_step, scheme}
+use Rattle.std.specs.Prelude.{Option, None}
 
 -- ---- the book's step, as functions of the points
 
-module _ (i : Instrument) (h : Hit) (b : Book) where
+module _ (i : Instrument) (h : Option Hit) (b : Book) where
   pub unrounded_still : (k : ℕ) → moving i.grid k ≡ false → unrounded_at i h b k ≡ pos 0
   unfolding unrounded_at
   unrounded_still k e = simp e
@@ -45,10 +45,10 @@ module _ (i : Instrument) (h : Hit) (b : Book) where
   unrounded_older k = point_scaled (pos (divisor i.settings)) b.newer k
 
 -- without a hit it is the free step
-pub unrounded_free : (i : Instrument) (b : Book) → point (unrounded_step i Absent b).newer
+pub unrounded_free : (i : Instrument) (b : Book) → point (unrounded_step i None b).newer
     ≡ free_step i (point b.newer) (point b.older)
 unfolding unrounded_at free_step
-unrounded_free i b = fun_ext (λ k. unrounded_newer i Absent b k ∙
+unrounded_free i b = fun_ext (λ k. unrounded_newer i None b k ∙
     ap (λ (f : Level). cond (moving i.grid k) (numerator i (point b.newer) (point b.older) f k) (pos 0))
     (fun_ext (λ j. *ℤ-zero (scale i.settings b.n))))
 
@@ -64,13 +64,13 @@ start-still i older newer p = record {
   older_still = passes_still i.grid older p.older_passes;
 }
 
-step-still : (i : Instrument) (h : Hit) (b : Book) → StillBook i.grid b → StillBook i.grid (unrounded_step i h b)
+step-still : (i : Instrument) (h : Option Hit) (b : Book) → StillBook i.grid b → StillBook i.grid (unrounded_step i h b)
 step-still i h b v = record {
   newer_still = record { still = λ k e. unrounded_newer i h b k ∙ unrounded_still i h b k e };
   older_still = record { still = λ k e. unrounded_older i h b k ∙ (still-scale (pos (divisor i.settings)) v.newer_still).still k e };
 }
 
-run-still : (i : Instrument) (hs : List Hit) (b : Book) → StillBook i.grid b → StillBook i.grid (unrounded_run i hs b)
+run-still : (i : Instrument) (hs : List (Option Hit)) (b : Book) → StillBook i.grid b → StillBook i.grid (unrounded_run i hs b)
 unfolding unrounded_run
 run-still i [] b v = v
 run-still i (h ∷ hs) b v = run-still i hs (unrounded_step i h b) (step-still i h b v)
@@ -82,17 +82,17 @@ module _ (i : Instrument) (ok : InstrumentPasses i) (b : Book) (v : StillBook i.
   d = pos (divisor i.settings)
 
   -- the energy after a step without a hit, and before, by the forms
-  after : book_energy i (unrounded_step i Absent b)
+  after : book_energy i (unrounded_step i None b)
       ≡ Forms.E (scheme i ok) (free_step i (point b.newer) (point b.older)) (d ⊡ point b.newer)
-  after = ap₂ (energy i) (unrounded_free i b) (fun_ext (unrounded_older i Absent b)) ∙ energy_is i _ _
+  after = ap₂ (energy i) (unrounded_free i b) (fun_ext (unrounded_older i None b)) ∙ energy_is i _ _
 
   before : d *ℤ d *ℤ Forms.E (scheme i ok) (point b.newer) (point b.older) ≡ square d *ℤ book_energy i b
   before = ap (λ z. d *ℤ d *ℤ z) (sym (energy_is i (point b.newer) (point b.older)))
 
-  not_raised : book_energy i (unrounded_step i Absent b) ⩽ square d *ℤ book_energy i b
+  not_raised : book_energy i (unrounded_step i None b) ⩽ square d *ℤ book_energy i b
   not_raised = ≡-≤ℤ after (≤ℤ-≡ (Forms.never_raised (scheme i ok) (point b.newer) (point b.older) v.older_still) before)
 
-  same : i.settings.s ≡ 0 → book_energy i (unrounded_step i Absent b) ≡ square d *ℤ book_energy i b
+  same : i.settings.s ≡ 0 → book_energy i (unrounded_step i None b) ≡ square d *ℤ book_energy i b
   same e = after ∙ Forms.kept (scheme i ok) lossless (point b.newer) (point b.older) v.older_still ∙ before
     where
       lossless : (c : Level) → held i c c ≡ d *ℤ weighed i.grid c c

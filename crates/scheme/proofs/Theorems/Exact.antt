@@ -12,7 +12,6 @@ use Rattle.forms.proofs.Level.{◌⊡◌}
 use Rattle.types.specs.declared.Settings.{Settings}
 use Rattle.types.specs.declared.Instrument.{Instrument}
 use Rattle.types.specs.declared.Hit.{Hit}
-use Rattle.types.specs.declared.Hit.TheVariants.{Absent}
 use Rattle.types.specs.Numbers.{D}
 use Rattle.scheme.specs.Lists.{point, times}
 use Rattle.scheme.specs.Instruments.{points, moving}
@@ -34,11 +33,12 @@ use Rattle.scheme.proofs.Laws.Calls.{capped-zero}
 use Rattle.scheme.proofs.Theorems.Effects.{stepped, Effect, nothing, steps, overwrites, after_call, list_keeps}
 use Rattle.scheme.proofs.Theorems.Distance.{scale-suc, same_is, steps_last}
 use Rattle.scheme.proofs.Theorems.Program.{of_program}
+use Rattle.std.specs.Prelude.{Option, None}
 
 -- ---- one step
 
 -- an exact point has its numerator's whole number of divisors
-exact_point : (i : Instrument) (h : Hit) (older newer : List ℤ) (k : ℕ) → moving i.grid k ≡ true → inexact_at i h older newer k ≡ false
+exact_point : (i : Instrument) (h : Option Hit) (older newer : List ℤ) (k : ℕ) → moving i.grid k ≡ true → inexact_at i h older newer k ≡ false
     → let n : ℤ = numerator i (point newer) (point older) (force_of h) k in
     round_away n (divisor i.settings) *ℤ pos (divisor i.settings) ≡ n
 unfolding inexact_at
@@ -57,7 +57,7 @@ pub record Held (i : Instrument) (older newer : List ℤ) (b : Book) : Type 0 wh
   pub older_is : times (scale i.settings b.n) older ≡ b.older
   pub newer_is : times (scale i.settings b.n) newer ≡ b.newer
 
-module _ (i : Instrument) (h : Hit) (older newer : List ℤ) (b : Book) (v : Held i older newer b) (none : inexact_in i h older newer ≡ 0)
+module _ (i : Instrument) (h : Option Hit) (older newer : List ℤ) (b : Book) (v : Held i older newer b) (none : inexact_in i h older newer ≡ 0)
   where
     abbrev c : Settings
     c = i.settings
@@ -97,13 +97,13 @@ module _ (i : Instrument) (h : Hit) (older newer : List ℤ) (b : Book) (v : Hel
 
 -- ---- the steps of a block
 
-held_steps : (i : Instrument) (h : Hit) (k : ℕ) (older newer : List ℤ) (b : Book) → Held i older newer b
+held_steps : (i : Instrument) (h : Option Hit) (k : ℕ) (older newer : List ℤ) (b : Book) → Held i older newer b
     → inexact_after i h k older newer ≡ 0
     → Held i (levels_after i h k older newer).older (levels_after i h k older newer).newer (unrounded_steps i h k b)
 unfolding levels_after inexact_after unrounded_steps
 held_steps i h zero older newer b v e = v
 held_steps i h (suc k) older newer b v e =
-    held_steps i Absent k newer (next_level i h older newer) (unrounded_step i h b) (held_next i h older newer b v (omega (arith, e)))
+    held_steps i None k newer (next_level i h older newer) (unrounded_step i h b) (held_next i h older newer b v (omega (arith, e)))
     (omega (arith, e))
 
 -- ---- every effect
@@ -129,7 +129,7 @@ on_scale i (step_of l) n e = ap (λ (l : Instrument). scale l.settings n) (same_
 abbrev Exact : State → Type 0
 Exact t = t.inexact ≡ 0 → Unrounded t
 
-module _ (i : Instrument) (h : Hit) (t : State) (v : Exact t) where
+module _ (i : Instrument) (h : Option Hit) (t : State) (v : Exact t) where
   -- what the book steps on from
   abbrev from : Book
   from = cond (goes_on i t.book.last) t.book (fresh t.book.last t.older t.newer)
@@ -220,7 +220,7 @@ program_exact_from_start older newer ms kept each =
 
 -- ---- R a whole number, without stiffness and loss: every numerator is some whole number of D
 
-by_whole : (i : Instrument) (h : Hit) (older newer : List ℤ) (r : ℕ) → i.settings.q ≡ r * D → i.settings.m ≡ 0 → i.settings.s ≡ 0
+by_whole : (i : Instrument) (h : Option Hit) (older newer : List ℤ) (r : ℕ) → i.settings.q ≡ r * D → i.settings.m ≡ 0 → i.settings.s ≡ 0
     → inexact_in i h older newer ≡ 0
 unfolding inexact_in inexact_at numerator
 by_whole i h older newer r q m s =

@@ -13,7 +13,6 @@ use Rattle.forms.proofs.Form.{Form, scale-both}
 use Rattle.types.specs.declared.Grid.{Grid}
 use Rattle.types.specs.declared.Instrument.{Instrument}
 use Rattle.types.specs.declared.Hit.{Hit}
-use Rattle.types.specs.declared.Hit.TheVariants.{Absent}
 use Rattle.types.specs.declared.BlockAnswer.{BlockAnswer}
 use Rattle.types.specs.Numbers.{D}
 use Rattle.pluck_table.specs.Table.{table}
@@ -33,6 +32,7 @@ use Rattle.scheme.proofs.Laws.Lists.{map-tabulate}
 use Rattle.scheme.proofs.Laws.Mirror.{points-negated, force_negated, cond_odd, numerator_odd, block_mirrored, shape_mirrored}
 use Rattle.scheme.proofs.Laws.Mirror.{pluck_mirrored, with_mirrored}
 use Rattle.scheme.proofs.Theorems.Forms.{pair_form, laplacian_form}
+use Rattle.std.specs.Prelude.{Option, None}
 
 -- ---- steps in the book
 
@@ -44,7 +44,7 @@ times-negated : (z : ℤ) (xs : List ℤ) → times z (negated xs) ≡ negated (
 times-negated z [] = refl
 times-negated z (x ∷ xs) = ap₂ ◌∷◌ (ring 2 (λ z x. z ⊗ (⊝ x) ≈ ⊝ (z ⊗ x)) refl z x) (times-negated z xs)
 
-unrounded_mirrored : (i : Instrument) (h : Hit) (b : Book) → unrounded_step i (mirror_hit h) (mirror_book b) ≡ mirror_book
+unrounded_mirrored : (i : Instrument) (h : Option Hit) (b : Book) → unrounded_step i (mirror_hit h) (mirror_book b) ≡ mirror_book
     (unrounded_step i h b)
 unfolding unrounded_step unrounded_at
 unrounded_mirrored i h b = λ x. record {
@@ -69,14 +69,14 @@ unrounded_mirrored i h b = λ x. record {
     newer = sym (map-tabulate neg_ℤ (points i.grid) _ _ (λ k l. sym (cond_odd (moving i.grid k)
         (numerator i (point b.newer) (point b.older) (p ⊡ force_of h) k) (odd k))))
 
-unrounded_steps_mirrored : (i : Instrument) (h : Hit) (k : ℕ) (b : Book)
+unrounded_steps_mirrored : (i : Instrument) (h : Option Hit) (k : ℕ) (b : Book)
     → unrounded_steps i (mirror_hit h) k (mirror_book b) ≡ mirror_book (unrounded_steps i h k b)
 unfolding unrounded_steps
 unrounded_steps_mirrored i h zero b = refl
 unrounded_steps_mirrored i h (suc k) b =
-    ap (unrounded_steps i Absent k) (unrounded_mirrored i h b) ∙ unrounded_steps_mirrored i Absent k (unrounded_step i h b)
+    ap (unrounded_steps i None k) (unrounded_mirrored i h b) ∙ unrounded_steps_mirrored i None k (unrounded_step i h b)
 
-steps_mirrored : (i : Instrument) (h : Hit) (older newer : List ℤ) (k : ℕ) (b : Book)
+steps_mirrored : (i : Instrument) (h : Option Hit) (older newer : List ℤ) (k : ℕ) (b : Book)
     → book_block i (mirror_hit h) (negated older) (negated newer) k (mirror_book b) ≡ mirror_book (book_block i h older newer k b)
 unfolding book_block
 steps_mirrored i h older newer zero b = refl
@@ -113,7 +113,7 @@ plucked_mirrored ts g c w a done b =
 
 -- what the book and the sum are fed of an outcome
 abbrev pub told : Outcome → BlockAnswer
-told o = record { steps = steps_of o; inexact = inexact_of o; refusal = refusal_of o }
+told o = record { steps = steps_of o; inexact = inexact_of o; outcome = refusal_of o }
 
 pub fed_book : (k : Call) (o o' : Outcome) (older newer : List ℤ) (b : Book) → told o ≡ told o'
     → book_call k o older newer b ≡ book_call k o' older newer b
@@ -121,16 +121,16 @@ unfolding book_call
 fed_book (block_call i work samples pick h) o o' older newer b e = ap (λ (a : BlockAnswer). book_block i h older newer a.steps b) e
 fed_book (in_place_call i samples pick h) o o' older newer b e = ap (λ (a : BlockAnswer). book_block i h older newer a.steps b) e
 fed_book (pluck_call g c w a) o o' older newer b e =
-    ap (λ (r : BlockAnswer). book_pluck (accepted r.refusal) (pluck_level table g c w a) b) e
+    ap (λ (r : BlockAnswer). book_pluck (accepted r.outcome) (pluck_level table g c w a) b) e
 fed_book (pluck_with_call g c w a lent) o o' older newer b e =
-    ap (λ (r : BlockAnswer). book_pluck (accepted r.refusal) (pluck_level lent g c w a) b) e
+    ap (λ (r : BlockAnswer). book_pluck (accepted r.outcome) (pluck_level lent g c w a) b) e
 
 pub fed_sum : (k : Call) (o o' : Outcome) (b : Book) (sum : ℕ) → told o ≡ told o' → sum_call k o b sum ≡ sum_call k o' b sum
 unfolding sum_call
 fed_sum (block_call i work samples pick h) o o' b sum e = ap (λ (a : BlockAnswer). sum_block i a.steps a.inexact b sum) e
 fed_sum (in_place_call i samples pick h) o o' b sum e = ap (λ (a : BlockAnswer). sum_block i a.steps a.inexact b sum) e
-fed_sum (pluck_call g c w a) o o' b sum e = ap (λ (r : BlockAnswer). sum_pluck (accepted r.refusal) sum) e
-fed_sum (pluck_with_call g c w a lent) o o' b sum e = ap (λ (r : BlockAnswer). sum_pluck (accepted r.refusal) sum) e
+fed_sum (pluck_call g c w a) o o' b sum e = ap (λ (r : BlockAnswer). sum_pluck (accepted r.outcome) sum) e
+fed_sum (pluck_with_call g c w a lent) o o' b sum e = ap (λ (r : BlockAnswer). sum_pluck (accepted r.outcome) sum) e
 
 told_mirrored : (o : Outcome) → told (mirror_outcome o) ≡ told o
 told_mirrored (block_outcome a work samples) = refl
