@@ -1,6 +1,5 @@
 // The steps of a call: its checks, and its steps where nothing refuses them.
 ghost use Rattle.std.specs.Prelude.{◌≡◌, false, length};
-ghost use Rattle.types.specs.declared.Refusal.TheVariants.{Nothing};
 ghost use Rattle.scheme.specs.Refusals.{wrong_length, block_refusal};
 ghost use Rattle.scheme.specs.Calls.{block, block_in_place};
 ghost use Rattle.scheme.specs.Calls as Calls;
@@ -11,7 +10,6 @@ ghost use Rattle.steps.specs.Left.{Opens, LeftFrom, LeftInTurn, LeftInPlace};
 use crate::play::{Steps, play};
 use block_checks::block_refusal;
 use edges::row_edges;
-use instruments::is_nothing;
 use plans::make_plan;
 use slices::clear;
 use stretches::PIECE;
@@ -33,10 +31,10 @@ fn begin(
     work: &mut [i64],
     samples: &mut [i16],
     pick: usize,
-    hit: Hit,
+    hit: Option<Hit>,
     first: Turn,
 ) -> Steps
-    requires { (block_refusal i older.old newer.old false pick hit ≡ Nothing) × Opens i.grid work.old first }
+    requires { (block_refusal i older.old newer.old false pick hit ≡ Ok tt) × Opens i.grid work.old first }
     ensures { Played (Calls.play i pick hit older.old newer.old samples.old)
         (length samples.old) result (older_of result.turn older.new newer.new work.new)
         (newer_of result.turn older.new newer.new work.new) samples.new
@@ -57,26 +55,22 @@ fn steps_from(
     work: &mut [i64],
     samples: &mut [i16],
     pick: usize,
-    hit: Hit,
+    hit: Option<Hit>,
     wrong: bool,
     first: Turn,
 ) -> Result<InTurn, Refusal>
-    requires { (block_refusal i older.old newer.old wrong pick hit ≡ Nothing) → Opens i.grid work.old first }
+    requires { (block_refusal i older.old newer.old wrong pick hit ≡ Ok tt) → Opens i.grid work.old first }
     ensures { LeftFrom first (block_refusal i older.old newer.old wrong pick hit)
         (Calls.play i pick hit older.old newer.old samples.old)
         older.old newer.old work.old samples.old
         result older.new newer.new work.new samples.new }
 {
-    let refusal = block_refusal(i, older, newer, wrong, pick, hit);
-    if !is_nothing(refusal) {
-        return Err(refusal);
-    }
+    block_refusal(i, older, newer, wrong, pick, hit)?;
     let steps = begin(i, older, newer, work, samples, pick, hit, first);
-    let refusal = ending(steps.done, samples.len());
     let answer = BlockAnswer {
         steps: steps.done,
         inexact: steps.inexact,
-        refusal,
+        outcome: ending(steps.done, samples.len()),
     };
     Ok(InTurn {
         answer,
@@ -93,7 +87,7 @@ pub fn steps_in_turn(
     work: &mut [i64],
     samples: &mut [i16],
     pick: usize,
-    hit: Hit,
+    hit: Option<Hit>,
 ) -> Result<InTurn, Refusal>
     ensures { LeftInTurn
         (block_refusal i older.old newer.old (wrong_length i.grid (length work.old)) pick hit)
@@ -122,7 +116,7 @@ pub fn steps_in_place(
     newer: &mut [i64],
     samples: &mut [i16],
     pick: usize,
-    hit: Hit,
+    hit: Option<Hit>,
 ) -> Result<InTurn, Refusal>
     ensures { LeftInPlace (block_refusal i older.old newer.old false pick hit)
         (block_in_place i older.old newer.old samples.old pick hit)

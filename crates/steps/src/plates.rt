@@ -117,7 +117,7 @@ fn struck_row(
     newer: &[i64],
     rows: SumRows,
     row: Stretch,
-    hit: Hit,
+    hit: Option<Hit>,
     sums: &mut [i64],
     out: &mut [i64],
 ) -> Option<u64>
@@ -143,7 +143,7 @@ fn plate_row(
     newer: &[i64],
     rows: SumRows,
     row: Stretch,
-    hit: Hit,
+    hit: Option<Hit>,
     sums: &mut [i64],
     out: &mut [i64],
 ) -> Option<u64>
@@ -186,7 +186,7 @@ pub(crate) fn plate_level<const WRITE: bool, const IN_PLACE: bool>(
     older: &mut [i64],
     newer: &[i64],
     out: &mut [i64],
-    hit: Hit,
+    hit: Option<Hit>,
 ) -> Option<u64>
     requires { Passable plan hit IN_PLACE older.old newer.now out.old × (kind plan.instrument.grid ≡ plate) }
     ensures { Passed plan.instrument hit WRITE IN_PLACE older.old newer.now out.old

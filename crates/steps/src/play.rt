@@ -29,7 +29,7 @@ pub(crate) fn play(
     work: &mut [i64],
     samples: &mut [i16],
     pick: usize,
-    hit: Hit,
+    hit: Option<Hit>,
     first: Turn,
 ) -> Steps
     requires begins { Begins first plan hit older.old newer.old work.old × (pick < points plan.instrument.grid) }

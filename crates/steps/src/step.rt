@@ -25,7 +25,7 @@ fn small_step(
     older: &mut [i64],
     newer: &[i64],
     room: &mut [i64],
-    hit: Hit,
+    hit: Option<Hit>,
 ) -> Option<u64>
     requires steppable { Steppable plan hit older.old newer.now older.old × (length room.old ≡ length older.old) }
     requires edges_of { EdgesOf plan.instrument.grid edges.now }
@@ -44,7 +44,7 @@ fn step_in_place(
     older: &mut [i64],
     newer: &[i64],
     room: &mut [i64],
-    hit: Hit,
+    hit: Option<Hit>,
 ) -> Option<u64>
     requires steppable { Steppable plan hit older.old newer.now older.old × (piece ≤ length room.old) }
     requires edges_of { EdgesOf plan.instrument.grid edges.now }
@@ -65,7 +65,7 @@ pub(crate) fn step_in_turn(
     older: &mut [i64],
     newer: &mut [i64],
     work: &mut [i64],
-    hit: Hit,
+    hit: Option<Hit>,
     turn: Turn,
 ) -> Option<u64>
     requires steppable { Steppable plan hit (older_of turn older.old newer.old work.old) (newer_of turn older.old newer.old work.old)

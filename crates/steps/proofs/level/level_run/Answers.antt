@@ -17,9 +17,10 @@ use Rattle.steps.proofs.PassLaws.{room_within, passing_ready}
 use Rattle.steps.proofs.RowLaws.{Rows, rows_at, rows_done, steppable_ready, run_here, row_room, run_moves, rows_stop}
 use Rattle.steps.proofs.RowLaws.{rows_more, rows_most, stepped-all, stepped-not}
 use Rattle.steps.proofs.level.level_run.Goals as goal
+use Rattle.std.specs.Prelude.{Option}
 
 -- a row lies in the level
-row-inside : {p : Plan} {h : Hit} {write inPlace : Bool} {older₀ newer out₀ older out : List ℤ} {n : ℕ} (xs : List ℕ) (row : ℕ)
+row-inside : {p : Plan} {h : Option Hit} {write inPlace : Bool} {older₀ newer out₀ older out : List ℤ} {n : ℕ} (xs : List ℕ) (row : ℕ)
     → Passable p h inPlace older₀ newer out₀ → EdgesOf p.instrument.grid xs
     → Rows p.instrument h write inPlace older₀ newer out₀ older out row (row * p.instrument.grid.columns) n
     → row < p.instrument.grid.rows → get_or xs (64 + row) 0 ≤ points p.instrument.grid

@@ -18,6 +18,7 @@ use Rattle.steps.proofs.HitLaws.{some_move, run_inside}
 use Rattle.steps.proofs.PassLaws.{piece_placed, passing_append, passing_stops, passing_most}
 use Rattle.steps.proofs.PassLaws.{passing_ready, stretch_passing, stretch_stops, tested_passing}
 use Rattle.steps.proofs.level.row_pass.Goals as goal
+use Rattle.std.specs.Prelude.{Option}
 
 -- the points a..b as a piece
 abbrev ending : (write inPlace : Bool) (a b : ℕ) → Stretch
@@ -32,7 +33,7 @@ record Piece (p : Plan) (write inPlace : Bool) (older newer out : List ℤ) (at 
   inside : x.to ≤ points p.instrument.grid
   placed : Placed x (length out)
 
-piece_of : {p : Plan} {h : Hit} {write inPlace : Bool} {older₀ newer out₀ older out : List ℤ} {from at to n : ℕ} {x : Stretch}
+piece_of : {p : Plan} {h : Option Hit} {write inPlace : Bool} {older₀ newer out₀ older out : List ℤ} {from at to n : ℕ} {x : Stretch}
     → Ready p (pos 0) older₀ newer × RowRoom inPlace to out₀ → Moves p.instrument.grid from to
     → Passing p.instrument h write inPlace older₀ newer out₀ older out from at (Some n) → from ≤ at → at < to
     → x ≡ piece_at inPlace at to write
