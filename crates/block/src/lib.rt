@@ -13,14 +13,14 @@ use types::{BlockAnswer, Hit, Instrument, Refusal};
 
 // What a call answers by what its steps tell: a refused one has done none.
 fn answered(told: Result<InTurn, Refusal>) -> BlockAnswer
-    ensures { MatchResult told (λ t. result ≡ t.answer) (λ x. result ≡ record { steps = 0; inexact = 0; refusal = x }) }
+    ensures { MatchResult told (λ t. result ≡ t.answer) (λ x. result ≡ record { steps = 0; inexact = 0; outcome = Err x }) }
 {
     match told {
         Ok(done) => done.answer,
         Err(refusal) => BlockAnswer {
             steps: 0,
             inexact: 0,
-            refusal,
+            outcome: Err(refusal),
         },
     }
 }
@@ -34,7 +34,7 @@ pub fn block(
     work: &mut [i64],
     samples: &mut [i16],
     pick: usize,
-    hit: Hit,
+    hit: Option<Hit>,
 ) -> BlockAnswer
     ensures { block_left result older.new newer.new work.new samples.new
         ≡ block i older.old newer.old work.old samples.old pick hit }
@@ -55,7 +55,7 @@ pub fn block_in_place(
     newer: &mut [i64],
     samples: &mut [i16],
     pick: usize,
-    hit: Hit,
+    hit: Option<Hit>,
 ) -> BlockAnswer
     ensures { in_place_left result older.new newer.new samples.new
         ≡ block_in_place i older.old newer.old samples.old pick hit }
