@@ -29,7 +29,7 @@ use Rattle.steps.proofs.CountLaws.{counted_most, counted_not}
 use Rattle.steps.proofs.FillLaws.{filled_not, ran_all, ran_none, ran_not, ran_passed, ran_append, ran_stops, ran_same}
 
 -- what is made of a point goes by older at that point alone
-next_older : (i : Instrument) (h : Hit) (older older' newer : List ℤ) (k : ℕ) → point older k ≡ point older' k
+next_older : (i : Instrument) (h : Option Hit) (older older' newer : List ℤ) (k : ℕ) → point older k ≡ point older' k
     → next_of i h older newer k ≡ next_of i h older' newer k
 unfolding next_at inexact_at numerator
 next_older i h older older' newer k e =
@@ -43,12 +43,12 @@ next_older i h older older' newer k e =
         (force_of h k)
 
 -- from its end on older is as it was
-ahead : (i : Instrument) (h : Hit) (write inPlace : Bool) {older₀ newer out₀ older out : List ℤ} {a b n : ℕ}
+ahead : (i : Instrument) (h : Option Hit) (write inPlace : Bool) {older₀ newer out₀ older out : List ℤ} {a b n : ℕ}
     → Passing i h write inPlace older₀ newer out₀ older out a b (Some n) → (k : ℕ) → b ≤ k → point older k ≡ point older₀ k
 ahead i h write true p k l = (p.ran.filled refl).kept k (inr (inr (omega arith)))
 ahead i h write false p k l = ap (λ (xs : List ℤ). point xs k) (p.kept refl)
 
-module _ {i : Instrument} {h : Hit} {write inPlace : Bool} {newer : List ℤ} where
+module _ {i : Instrument} {h : Option Hit} {write inPlace : Bool} {newer : List ℤ} where
   -- no point yet
   pub passing_none : (older out : List ℤ) (a : ℕ) → Passing i h write inPlace older newer out older out a a (Some 0)
   passing_none older out a = record { ran = ran_none _ a; older_long = refl; out_long = refl; kept = λ e. refl }
@@ -104,7 +104,7 @@ piece_placed true o few h r s = record { order = o; above = omega arith; room = 
 piece_placed false o few h r s = record { order = o; above = omega arith; room = omega (arith, h, r.for_all refl) }
 
 -- and put into older, if it is written in place
-piece_passing : (i : Instrument) (h : Hit) (write inPlace : Bool) {newer older out older₁ out₁ : List ℤ} {a b base : ℕ} {r : Option ℕ}
+piece_passing : (i : Instrument) (h : Option Hit) (write inPlace : Bool) {newer older out older₁ out₁ : List ℤ} {a b base : ℕ} {r : Option ℕ}
     → (inPlace ≡ false → base ≡ 0) → Stepping i h write base older newer out out₁ a b r → all_within r ≡ true
     → Filled (λ k. point out₁ (k - base)) (inPlace && write) 0 older older₁ a b → ((inPlace && write) ≡ false → older₁ ≡ older)
     → Passing i h write inPlace older newer out older₁ out₁ a b r
@@ -144,7 +144,7 @@ piece_passing i h write false {newer} {older} {out} {older₁} {out₁} {a} {b} 
 }
 
 -- one of its values lies beyond the ceiling
-piece_stops : (i : Instrument) (h : Hit) (write inPlace : Bool) {newer older out out₁ : List ℤ} {a b base : ℕ} {r : Option ℕ}
+piece_stops : (i : Instrument) (h : Option Hit) (write inPlace : Bool) {newer older out out₁ : List ℤ} {a b base : ℕ} {r : Option ℕ}
     → (inPlace ≡ false → base ≡ 0) → Stepping i h write base older newer out out₁ a b r → all_within r ≡ false
     → Passing i h write inPlace older newer out older out₁ a b r
 piece_stops i h write true z q e =
@@ -160,7 +160,7 @@ piece_stops i h write false {newer} {older} {out} {out₁} {a} {b} {r = r} z q e
 aside : (inPlace : Bool) (a : ℕ) → inPlace ≡ false → base_of inPlace a ≡ 0
 aside inPlace a f = ap (λ (t : Bool). base_of t a) f
 
-module _ (i : Instrument) (h : Hit) (write inPlace : Bool) {newer older out out₁ : List ℤ} {x : Stretch} {a b : ℕ} {r : Option ℕ}
+module _ (i : Instrument) (h : Option Hit) (write inPlace : Bool) {newer older out out₁ : List ℤ} {x : Stretch} {a b : ℕ} {r : Option ℕ}
     (e : x ≡ record { from = a; to = b; force = pos 0; base = base_of inPlace a; write = write })
     (q : Stepping i h x.write x.base older newer out out₁ x.from x.to r)
   where
@@ -178,7 +178,7 @@ module _ (i : Instrument) (h : Hit) (write inPlace : Bool) {newer older out out�
 
 -- ---- the levels after a pass are ready for another
 
-older_low : (i : Instrument) (h : Hit) (write inPlace : Bool) {older₀ newer out₀ older out : List ℤ} {a b n : ℕ}
+older_low : (i : Instrument) (h : Option Hit) (write inPlace : Bool) {older₀ newer out₀ older out : List ℤ} {a b n : ℕ}
     → Passing i h write inPlace older₀ newer out₀ older out a b (Some n) → ((k : ℕ) → nat_abs (point older₀ k) ≤ ceiling)
     → (k : ℕ) → nat_abs (point older k) ≤ ceiling
 older_low i h write false p low k = subst (λ (xs : List ℤ). nat_abs (point xs k) ≤ ceiling) (sym (p.kept refl)) (low k)
@@ -196,7 +196,7 @@ older_low i h true true {older₀} {newer} {older = older} {a = a} {b = b} p low
         let put = ap (point older) (sym (sub-zero k)) ∙ (p.ran.filled refl).written refl k (omega (arith, s)) t in
         ltb-false ceiling _ (ap beyond put ∙ p.ran.low refl k (omega (arith, s)) t)
 
-pub passing_ready : {p : Plan} {f : ℤ} {h : Hit} {write inPlace : Bool} {older₀ newer out₀ older out : List ℤ} {a b n : ℕ}
+pub passing_ready : {p : Plan} {f : ℤ} {h : Option Hit} {write inPlace : Bool} {older₀ newer out₀ older out : List ℤ} {a b n : ℕ}
     → Ready p f older₀ newer → Passing p.instrument h write inPlace older₀ newer out₀ older out a b (Some n)
     → Ready p f older newer
 passing_ready {p} {h = h} {write} {inPlace} r q = record {
@@ -211,7 +211,7 @@ passing_ready {p} {h = h} {write} {inPlace} r q = record {
 
 -- ---- a row that was tested alone
 
-pub tested_passing : (i : Instrument) (h : Hit) (inPlace : Bool) {write : Bool} {older newer out : List ℤ} {a b : ℕ} (r : Bool)
+pub tested_passing : (i : Instrument) (h : Option Hit) (inPlace : Bool) {write : Bool} {older newer out : List ℤ} {a b : ℕ} (r : Bool)
     {x : Option ℕ} → a ≤ b → write ≡ false → Tested (next_of i h older newer) a b r → x ≡ then_some r 0
     → Passing i h write inPlace older newer out older out a b x
 tested_passing i h inPlace {write} {older} {newer} {out} {a} {b} r l e t is =

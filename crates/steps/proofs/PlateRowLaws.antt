@@ -17,7 +17,9 @@ use Rattle.types.specs.declared.Instrument.{Instrument}
 use Rattle.types.specs.declared.Hit.{Hit}
 use Rattle.types.specs.Numbers.{ceiling}
 use Rattle.scheme.specs.Lists.{point}
-use Rattle.scheme.specs.Instruments.{Kind, plate, kind, points, in_table, moving}
+use Rattle.types.specs.declared.Kind.{Kind}
+use Rattle.types.specs.declared.Kind.TheVariants.{Plate}
+use Rattle.scheme.specs.Instruments.{kind, points, in_table, moving}
 use Rattle.scheme.proofs.Laws.Bools.{neither_or}
 use Rattle.kinds.specs.Runs.{run, run_in, inner_run, run_of}
 use Rattle.kinds.proofs.RunLaws.{run_is}
@@ -38,7 +40,7 @@ use Rattle.steps.proofs.PlateLaws.{put_low, sum-still, sum_around, sum_low}
 
 -- ---- the rows of a plate
 
-module _ (g : Grid) (size : in_table g ≡ true) (is-plate : kind g ≡ plate) (row : ℕ) (h : row < g.rows) where
+module _ (g : Grid) (size : in_table g ≡ true) (is-plate : kind g ≡ Plate) (row : ℕ) (h : row < g.rows) where
   plate_run : run_of g row ≡ inner_run g.columns g.rows row
   unfolding run_in
   plate_run = run_is g row size h ∙ ap (λ (K : Kind). run_in K g.columns g.rows row) is-plate
@@ -100,7 +102,7 @@ turn_apart first h = inl (omega arith)
 
 -- ---- a loop over the rows: those above have their next values, n of them inexact, the sums of the row and of the one above it stand
 
-pub record PlateRows (i : Instrument) (h : Hit) (write inPlace : Bool) (older₀ newer out₀ older out sums : List ℤ)
+pub record PlateRows (i : Instrument) (h : Option Hit) (write inPlace : Bool) (older₀ newer out₀ older out sums : List ℤ)
     (other here row start n : ℕ) : Type 0 where
   pub rows : Rows i h write inPlace older₀ newer out₀ older out row start n
   pub some : 1 ≤ row
@@ -111,8 +113,8 @@ pub record PlateRows (i : Instrument) (h : Hit) (write inPlace : Bool) (older₀
   pub here_row : SumRow i.grid newer sums start here
   pub low : AtMost (4 * ceiling) (point sums)
 
-module _ {p : Plan} {h : Hit} {inPlace : Bool} {older₀ newer out₀ : List ℤ} (a : Passable p h inPlace older₀ newer out₀)
-    (is-plate : kind p.instrument.grid ≡ plate)
+module _ {p : Plan} {h : Option Hit} {inPlace : Bool} {older₀ newer out₀ : List ℤ} (a : Passable p h inPlace older₀ newer out₀)
+    (is-plate : kind p.instrument.grid ≡ Plate)
   where
     abbrev s : Steppable p h older₀ newer (target inPlace older₀ out₀)
     s = a.given

@@ -83,17 +83,17 @@ module _ (g : Grid) (b : ℕ) (size : in_table g ≡ true) (h : b < g.rows) wher
 
 -- ---- a loop over the rows: the points before start have their next values, n of them inexact
 
-pub record Rows (i : Instrument) (h : Hit) (write inPlace : Bool) (older₀ newer out₀ older out : List ℤ) (row start n : ℕ) : Type 0 where
+pub record Rows (i : Instrument) (h : Option Hit) (write inPlace : Bool) (older₀ newer out₀ older out : List ℤ) (row start n : ℕ) : Type 0 where
   pub start_is : start ≡ row * i.grid.columns
   pub upto : row ≤ i.grid.rows
   pub done : Passing i h write inPlace older₀ newer out₀ older out 0 start (Some n)
 
-pub rows_start : {i : Instrument} {h : Hit} {write inPlace : Bool} {newer : List ℤ} (older out : List ℤ)
+pub rows_start : {i : Instrument} {h : Option Hit} {write inPlace : Bool} {newer : List ℤ} (older out : List ℤ)
     → Rows i h write inPlace older newer out older out 0 0 0
 rows_start older out = record { start_is = omega arith; upto = zero-le; done = passing_none older out 0 }
 
 -- the row's start may be written otherwise
-pub rows_at : {i : Instrument} {h : Hit} {write inPlace : Bool} {older₀ newer out₀ older out : List ℤ} {row start start' n : ℕ}
+pub rows_at : {i : Instrument} {h : Option Hit} {write inPlace : Bool} {older₀ newer out₀ older out : List ℤ} {row start start' n : ℕ}
     → start ≡ start' → Rows i h write inPlace older₀ newer out₀ older out row start n
     → Rows i h write inPlace older₀ newer out₀ older out row start' n
 rows_at {i} {h} {write} {inPlace} {older₀} {newer} {out₀} {older} {out} {row} {n = n} e l =
@@ -101,7 +101,7 @@ rows_at {i} {h} {write} {inPlace} {older₀} {newer} {out₀} {older} {out} {row
 
 -- ---- what a step is given
 
-module _ {p : Plan} {h : Hit} {older₀ newer room : List ℤ} (s : Steppable p h older₀ newer room) where
+module _ {p : Plan} {h : Option Hit} {older₀ newer room : List ℤ} (s : Steppable p h older₀ newer room) where
   pub steppable_ready : Ready p (pos 0) older₀ newer
   steppable_ready = record {
     planned = s.planned;
@@ -113,7 +113,7 @@ module _ {p : Plan} {h : Hit} {older₀ newer room : List ℤ} (s : Steppable p 
     f_low = zero-le;
   }
 
-module _ {p : Plan} {h : Hit} {inPlace : Bool} {older₀ newer out₀ : List ℤ} (a : Passable p h inPlace older₀ newer out₀) where
+module _ {p : Plan} {h : Option Hit} {inPlace : Bool} {older₀ newer out₀ : List ℤ} (a : Passable p h inPlace older₀ newer out₀) where
   abbrev s : Steppable p h older₀ newer (target inPlace older₀ out₀)
   s = a.given
 

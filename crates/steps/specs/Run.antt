@@ -24,7 +24,7 @@ unfoldable pub next_by : Instrument → ℤ → (older newer : List ℤ) → ℕ
 next_by i f older newer k = next_over (numerator i (point newer) (point older) (λ j. f) k) (divisor i.settings)
 
 -- of point k by the definitions, with the forces of a hit
-abbrev pub next_of : Instrument → Hit → (older newer : List ℤ) → ℕ → Next
+abbrev pub next_of : Instrument → Option Hit → (older newer : List ℤ) → ℕ → Next
 next_of i h older newer k = record { value = next_at i h older newer k; inexact = inexact_at i h older newer k }
 
 -- ---- what a run answers: n, where every value lies within the ceiling and n of those written are inexact
@@ -80,7 +80,7 @@ Advanced p s older newer out₀ out from to r =
     Ran (next_by p.instrument s.force older newer) s.write s.base out₀ out from to r
 
 -- the same of points with the forces of a hit
-abbrev pub Stepping : Instrument → Hit → (write : Bool) (base : ℕ) (older newer out₀ out : List ℤ) → (from to : ℕ) → Option ℕ → Type 0
+abbrev pub Stepping : Instrument → Option Hit → (write : Bool) (base : ℕ) (older newer out₀ out : List ℤ) → (from to : ℕ) → Option ℕ → Type 0
 Stepping i h write base older newer out₀ out from to r = Ran (next_of i h older newer) write base out₀ out from to r
 
 -- ---- where a run lies

@@ -12,7 +12,7 @@ use crate::plates::plate_level;
 use crate::points::points_run;
 use crate::within::is_row_within;
 use plans::Plan;
-use stretches::{Stretch, piece_at, stretch_at};
+use stretches::{Stretch, piece_at};
 use types::Hit;
 
 // The moving points of a row.
@@ -21,7 +21,7 @@ fn row_stretches(
     older: &[i64],
     newer: &[i64],
     row: Stretch,
-    hit: Hit,
+    hit: Option<Hit>,
     out: &mut [i64],
 ) -> Option<u64>
     requires ready { Ready plan (pos 0) older.now newer.now × Placed row (length out.old) }
@@ -33,7 +33,7 @@ fn row_stretches(
     let mut at = row.from;
     // by `while`: each stretch begins where the one before it ended, which no iterator of the library says
     while at < row.to {
-        let s = stretch_at(row, hit, at);
+        let s = row.stretch_at(hit, at);
         inexact += points_run(plan, older, newer, s, out)?;
         at = s.to;
     }
@@ -47,7 +47,7 @@ fn row_pass<const WRITE: bool, const IN_PLACE: bool>(
     newer: &[i64],
     from: usize,
     to: usize,
-    hit: Hit,
+    hit: Option<Hit>,
     out: &mut [i64],
 ) -> Option<u64>
     requires ready { Ready plan (pos 0) older.old newer.now × RowRoom IN_PLACE to out.old }
@@ -78,7 +78,7 @@ fn level_run<const WRITE: bool, const IN_PLACE: bool>(
     older: &mut [i64],
     newer: &[i64],
     out: &mut [i64],
-    hit: Hit,
+    hit: Option<Hit>,
 ) -> Option<u64>
     requires passable { Passable plan hit IN_PLACE older.old newer.now out.old }
     requires edges_of { EdgesOf plan.instrument.grid edges.now × SoftGrid plan.instrument }
@@ -102,7 +102,7 @@ pub(crate) fn next_level<const WRITE: bool, const IN_PLACE: bool>(
     older: &mut [i64],
     newer: &[i64],
     out: &mut [i64],
-    hit: Hit,
+    hit: Option<Hit>,
 ) -> Option<u64>
     requires passable { Passable plan hit IN_PLACE older.old newer.now out.old }
     requires edges_of { EdgesOf plan.instrument.grid edges.now }

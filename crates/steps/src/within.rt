@@ -14,7 +14,14 @@ use stretches::{clamped, force_at};
 use types::Hit;
 
 // One point: sum is that of its neighbours.
-fn is_point_within(plan: Plan, older: &[i64], newer: &[i64], at: usize, sum: i64, hit: Hit) -> bool
+fn is_point_within(
+    plan: Plan,
+    older: &[i64],
+    newer: &[i64],
+    at: usize,
+    sum: i64,
+    hit: Option<Hit>,
+) -> bool
     requires { Ready plan (pos 0) older.now newer.now × (too_strong hit ≡ false)
         × Neighbouring plan.instrument newer.now at sum (pos 0) }
     ensures { result ≡ not (beyond (next_at plan.instrument hit older.now newer.now at)) }
@@ -31,7 +38,7 @@ fn is_run_within<F: Fn(usize) -> i64 + Drop>(
     sum: F,
     from: usize,
     to: usize,
-    hit: Hit,
+    hit: Option<Hit>,
 ) -> bool
     requires ready { Ready plan (pos 0) older.now newer.now × (too_strong hit ≡ false) × (from ≤ to) }
     requires sums { Sums plan.instrument newer.now (F.pre sum) (F.post sum) from to }
@@ -53,7 +60,7 @@ fn is_end_within(
     near: usize,
     from: usize,
     to: usize,
-    hit: Hit,
+    hit: Option<Hit>,
 ) -> bool
     requires ready { Ready plan (pos 0) older.now newer.now × (too_strong hit ≡ false) × (from ≤ to) }
     requires free_end { FreeEnd plan.instrument near from to }
@@ -73,7 +80,7 @@ fn is_string_within(
     newer: &[i64],
     from: usize,
     to: usize,
-    hit: Hit,
+    hit: Option<Hit>,
 ) -> bool
     requires ready { Ready plan (pos 0) older.now newer.now × (too_strong hit ≡ false) × (plan.instrument.settings.m ≡ 0) }
     requires one_row { (plan.instrument.grid.rows ≡ 1) × Moves plan.instrument.grid from to × (from < to) }
@@ -106,7 +113,7 @@ pub(crate) fn is_row_within(
     newer: &[i64],
     from: usize,
     to: usize,
-    hit: Hit,
+    hit: Option<Hit>,
 ) -> bool
     requires ready { Ready plan (pos 0) older.now newer.now × (too_strong hit ≡ false) × (plan.instrument.settings.m ≡ 0) }
     requires moves { Moves plan.instrument.grid from to }

@@ -1,7 +1,7 @@
 -- The rows passed have their next values.
 use mathlib.Core.Bool.{not}
 use lib.Dec.{eqb}
-use Rattle.std.proofs.Common.{arith, refl, ◌≡◌, sym, ◌+◌, ◌*◌, ◌≤◌, ◌<◌, ℕ, Bool, List, ℤ, get_or, Some, None}
+use Rattle.std.proofs.Common.{Option, arith, refl, ◌≡◌, sym, ◌+◌, ◌*◌, ◌≤◌, ◌<◌, ℕ, Bool, List, ℤ, get_or, Some, None}
 use mathlib.Core.Path.{subst₂}
 use Rattle.types.specs.declared.Hit.{Hit}
 use Rattle.scheme.specs.Instruments.{points}
@@ -19,7 +19,7 @@ use Rattle.steps.proofs.RowLaws.{rows_more, rows_most, stepped-all, stepped-not}
 use Rattle.steps.proofs.level.level_run.Goals as goal
 
 -- a row lies in the level
-row-inside : {p : Plan} {h : Hit} {write inPlace : Bool} {older₀ newer out₀ older out : List ℤ} {n : ℕ} (xs : List ℕ) (row : ℕ)
+row-inside : {p : Plan} {h : Option Hit} {write inPlace : Bool} {older₀ newer out₀ older out : List ℤ} {n : ℕ} (xs : List ℕ) (row : ℕ)
     → Passable p h inPlace older₀ newer out₀ → EdgesOf p.instrument.grid xs
     → Rows p.instrument h write inPlace older₀ newer out₀ older out row (row * p.instrument.grid.columns) n
     → row < p.instrument.grid.rows → get_or xs (64 + row) 0 ≤ points p.instrument.grid

@@ -2,7 +2,7 @@
 use mathlib.Core.Bool.{not}
 use borrow.Author.Tests.{eq-eqb}
 use lib.Dec.{eqb}
-use Rattle.std.proofs.Common.{arith, refl, ◌≡◌, sym, ap, ◌∙◌, ◌+◌, ◌≤◌, ◌<◌, ℕ, Bool, List, ℤ, pos, length, Some}
+use Rattle.std.proofs.Common.{Option, arith, refl, ◌≡◌, sym, ap, ◌∙◌, ◌+◌, ◌≤◌, ◌<◌, ℕ, Bool, List, ℤ, pos, length, Some}
 use mathlib.Core.Path.{subst}
 use Rattle.types.specs.declared.Hit.{Hit}
 use Rattle.scheme.specs.Instruments.{points}
@@ -32,7 +32,7 @@ record Piece (p : Plan) (write inPlace : Bool) (older newer out : List ℤ) (at 
   inside : x.to ≤ points p.instrument.grid
   placed : Placed x (length out)
 
-piece_of : {p : Plan} {h : Hit} {write inPlace : Bool} {older₀ newer out₀ older out : List ℤ} {from at to n : ℕ} {x : Stretch}
+piece_of : {p : Plan} {h : Option Hit} {write inPlace : Bool} {older₀ newer out₀ older out : List ℤ} {from at to n : ℕ} {x : Stretch}
     → Ready p (pos 0) older₀ newer × RowRoom inPlace to out₀ → Moves p.instrument.grid from to
     → Passing p.instrument h write inPlace older₀ newer out₀ older out from at (Some n) → from ≤ at → at < to
     → x ≡ piece_at inPlace at to write

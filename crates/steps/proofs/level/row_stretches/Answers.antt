@@ -13,7 +13,7 @@ use Rattle.steps.proofs.HitLaws.{struck_most, struck_stops, struck-from, run_ins
 use Rattle.steps.proofs.level.row_stretches.Goals as goal
 
 -- what was made of it
-ran : {p : Plan} {h : Hit} {older newer out₀ out out' : List ℤ} {row s : Stretch} {at n : ℕ} {r : Option ℕ}
+ran : {p : Plan} {h : Option Hit} {older newer out₀ out out' : List ℤ} {row s : Stretch} {at n : ℕ} {r : Option ℕ}
     → Struck p h older newer row out₀ out at n s → Advanced p s older newer out out' s.from s.to r
     → Advanced p s older newer out out' at s.to r
 ran {p} {older = older} {newer} {out = out} {out'} {s = s} {r = r} t q =

@@ -13,7 +13,7 @@ use Rattle.steps.proofs.HitLaws.{no_force}
 use Rattle.steps.proofs.plates.plate_row.Goals as goal
 
 -- what a loop over s leaves is what is owed of the row
-owed : (p : Plan) (h : Hit) (older newer out₀ : List ℤ) (rows : SumRows) {s row : Stretch} {out sums : List ℤ} {r : Option ℕ} → s ≡ row
+owed : (p : Plan) (h : Option Hit) (older newer out₀ : List ℤ) (rows : SumRows) {s row : Stretch} {out sums : List ℤ} {r : Option ℕ} → s ≡ row
     → Moves p.instrument.grid row.from row.to → hit_in h row.from row.to ≡ false → row.force ≡ pos 0
     → Advanced p s older newer out₀ out s.from s.to r × (all_within r ≡ true → TwoRows p.instrument.grid newer sums rows s.to)
     → Stepping p.instrument h row.write row.base older newer out₀ out row.from row.to r
