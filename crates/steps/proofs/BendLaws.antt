@@ -36,8 +36,8 @@ module _ (xs : List ℤ) (low : AtMost ceiling (point xs)) where
       go false = size (beside# xs low k) tt
 
   -- a sum as the machine has it
-  abbrev pub Bar# : (k : ℕ) {r : ℤ} → r ≡ bar_sum xs k → E
-  Bar# k {r} e = via {r = r} {z = bar_sum xs k} {B = 2 * ceiling} (record { is = e; size = bar_low k })
+  abbrev pub bar# : (k : ℕ) {r : ℤ} → r ≡ bar_sum xs k → E
+  bar# k {r} e = via {r = r} {z = bar_sum xs k} {B = 2 * ceiling} (record { is = e; size = bar_low k })
 
 -- between the ends
 pub bar_between : (xs : List ℤ) (k : ℕ) → 0 < k → k + 1 < length xs → bar_sum xs k ≡ two_beside xs k

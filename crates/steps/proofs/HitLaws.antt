@@ -1,5 +1,5 @@
 -- The next values of moving points, by the force that a hit has on them.
-use Rattle.std.proofs.Common.{Option}
+use Rattle.std.proofs.Common.{Option, Some, None}
 use mathlib.Core.Path.{◌≡◌, refl, sym, ap, ◌∙◌, subst}
 use mathlib.Core.Bool.{Bool, true, false, not, ◌&&◌, true≢false}
 use mathlib.Core.List.{List}
@@ -13,7 +13,7 @@ use Rattle.integers.proofs.Size.{cond_ind}
 use Rattle.types.specs.declared.Grid.{Grid}
 use Rattle.types.specs.declared.Instrument.{Instrument}
 use Rattle.types.specs.declared.Hit.{Hit}
-use Rattle.types.specs.Numbers.{ceiling, hit_at}
+use Rattle.types.specs.Numbers.{ceiling}
 use Rattle.scheme.specs.Lists.{point}
 use Rattle.scheme.specs.Instruments.{points, moving}
 use Rattle.scheme.specs.Step.{laplacian, biharmonic, numerator_of, numerator, round_away, force_of, divisor, is_multiple, inexact_at}
@@ -27,13 +27,12 @@ use Rattle.stretches.proofs.StretchLaws.{Ends, ends, force_away}
 use Rattle.steps.specs.Plan.{Ready}
 use Rattle.steps.specs.Run.{next_by, next_of, Ran, Advanced, Placed, Moves, all_within, inexact_of}
 use Rattle.steps.proofs.FillLaws.{Running, running_on, running_most, running_stops, ran_same}
-use Rattle.std.specs.Prelude.{None}
 
 -- a force within the ceiling
 pub force_low : (h : Option Hit) → too_strong h ≡ false → (k : ℕ) → nat_abs (force_of h k) ≤ ceiling
 force_low None e k = zero-le
-force_low (hit_at p f) e k =
-    cond_ind (eqb k p) f (pos 0) (λ (z : ℤ). nat_abs z ≤ ceiling) (λ t. ltb-false ceiling (nat_abs f) e) (λ t. zero-le)
+force_low (Some x) e k =
+    cond_ind (eqb k x.point) x.force (pos 0) (λ (z : ℤ). nat_abs z ≤ ceiling) (λ t. ltb-false ceiling (nat_abs x.force) e) (λ t. zero-le)
 
 -- what is ready for one force is ready for another
 pub ready_force : {p : Plan} {f f' : ℤ} {older newer : List ℤ} → Ready p f older newer → nat_abs f' ≤ ceiling → Ready p f' older newer
@@ -84,13 +83,13 @@ no_force i h older newer f {from = from} {to = to} m e z =
   where
     away : (h : Option Hit) → hit_in h from to ≡ false → (k : ℕ) → from ≤ k → k < to → force_of h k ≡ pos 0
     away None e k a b = refl
-    away (hit_at p f) e k a b = force_away p f k (λ s. true≢false (sym (λ j. low s j && high s j) ∙ e))
+    away (Some x) e k a b = force_away x.point x.force k (λ s. true≢false (sym (λ j. low s j && high s j) ∙ e))
       where
-        low : k ≡ p → leb from p ≡ true
-        low s = le-leb from p (omega arith)
+        low : k ≡ x.point → leb from x.point ≡ true
+        low s = le-leb from x.point (omega arith)
 
-        high : k ≡ p → ltb p to ≡ true
-        high s = lt-ltb p to (omega arith)
+        high : k ≡ x.point → ltb x.point to ≡ true
+        high s = lt-ltb x.point to (omega arith)
 
 -- ---- a loop over the stretches of a row
 

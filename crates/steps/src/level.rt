@@ -12,7 +12,7 @@ use crate::plates::plate_level;
 use crate::points::points_run;
 use crate::within::is_row_within;
 use plans::Plan;
-use stretches::{Stretch, piece_at, stretch_at};
+use stretches::{Stretch, piece_at};
 use types::Hit;
 
 // The moving points of a row.
@@ -33,7 +33,7 @@ fn row_stretches(
     let mut at = row.from;
     // by `while`: each stretch begins where the one before it ended, which no iterator of the library says
     while at < row.to {
-        let s = stretch_at(row, hit, at);
+        let s = row.stretch_at(hit, at);
         inexact += points_run(plan, older, newer, s, out)?;
         at = s.to;
     }

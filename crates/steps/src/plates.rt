@@ -2,7 +2,8 @@
 ghost use Rattle.std.specs.Prelude.{◌≡◌, true, false, cond, ◌+◌, ◌-◌, ◌≤◌, ◌<◌, pos, length};
 ghost use Rattle.types.specs.Numbers.{ceiling};
 ghost use Rattle.scheme.specs.Lists.{point};
-ghost use Rattle.scheme.specs.Instruments.{plate, kind};
+ghost use Rattle.types.specs.declared.Kind.TheVariants.{Plate};
+ghost use Rattle.scheme.specs.Instruments.{kind};
 ghost use Rattle.scheme.specs.Refusals.{too_strong};
 ghost use Rattle.steps.specs.Plan.{AtMost, Ready};
 ghost use Rattle.steps.specs.Run.{all_within, Filled, Advanced, Stepping, Placed, four_beside};
@@ -14,7 +15,7 @@ use crate::neighbours::sum_around;
 use crate::pieces::put_piece;
 use crate::points::next_point;
 use plans::Plan;
-use stretches::{Stretch, as_written, is_hit_in, stretch_at};
+use stretches::{Stretch, is_hit_in};
 use types::Hit;
 
 // Where the sums of two rows stand: of column c of the row that begins at point `start` at place here + c; at other + c that of the row
@@ -130,7 +131,7 @@ fn struck_row(
 {
     let mut inexact = 0;
     for at in row.from..row.to {
-        let s = stretch_at(row, hit, at);
+        let s = row.stretch_at(hit, at);
         inexact += plate_point(plan, older, newer, rows, at, s, sums, out)?;
     }
     Some(inexact)
@@ -159,9 +160,9 @@ fn plate_row(
         return struck_row(plan, older, newer, rows, row, hit, sums, out);
     }
     if row.write {
-        return plate_run(plan, older, newer, rows, as_written(row, true), sums, out);
+        return plate_run(plan, older, newer, rows, row.as_written(true), sums, out);
     }
-    plate_run(plan, older, newer, rows, as_written(row, false), sums, out)
+    plate_run(plan, older, newer, rows, row.as_written(false), sums, out)
 }
 
 // The moving points of the row that begins at point `start`: all but its ends.
@@ -188,7 +189,7 @@ pub(crate) fn plate_level<const WRITE: bool, const IN_PLACE: bool>(
     out: &mut [i64],
     hit: Option<Hit>,
 ) -> Option<u64>
-    requires { Passable plan hit IN_PLACE older.old newer.now out.old × (kind plan.instrument.grid ≡ plate) }
+    requires { Passable plan hit IN_PLACE older.old newer.now out.old × (kind plan.instrument.grid ≡ Plate) }
     ensures { Passed plan.instrument hit WRITE IN_PLACE older.old newer.now out.old
         older.new out.new result }
 {

@@ -2,7 +2,8 @@
 // At the first that lies beyond the ceiling each function stops.
 ghost use Rattle.std.specs.Prelude.{◌≡◌, ◌+◌, ◌-◌, ◌≤◌, ◌<◌, length};
 ghost use Rattle.steps.specs.Plan.{Ready, SoftGrid, Neighbouring};
-ghost use Rattle.scheme.specs.Instruments.{bar, kind};
+ghost use Rattle.types.specs.declared.Kind.TheVariants.{Bar};
+ghost use Rattle.scheme.specs.Instruments.{kind};
 ghost use Rattle.scheme.specs.Step.{divisor};
 ghost use Rattle.steps.specs.Run.{next_over, next_by, Advanced, Placed, Moves, Sums, OnLine, FreeEnd};
 
@@ -10,7 +11,7 @@ use crate::arithmetic::{is_below_limit, numerator, stiffness};
 use crate::neighbours::{sum_around, sum_at, sum_beside};
 use plans::Plan;
 use rounding::round_by;
-use stretches::{Stretch, part};
+use stretches::Stretch;
 
 // The numerator at a point: sum is that of its neighbours, stiff is m·B.
 pub(crate) fn numerator_at(
@@ -80,7 +81,7 @@ fn soft_run<F: Fn(usize) -> i64 + Drop>(
 // Points of a bar: the sums of the neighbours before, here and after, each worked out once.
 fn bar_run(plan: Plan, older: &[i64], newer: &[i64], s: Stretch, out: &mut [i64]) -> Option<u64>
     requires ready { Ready plan s.force older.now newer.now × Placed s (length out.old) }
-    requires on_line { OnLine plan.instrument.grid s.from s.to × (kind plan.instrument.grid ≡ bar) }
+    requires on_line { OnLine plan.instrument.grid s.from s.to × (kind plan.instrument.grid ≡ Bar) }
     ensures { Advanced plan s older.now newer.now out.old out.new s.from s.to result }
 {
     let mut inexact = 0;
@@ -141,9 +142,9 @@ fn line_points(plan: Plan, older: &[i64], newer: &[i64], s: Stretch, out: &mut [
     ensures { Advanced plan s older.now newer.now out.old out.new s.from s.to result }
 {
     let n = newer.len();
-    let first = free_end(plan, older, newer, 1, part(s, 0, 1), out)?;
-    let inner = inner_points(plan, older, newer, part(s, 1, n - 1), out)?;
-    let last = free_end(plan, older, newer, n - 2, part(s, n - 1, n), out)?;
+    let first = free_end(plan, older, newer, 1, s.part(0, 1), out)?;
+    let inner = inner_points(plan, older, newer, s.part(1, n - 1), out)?;
+    let last = free_end(plan, older, newer, n - 2, s.part(n - 1, n), out)?;
     Some(first + inner + last)
 }
 

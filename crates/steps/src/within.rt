@@ -14,7 +14,14 @@ use stretches::{clamped, force_at};
 use types::Hit;
 
 // One point: sum is that of its neighbours.
-fn is_point_within(plan: Plan, older: &[i64], newer: &[i64], at: usize, sum: i64, hit: Option<Hit>) -> bool
+fn is_point_within(
+    plan: Plan,
+    older: &[i64],
+    newer: &[i64],
+    at: usize,
+    sum: i64,
+    hit: Option<Hit>,
+) -> bool
     requires { Ready plan (pos 0) older.now newer.now × (too_strong hit ≡ false)
         × Neighbouring plan.instrument newer.now at sum (pos 0) }
     ensures { result ≡ not (beyond (next_at plan.instrument hit older.now newer.now at)) }

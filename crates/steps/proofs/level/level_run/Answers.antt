@@ -1,7 +1,7 @@
 -- The rows passed have their next values.
 use mathlib.Core.Bool.{not}
 use lib.Dec.{eqb}
-use Rattle.std.proofs.Common.{arith, refl, ◌≡◌, sym, ◌+◌, ◌*◌, ◌≤◌, ◌<◌, ℕ, Bool, List, ℤ, get_or, Some, None}
+use Rattle.std.proofs.Common.{Option, arith, refl, ◌≡◌, sym, ◌+◌, ◌*◌, ◌≤◌, ◌<◌, ℕ, Bool, List, ℤ, get_or, Some, None}
 use mathlib.Core.Path.{subst₂}
 use Rattle.types.specs.declared.Hit.{Hit}
 use Rattle.scheme.specs.Instruments.{points}
@@ -17,7 +17,6 @@ use Rattle.steps.proofs.PassLaws.{room_within, passing_ready}
 use Rattle.steps.proofs.RowLaws.{Rows, rows_at, rows_done, steppable_ready, run_here, row_room, run_moves, rows_stop}
 use Rattle.steps.proofs.RowLaws.{rows_more, rows_most, stepped-all, stepped-not}
 use Rattle.steps.proofs.level.level_run.Goals as goal
-use Rattle.std.specs.Prelude.{Option}
 
 -- a row lies in the level
 row-inside : {p : Plan} {h : Option Hit} {write inPlace : Bool} {older₀ newer out₀ older out : List ℤ} {n : ℕ} (xs : List ℕ) (row : ℕ)

@@ -2,7 +2,7 @@
 use mathlib.Core.Bool.{not}
 use borrow.Author.Tests.{eq-eqb}
 use lib.Dec.{eqb}
-use Rattle.std.proofs.Common.{arith, refl, ◌≡◌, sym, ap, ◌∙◌, ◌+◌, ◌≤◌, ◌<◌, ℕ, Bool, List, ℤ, pos, length, Some}
+use Rattle.std.proofs.Common.{Option, arith, refl, ◌≡◌, sym, ap, ◌∙◌, ◌+◌, ◌≤◌, ◌<◌, ℕ, Bool, List, ℤ, pos, length, Some}
 use mathlib.Core.Path.{subst}
 use Rattle.types.specs.declared.Hit.{Hit}
 use Rattle.scheme.specs.Instruments.{points}
@@ -18,7 +18,6 @@ use Rattle.steps.proofs.HitLaws.{some_move, run_inside}
 use Rattle.steps.proofs.PassLaws.{piece_placed, passing_append, passing_stops, passing_most}
 use Rattle.steps.proofs.PassLaws.{passing_ready, stretch_passing, stretch_stops, tested_passing}
 use Rattle.steps.proofs.level.row_pass.Goals as goal
-use Rattle.std.specs.Prelude.{Option}
 
 -- the points a..b as a piece
 abbrev ending : (write inPlace : Bool) (a b : ℕ) → Stretch

@@ -13,20 +13,19 @@ use Rattle.steps.proofs.PointLaws.{bendable, bent}
 use Rattle.steps.proofs.BendLaws.{bar#, bar_beside}
 use Rattle.steps.proofs.FillLaws.{running_on, running_most, running_stops, running_done}
 use Rattle.steps.proofs.points.bar_run.Goals as goal
-use Rattle.types.specs.declared.Kind.TheVariants.{Bar}
 
 pub overflow_add-left : goal.overflow_add-left
 overflow_add-left c =
     let low = c.requires.ready.0.newer_low in
     let right = back c.sum_at-right.result c.sum_at-right.type_inv ∙ c.sum_at-right.ensures in
-    fits (Bar# c.args.newer.now low (c.loop-at.at - 1) c.loop-at.invariant.1 ⊞ Bar# c.args.newer.now low (c.loop-at.at + 1) right) tt
+    fits (bar# c.args.newer.now low (c.loop-at.at - 1) c.loop-at.invariant.1 ⊞ bar# c.args.newer.now low (c.loop-at.at + 1) right) tt
 
 pub stiffness-stiff-requires : goal.stiffness-stiff-requires
 stiffness-stiff-requires c =
     let r = c.requires.ready.0 in
     let k = c.loop-at.at in
     let right = back c.sum_at-right.result c.sum_at-right.type_inv ∙ c.sum_at-right.ensures in
-    let outer : E = Bar# c.args.newer.now r.newer_low (k - 1) c.loop-at.invariant.1 ⊞ Bar# c.args.newer.now r.newer_low (k + 1) right in
+    let outer : E = bar# c.args.newer.now r.newer_low (k - 1) c.loop-at.invariant.1 ⊞ bar# c.args.newer.now r.newer_low (k + 1) right in
     let summed = bar_beside c.args.plan.instrument.grid c.requires.on_line.1 c.args.newer.now r.newer_long c.requires.on_line.0 k
     c.loop-at.invariant.0.order c.loop-at-test.true in
     (r.planned, coe 1 0 (j. Bendable c.args.plan (is outer tt j) (c.loop-at.invariant.2 j) (held {z = point c.args.newer.now k} (r.newer_low k) j)) (bendable r summed))
@@ -38,7 +37,7 @@ next_point-requires-clause-ready c =
     let plan = c.args.plan in
     let here = c.loop-at.invariant.2 in
     let right = back c.sum_at-right.result c.sum_at-right.type_inv ∙ c.sum_at-right.ensures in
-    let outer : E = Bar# c.args.newer.now r.newer_low (k - 1) c.loop-at.invariant.1 ⊞ Bar# c.args.newer.now r.newer_low (k + 1) right in
+    let outer : E = bar# c.args.newer.now r.newer_low (k - 1) c.loop-at.invariant.1 ⊞ bar# c.args.newer.now r.newer_low (k + 1) right in
     let summed = bar_beside plan.instrument.grid c.requires.on_line.1 c.args.newer.now r.newer_long c.requires.on_line.0 k
     c.loop-at.invariant.0.order c.loop-at-test.true in
     let stiff_is = back c.stiffness-stiff.result c.stiffness-stiff.type_inv ∙ c.stiffness-stiff.ensures ∙
