@@ -5,47 +5,46 @@ ghost use Rattle.scheme.specs.Refusals.{lowest, hit_checks, pick_checks, width_c
 
 use levels::is_beyond;
 use runs::is_moving;
-use sizes::{is_within, points_of};
-use types::{Grid, Hit, Refusal};
+use sizes::points_of;
+use types::{Grid, Hit, Outcome, Refusal};
 
 // 7 and 8.
-pub(crate) fn hit_refusal(g: Grid, h: Hit) -> Refusal
+pub(crate) fn hit_refusal(g: Grid, hit: Option<Hit>) -> Outcome
     requires { in_table g ≡ true }
-    ensures { result ≡ lowest (hit_checks g h) }
+    ensures { result ≡ lowest (hit_checks g hit) }
 {
-    let Hit::At { point, force } = h else {
-        return Refusal::Nothing;
+    let Some(hit) = hit else {
+        return Ok(());
     };
-    if !is_moving(g, point) {
-        return Refusal::NotMoving;
+    if !is_moving(g, hit.point) {
+        return Err(Refusal::NotMoving);
     }
-    if is_beyond(force) {
-        Refusal::TooStrong
-    } else {
-        Refusal::Nothing
+    if is_beyond(hit.force) {
+        return Err(Refusal::TooStrong);
     }
+    Ok(())
 }
 
 // 9
-pub(crate) fn pick_refusal(g: Grid, pick: usize) -> Refusal
+pub(crate) fn pick_refusal(g: Grid, pick: usize) -> Outcome
     requires { in_table g ≡ true }
     ensures { result ≡ lowest (pick_checks g pick) }
 {
     if pick < points_of(g) {
-        Refusal::Nothing
+        Ok(())
     } else {
-        Refusal::PickUp
+        Err(Refusal::PickUp)
     }
 }
 
 // 10
-pub(crate) fn width_refusal(g: Grid, half_width: usize) -> Refusal
+pub(crate) fn width_refusal(g: Grid, half_width: usize) -> Outcome
     requires { in_table g ≡ true }
     ensures { result ≡ lowest (width_checks g half_width) }
 {
-    if is_within(1, g.columns - 1, half_width) {
-        Refusal::Nothing
+    if (1..g.columns).contains(&half_width) {
+        Ok(())
     } else {
-        Refusal::HalfWidth
+        Err(Refusal::HalfWidth)
     }
 }

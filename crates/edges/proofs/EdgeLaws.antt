@@ -2,7 +2,7 @@
 use mathlib.Core.Path.{◌≡◌, refl, sym, ap, ◌∙◌, subst₂}
 use mathlib.Core.Bool.{Bool, true, false, cond}
 use mathlib.Core.List.{List}
-use Prim.Native.Nat.{ℕ, ◌+◌, ◌-◌, ◌*◌, ◌/◌, ◌%◌, ◌≤◌, ◌<◌}
+use Prim.Native.Nat.{ℕ, ◌+◌, ◌-◌, ◌*◌, ◌/◌, ◌%◌, ◌≤◌, ◌<◌, min}
 use native.Mathlib.Decide.{ℕ_discrete}
 use native.Mathlib.Nat.{mul-add, mul_comm, suc-mul, mul_left_comm, mul-le-mul_right, add_right_comm, mod-eq_of_lt, mod-add-div}
 use native.Mathlib.Nat.{add-mod-mod, add-mul-mod_self_left}
@@ -19,7 +19,7 @@ use Rattle.scheme.proofs.Laws.Lists.{is_tabulate, get_d_tabulate}
 use Rattle.kinds.specs.declared.runs.Run.{Run}
 use Rattle.kinds.specs.Runs.{run_of}
 use Rattle.kinds.proofs.RunLaws.{run_bounds, row_is}
-use Rattle.edges.specs.Edges.{kept_rows, point_at, edge_of, edge_at, has_edge, edges_of}
+use Rattle.edges.specs.Edges.{point_at, edge_of, edge_at, has_edge, edges_of}
 
 -- ---- a point in 16 bits
 
@@ -47,25 +47,6 @@ module _ (g : Grid) (row : ℕ) where
       let back : 64 + row - 64 ≡ row = omega arith in
       ap (λ (t : Bool). cond t (edge_of g (λ (r : Run). r.from) (64 + row)) (edge_of g (λ (r : Run). r.to) (64 + row - 64)))
       (le-ltb (64 + row) 64 (omega arith)) ∙ ap (edge_of g (λ (r : Run). r.to)) back
-
--- ---- the rows that have places
-
-pub kept_few : (rows : ℕ) → rows < 64 → rows ≡ kept_rows rows
-kept_few rows h = ap (λ (t : Bool). cond t rows 64) (sym (lt-ltb rows 64 h))
-
-pub kept_many : (rows : ℕ) → 64 ≤ rows → 64 ≡ kept_rows rows
-kept_many rows h = ap (λ (t : Bool). cond t rows 64) (sym (le-ltb rows 64 h))
-
-pub kept_most : (rows : ℕ) → kept_rows rows ≤ 64
-kept_most rows = cases (λ t. cond t rows 64 ≤ 64) (ltb rows 64) (λ t. omega (arith, ltb-true rows 64 t)) (λ t. omega arith)
-
--- they are rows of the grid
-kept_in : (rows : ℕ) → kept_rows rows ≤ rows
-kept_in rows = cases (λ t. cond t rows 64 ≤ rows) (ltb rows 64) (λ t. omega arith) (λ t. omega (arith, ltb-false rows 64 t))
-
--- and all those that are below 64
-kept-all : (rows b : ℕ) → b < 64 → b < rows → b < kept_rows rows
-kept-all rows b h l = cases (λ t. b < cond t rows 64) (ltb rows 64) (λ t. l) (λ t. h)
 
 -- ---- a loop over the rows
 
@@ -100,8 +81,8 @@ passed-more {g} {xs₀} {xs} {row} p h x y e f = record {
     go k l m n (no s) (no t) = get_or-set_other (set xs row x) (64 + row) k y 0 s ∙ get_or-set_other xs row k x 0 t
         ∙ p.put k l (omega (arith, s, t)) n
 
--- all that have places
-pub passed-all : {g : Grid} {xs₀ xs : List ℕ} {row : ℕ} → row ≡ kept_rows g.rows → Passed g xs₀ xs row → xs ≡ edges_of g xs₀
+-- all that have places: 64 at most
+pub passed-all : {g : Grid} {xs₀ xs : List ℕ} {row : ℕ} → row ≡ min g.rows 64 → Passed g xs₀ xs row → xs ≡ edges_of g xs₀
 unfolding edges_of
 passed-all {g} {xs₀} {xs} {row} e p =
     is_tabulate (length xs₀) (λ k. cond (has_edge g k) (edge_at g k) (get_or xs₀ k 0)) 0 xs p.long
@@ -111,11 +92,11 @@ passed-all {g} {xs₀} {xs} {row} e p =
     put k l t =
         let h = and_both (ltb k 128) (ltb (k % 64) g.rows) t in
         p.put k (ltb-true k 128 h.0)
-        (omega (arith, e, kept-all g.rows (k % 64) (omega arith) (ltb-true (k % 64) g.rows h.1))) l
+        (omega (arith, e, ltb-true (k % 64) g.rows h.1)) l
 
     kept : (k : ℕ) → has_edge g k ≡ false → get_or xs k 0 ≡ get_or xs₀ k 0
     kept k f = p.kept k
-        (λ l. omega (arith, e, kept_in g.rows, ltb-false (k % 64) g.rows (sym (and_yes (lt-ltb k 128 l)) ∙ f)))
+        (λ l. omega (arith, e, ltb-false (k % 64) g.rows (sym (and_yes (lt-ltb k 128 l)) ∙ f)))
 
 -- ---- what stands there for a row of a grid of the table
 

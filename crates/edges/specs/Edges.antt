@@ -5,17 +5,13 @@ use Rattle.scheme.specs.Lists.{tabulate}
 use Rattle.kinds.specs.declared.runs.Run.{Run}
 use Rattle.kinds.specs.Runs.{row_run}
 
--- 64 rows have places
-abbrev pub kept_rows : ℕ → ℕ
-kept_rows rows = cond (ltb rows 64) rows 64
-
 -- the point in a column of a row, in 16 bits
 abbrev pub point_at : (columns row column : ℕ) → ℕ
 point_at columns row column = (row * columns + column) % 65536
 
 -- one end of the run of a row, as a point
 abbrev pub edge_of : Grid → (Run → ℕ) → (row : ℕ) → ℕ
-edge_of g end row = point_at g.columns row (end (row_run g.kind g.columns g.rows row))
+edge_of g end row = point_at g.columns row (end (row_run g row))
 
 -- what place k is for: the first moving point of row k, or from 64 on the point after the last of row k − 64
 abbrev pub edge_at : Grid → ℕ → ℕ

@@ -2,19 +2,13 @@
 #![tactic(auto)]
 
 ghost use Rattle.std.specs.Prelude.{◌≡◌, ◌<◌};
-ghost use Rattle.edges.specs.Edges.{kept_rows, point_at, edges_of};
+ghost use Rattle.edges.specs.Edges.{edges_of, point_at};
 
 use runs::row_run;
 use types::Grid;
 
-// How many of a grid's rows have a place.
-fn kept_rows(rows: usize) -> usize
-    ensures { result ≡ kept_rows rows }
-{
-    if rows < 64 { rows } else { 64 }
-}
-
 // The point in a column of a row, in 16 bits.
+#[tactic(auto, using(crate::proofs::EdgeLaws::point_at_lem))]
 fn point_at(columns: usize, row: usize, column: usize) -> u16
     requires { row < 64 }
     ensures { result ≡ point_at columns row column }
@@ -27,12 +21,9 @@ fn point_at(columns: usize, row: usize, column: usize) -> u16
 pub fn row_edges(g: Grid, edges: &mut [u16; 128])
     ensures { edges.new ≡ edges_of g edges.old }
 {
-    let rows = kept_rows(g.rows);
-    let mut row = 0;
-    while row < rows {
-        let run = row_run(g.kind, g.columns, g.rows, row);
+    for row in 0..g.rows.min(64) {
+        let run = row_run(g, row);
         edges[row] = point_at(g.columns, row, run.from);
         edges[64 + row] = point_at(g.columns, row, run.to);
-        row += 1;
     }
 }

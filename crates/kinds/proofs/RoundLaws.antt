@@ -1,6 +1,6 @@
 -- The round edge in numbers that are not negative.
 use mathlib.Core.Path.{◌≡◌, refl, sym, ap, ap₂, ◌∙◌}
-use mathlib.Core.Bool.{true, false}
+use mathlib.Core.Bool.{Bool, true, false, ◌&&◌}
 use Prim.Native.Nat.{ℕ, zero, suc, ◌+◌, ◌-◌, ◌*◌, ◌≤◌, ◌<◌}
 use native.Mathlib.Nat.{mul-le-mul}
 use native.Mathlib.Omega.{arith}
@@ -87,6 +87,10 @@ off-square c a b h = not_so (λ e.
     let p = and_both (leb c 64) _ e in
     let q = and_both (ltb a c) (ltb b c) p.1 in
     omega (arith, h (leb-true c 64 p.0), ltb-true b c q.1))
+
+-- what `is_round_fixed` said of a point on it
+pub edge_said : (c a b : ℕ) {r x : Bool} → c ≤ 64 → a < c → b < c → r ≡ (on_square c a b && round_edge c a b) → r ≡ x → round_edge c a b ≡ x
+edge_said c a b l p q e f = sym (and_yes (on_square_lem c a b l p q)) ∙ sym e ∙ f
 
 -- ---- the search in a row
 

@@ -4,22 +4,21 @@ use mathlib.Core.Bool.{Bool, true, false, not, ◌&&◌, ◌||◌, and-false, no
 use mathlib.Core.Logic.{◌⊎◌, inl, inr}
 use Prim.Native.Nat.{ℕ, zero, suc, ◌+◌, ◌-◌, ◌*◌, ◌/◌, ◌%◌, ◌≤◌, ◌<◌, zero-le}
 use native.Mathlib.Nat.{mul_comm, mod-lt, div-add-mod', le-div_iff_mul-le, div-lt_iff_lt-mul}
-use native.Mathlib.Decide.{ℕ_discrete}
 use native.Mathlib.Omega.{arith}
-use borrow.Author.Tests.{ltb-true, ltb-false, leb-true, leb-false, eqb-false, lt-ltb, le-ltb, le-leb, eq-eqb, ne_eqb, not-true}
+use borrow.Author.Tests.{ltb-true, ltb-false, leb-true, leb-false, eqb-false, lt-ltb, le-ltb, le-leb, ne_eqb, not-true}
 use lib.Arith.{digits_lt, digits_div, digits_mod}
 use lib.Dec.{ltb, leb, eqb, leb-zero, eqb-suc-zero}
 use Rattle.integers.proofs.Order.{≤_totalℕ}
 use Rattle.types.specs.declared.Grid.{Grid}
-use Rattle.scheme.specs.Instruments.{Kind, unknown, fixedString, halfFreeString, freeString, bar, membrane, roundMembrane, plate}
-use Rattle.scheme.specs.Instruments.{kind_of, kind, points, size_in, at_edge, outer_ring, round_edge, fixed_in, fixed, moving, in_table}
-use Rattle.scheme.specs.Refusals.{last_kind}
-use Rattle.scheme.proofs.Laws.Bools.{and_both, and_yes, and_no, or_no, not_so, same}
+use Rattle.types.specs.declared.Kind.{Kind}
+use Rattle.types.specs.declared.Kind.TheVariants.{Unknown, StringFixed, StringFixedFree, StringFree, Bar, MembraneRectangular, MembraneRound, Plate}
+use Rattle.scheme.specs.Instruments.{kind, points, size_in, at_edge, outer_ring, round_edge, fixed_in, fixed, moving, in_table}
+use Rattle.scheme.proofs.Laws.Bools.{and_both, and_yes, and_no, or_no, cases, not_so, same}
 use Rattle.scheme.proofs.Laws.Kinds.{Sized, sized}
 use Rattle.kinds.specs.declared.runs.Run.{Run}
 use Rattle.kinds.specs.Search.{leading}
-use Rattle.kinds.specs.Runs.{run, in_run, inner_run, on_square, round_run, run_in, straight_run, row_run, run_of}
-use Rattle.sizes.proofs.KindLaws.{kind_is, kind_none, round_size}
+use Rattle.kinds.specs.Runs.{run, in_run, inner_run, on_square, round_run, run_in, is_round, straight_run, row_run, run_of}
+use Rattle.sizes.proofs.KindLaws.{round_size}
 use Rattle.kinds.proofs.RoundLaws.{offset_mirror, edge_inward, on_square_lem}
 use Rattle.kinds.proofs.SearchLaws.{leading-passed, leading_stops}
 
@@ -120,14 +119,14 @@ module _ (G b : ℕ) (some : 1 ≤ G) where
 
 pub not-fixed : (K : Kind) (c r b a : ℕ) → size_in K c r ≡ true → a < c → not (fixed_in K c r a b) ≡ in_run (run_in K c r b) a
 unfolding fixed_in run_in size_in
-not-fixed unknown c r b a s h = absurd (true≢false (sym s))
-not-fixed fixedString c r b a s h = ends c a h
-not-fixed halfFreeString c r b a s h = first c a h
-not-fixed freeString c r b a s h = neither c a h
-not-fixed bar c r b a s h = ends c a h
-not-fixed membrane c r b a s h = ring_in c r b a h
-not-fixed roundMembrane c r b a s h = round_in c b (omega arith) a h
-not-fixed plate c r b a s h = ring_in c r b a h
+not-fixed Unknown c r b a s h = absurd (true≢false (sym s))
+not-fixed StringFixed c r b a s h = ends c a h
+not-fixed StringFixedFree c r b a s h = first c a h
+not-fixed StringFree c r b a s h = neither c a h
+not-fixed Bar c r b a s h = ends c a h
+not-fixed MembraneRectangular c r b a s h = ring_in c r b a h
+not-fixed MembraneRound c r b a s h = round_in c b (omega arith) a h
+not-fixed Plate c r b a s h = ring_in c r b a h
 
 run_by : (g : Grid) (b : ℕ) {t : Bool} → (in_table g && ltb b g.rows) ≡ t → run_of g b
     ≡ cond t (run_in (kind g) g.columns g.rows b) (run 0 0)
@@ -141,44 +140,12 @@ pub run_past : (g : Grid) (b : ℕ) → g.rows ≤ b → run_of g b ≡ run 0 0
 run_past g b h = run_by g b (ap (λ (t : Bool). in_table g && t) (le-ltb b g.rows h) ∙ and-false (in_table g))
 
 -- of a kind that is not round
-module _ (k c r b : ℕ) where
-  straight_by : {t : Bool} → (ltb 0 c && (ltb b r && not (eqb k 6))) ≡ t → straight_run k c r b ≡ cond t (run_in (kind_of k) c r b)
-      (run 0 0)
-  unfolding straight_run
-  straight_by e = ap (λ (t : Bool). cond t (run_in (kind_of k) c r b) (run 0 0)) e
-
-  pub straight_is : 0 < c → b < r → (k ≡ 6 → ⊥) → straight_run k c r b ≡ run_in (kind_of k) c r b
-  straight_is p q n = straight_by (and_yes (lt-ltb 0 c p) ∙ and_yes (lt-ltb b r q) ∙ ap not (ne_eqb k 6 n))
-
-  pub straight_none : c ≡ 0 → straight_run k c r b ≡ run 0 0
-  straight_none e = straight_by (and_no _ (le-ltb 0 c (omega arith)))
-
-  pub straight_past : r ≤ b → straight_run k c r b ≡ run 0 0
-  straight_past h = straight_by (ap (λ (t : Bool). ltb 0 c && t) (and_no _ (le-ltb b r h)) ∙ and-false (ltb 0 c))
-
-  -- by a number that is no kind's, or the round one's
-  pub straight_other : ((k ≡ 6 → ⊥) → 1 ≤ k → last_kind < k) → straight_run k c r b ≡ run 0 0
-  unfolding run_in
-  straight_other past = go (ltb 0 c && (ltb b r && not (eqb k 6))) refl
-    where
-      none : (not (eqb k 6)) ≡ true → kind_of k ≡ unknown
-      none e = kind_none k (past (eqb-false k 6 (not-true (eqb k 6) e)))
-
-      go : (t : Bool) → (ltb 0 c && (ltb b r && not (eqb k 6))) ≡ t → straight_run k c r b ≡ run 0 0
-      go true f = straight_by f ∙ ap (λ (K : Kind). run_in K c r b) (none (and_both (ltb b r) _ (and_both (ltb 0 c) _ f).1).1)
-      go false f = straight_by f
-
--- the outer ring fixed
-pub ring_run : {k : ℕ} (c r b : ℕ) → (k ≡ 5) ⊎ (k ≡ 7) → run_in (kind_of k) c r b ≡ inner_run c r b
-unfolding run_in
-ring_run c r b (inl e) = simp (kind_is membrane e)
-ring_run c r b (inr e) = simp (kind_is plate e)
-
--- both ends fixed
-pub ends-run : {k : ℕ} (c r b : ℕ) → (k ≡ 1) ⊎ (k ≡ 4) → run_in (kind_of k) c r b ≡ run 1 (c - 1)
-unfolding run_in
-ends-run c r b (inl e) = simp (kind_is fixedString e)
-ends-run c r b (inr e) = simp (kind_is bar e)
+pub straight_is : (g : Grid) (b : ℕ) → in_table g ≡ true → b < g.rows → is_round (kind g) ≡ false → straight_run g b ≡ run_of g b
+unfolding straight_run
+straight_is g b size h n =
+    let some : 0 < g.columns = omega (arith, (sized (kind g) g.columns g.rows size).columns_low) in
+    ap (λ (t : Bool). cond t (run_in (kind g) g.columns g.rows b) (run 0 0))
+    (and_yes (lt-ltb 0 g.columns some) ∙ and_yes (lt-ltb b g.rows h) ∙ ap not n) ∙ sym (run_is g b size h)
 
 module _ (g : Grid) (b a : ℕ) (size : in_table g ≡ true) (hb : b < g.rows) (ha : a < g.columns) where
   in_run_lem : in_run (run_of g b) a ≡ not (fixed g (b * g.columns + a))
@@ -228,38 +195,47 @@ run_ring c r b s = run-cond c (at_edge r b) (run 0 0) (run 1 (c - 1)) (λ e. run
 
 run_in_lem : (K : Kind) (c r b : ℕ) → Sized c r → RunIn c (run_in K c r b)
 unfolding run_in
-run_in_lem unknown c r b s = run_none c
-run_in_lem fixedString c r b s = run-inner c s.columns_low
-run_in_lem halfFreeString c r b s = record { rising = omega (arith, s.columns_low); inside = omega arith }
-run_in_lem freeString c r b s = record { rising = zero-le; inside = omega arith }
-run_in_lem bar c r b s = run-inner c s.columns_low
-run_in_lem membrane c r b s = run_ring c r b s
-run_in_lem roundMembrane c r b s = round_bounds c b (omega (arith, s.columns_low))
-run_in_lem plate c r b s = run_ring c r b s
+run_in_lem Unknown c r b s = run_none c
+run_in_lem StringFixed c r b s = run-inner c s.columns_low
+run_in_lem StringFixedFree c r b s = record { rising = omega (arith, s.columns_low); inside = omega arith }
+run_in_lem StringFree c r b s = record { rising = zero-le; inside = omega arith }
+run_in_lem Bar c r b s = run-inner c s.columns_low
+run_in_lem MembraneRectangular c r b s = run_ring c r b s
+run_in_lem MembraneRound c r b s = round_bounds c b (omega (arith, s.columns_low))
+run_in_lem Plate c r b s = run_ring c r b s
 
 pub run_bounds : (g : Grid) (b : ℕ) → RunIn g.columns (run_of g b)
 unfolding run_of
 run_bounds g b = run-cond g.columns (in_table g && ltb b g.rows) (run_in (kind g) g.columns g.rows b) (run 0 0)
     (λ e. run_in_lem (kind g) g.columns g.rows b (sized (kind g) g.columns g.rows (and_both _ _ e).0)) (run_none g.columns)
 
--- ---- by the number of a kind
+-- ---- a round membrane apart from the others
 
--- a round membrane apart from the others
-pub row_is : (g : Grid) (b : ℕ) → in_table g ≡ true → b < g.rows → row_run g.kind g.columns g.rows b ≡ run_of g b
+pub not_round : (K : Kind) → (K ≡ MembraneRound → ⊥) → is_round K ≡ false
+not_round Unknown n = refl
+not_round StringFixed n = refl
+not_round StringFixedFree n = refl
+not_round StringFree n = refl
+not_round Bar n = refl
+not_round MembraneRectangular n = refl
+not_round MembraneRound n = absurd (n refl)
+not_round Plate n = refl
+
+round_is : (K : Kind) (c r b : ℕ) → is_round K ≡ true → size_in K c r ≡ true → b < r
+    → cond (on_square c 0 b) (round_run c b) (run 0 0) ≡ run_in K c r b
 unfolding run_in
-row_is g b size h = go (ℕ_discrete g.kind 6) ∙ sym (run_is g b size h)
-  where
-    go : Dec (g.kind ≡ 6) → row_run g.kind g.columns g.rows b ≡ run_in (kind g) g.columns g.rows b
-    go (yes e) =
-        let K = kind_is roundMembrane e in
-        let s = round_size g.columns g.rows (ap (λ (K : Kind). size_in K g.columns g.rows) (sym K) ∙ size) in
-        let on : on_square g.columns 0 b ≡ true =
-        on_square_lem g.columns 0 b s.0 (omega (arith, s.1)) (omega (arith, s.1)) in
-        ap (λ (t : Bool). cond t (cond (on_square g.columns 0 b) (round_run g.columns b) (run 0 0))
-        (straight_run g.kind g.columns g.rows b)) (eq-eqb g.kind 6 e) ∙
-        ap (λ (t : Bool). cond t (round_run g.columns b) (run 0 0)) on ∙
-        sym (ap (λ (K : Kind). run_in K g.columns g.rows b) K)
-    go (no n) =
-        ap (λ (t : Bool). cond t (cond (on_square g.columns 0 b) (round_run g.columns b) (run 0 0))
-        (straight_run g.kind g.columns g.rows b)) (ne_eqb g.kind 6 n) ∙
-        straight_is _ _ _ _ (omega (arith, (sized _ _ _ size).columns_low)) h n
+round_is Unknown c r b e size h = absurd (true≢false (sym e))
+round_is StringFixed c r b e size h = absurd (true≢false (sym e))
+round_is StringFixedFree c r b e size h = absurd (true≢false (sym e))
+round_is StringFree c r b e size h = absurd (true≢false (sym e))
+round_is Bar c r b e size h = absurd (true≢false (sym e))
+round_is MembraneRectangular c r b e size h = absurd (true≢false (sym e))
+round_is MembraneRound c r b e size h =
+    let s = round_size c r size in
+    ap (λ (t : Bool). cond t (round_run c b) (run 0 0)) (on_square_lem c 0 b s.0 (omega (arith, s.1)) (omega (arith, s.1)))
+round_is Plate c r b e size h = absurd (true≢false (sym e))
+
+pub row_is : (g : Grid) (b : ℕ) → in_table g ≡ true → b < g.rows → row_run g b ≡ run_of g b
+row_is g b size h =
+    cases (λ (t : Bool). cond t (cond (on_square g.columns 0 b) (round_run g.columns b) (run 0 0)) (straight_run g b) ≡ run_of g b)
+    (is_round (kind g)) (λ e. round_is (kind g) g.columns g.rows b e size h ∙ sym (run_is g b size h)) (straight_is g b size h)

@@ -1,8 +1,9 @@
 -- A row's moving columns, as a run from column to column. Vocabulary between the engine's crates: no call that a maker embeds cites it.
-use Rattle.std.specs.Prelude.{Bool, not, ◌&&◌, cond, ℕ, ◌+◌, ◌-◌, leb, ltb, eqb}
+use Rattle.std.specs.Prelude.{Bool, true, false, not, ◌&&◌, cond, ℕ, ◌+◌, ◌-◌, leb, ltb}
 use Rattle.types.specs.declared.Grid.{Grid}
-use Rattle.scheme.specs.Instruments.{Kind, unknown, fixedString, halfFreeString, freeString, bar, membrane, roundMembrane, plate}
-use Rattle.scheme.specs.Instruments.{kind_of, kind, in_table, at_edge, round_edge}
+use Rattle.types.specs.declared.Kind.{Kind}
+use Rattle.types.specs.declared.Kind.TheVariants.{Unknown, StringFixed, StringFixedFree, StringFree, Bar, MembraneRectangular, MembraneRound, Plate}
+use Rattle.scheme.specs.Instruments.{kind, in_table, at_edge, round_edge}
 use Rattle.kinds.specs.declared.runs.Run.{Run}
 use Rattle.kinds.specs.Search.{leading}
 
@@ -30,22 +31,34 @@ round_run G b =
 
 -- "Fixed points are the ends named above .. The rest move": in row b of c columns and r rows
 unfoldable pub run_in : Kind → ℕ → ℕ → ℕ → Run
-run_in unknown c r b = run 0 0
-run_in fixedString c r b = run 1 (c - 1)
-run_in halfFreeString c r b = run 1 c
-run_in freeString c r b = run 0 c
-run_in bar c r b = run 1 (c - 1)
-run_in membrane c r b = inner_run c r b
-run_in roundMembrane c r b = round_run c b
-run_in plate c r b = inner_run c r b
+run_in Unknown c r b = run 0 0
+run_in StringFixed c r b = run 1 (c - 1)
+run_in StringFixedFree c r b = run 1 c
+run_in StringFree c r b = run 0 c
+run_in Bar c r b = run 1 (c - 1)
+run_in MembraneRectangular c r b = inner_run c r b
+run_in MembraneRound c r b = round_run c b
+run_in Plate c r b = inner_run c r b
 
--- the same of a kind by its number: none in a round membrane, in no columns, or in a row that is not one of r
-unfoldable pub straight_run : ℕ → ℕ → ℕ → ℕ → Run
-straight_run k c r b = cond (ltb 0 c && (ltb b r && not (eqb k 6))) (run_in (kind_of k) c r b) (run 0 0)
+-- a round membrane
+abbrev pub is_round : Kind → Bool
+is_round Unknown = false
+is_round StringFixed = false
+is_round StringFixedFree = false
+is_round StringFree = false
+is_round Bar = false
+is_round MembraneRectangular = false
+is_round MembraneRound = true
+is_round Plate = false
+
+-- the same of a grid: none in a round membrane, in no columns, or in a row that the grid does not have
+unfoldable pub straight_run : Grid → ℕ → Run
+straight_run g b =
+    cond (ltb 0 g.columns && (ltb b g.rows && not (is_round (kind g)))) (run_in (kind g) g.columns g.rows b) (run 0 0)
 
 -- the same of every kind: in a round membrane of 64 columns at most, and a row of it (`row_is`: of a grid of the table, its moving columns)
-abbrev pub row_run : ℕ → ℕ → ℕ → ℕ → Run
-row_run k c r b = cond (eqb k 6) (cond (on_square c 0 b) (round_run c b) (run 0 0)) (straight_run k c r b)
+abbrev pub row_run : Grid → ℕ → Run
+row_run g b = cond (is_round (kind g)) (cond (on_square g.columns 0 b) (round_run g.columns b) (run 0 0)) (straight_run g b)
 
 -- the moving columns of a row (`moving-run`): none in a grid whose size the table does not have, or in a row that the grid does not have
 unfoldable pub run_of : Grid → ℕ → Run

@@ -1,15 +1,19 @@
-// Fixed or moving: the moving columns of a straight row, by a match over the kind number, and the fixed points of a round membrane.
+// Fixed or moving: the moving columns of a straight row, by its kind, and the fixed points of a round membrane.
 ghost use Rattle.std.specs.Prelude.{◌≡◌, ◌&&◌, ◌≤◌, ◌<◌};
 ghost use Rattle.scheme.specs.Instruments.{round_edge};
 ghost use Rattle.kinds.specs.Runs.{inner_run, on_square, straight_run};
 
-use types::Grid;
+use types::{Grid, Kind};
 
 // The columns a with from ≤ a < to.
 #[derive(Clone, Copy)]
 pub struct Run {
     pub from: usize,
     pub to: usize,
+}
+
+impl Run {
+    pub const NONE: Run = Run { from: 0, to: 0 };
 }
 
 // Whether column a of row b is at the edge of a round membrane of c columns.
@@ -26,10 +30,7 @@ fn is_round_edge(c: usize, a: usize, b: usize) -> bool
 fn is_on_square(c: usize, a: usize, b: usize) -> bool
     ensures { result ≡ on_square c a b }
 {
-    if 64 < c {
-        return false;
-    }
-    if a < c { b < c } else { false }
+    c <= 64 && a < c && b < c
 }
 
 // Whether column a of row b is a fixed point of a round membrane of c columns, of 64 at most.
@@ -37,44 +38,40 @@ fn is_on_square(c: usize, a: usize, b: usize) -> bool
 pub fn is_round_fixed(c: usize, a: usize, b: usize) -> bool
     ensures { result ≡ (on_square c a b && round_edge c a b) }
 {
-    if is_on_square(c, a, b) {
-        is_round_edge(c, a, b)
+    is_on_square(c, a, b) && is_round_edge(c, a, b)
+}
+
+// A row of a rectangular membrane or of a plate.
+#[tactic(auto, unfolding(crate::specs::Runs::inner_run))]
+fn inner_run(g: Grid, row: usize) -> Run
+    requires { (1 ≤ g.columns) × (row < g.rows) }
+    ensures { result ≡ inner_run g.columns g.rows row }
+{
+    if row == 0 || row + 1 == g.rows {
+        Run::NONE
     } else {
-        false
+        Run {
+            from: 1,
+            to: g.columns - 1,
+        }
     }
 }
 
-// Row b of a rectangular membrane or of a plate, of c columns and r rows.
-fn inner_run(c: usize, r: usize, b: usize) -> Run
-    requires { (1 ≤ c) × (b < r) }
-    ensures { result ≡ inner_run c r b }
-{
-    if b == 0 {
-        return Run { from: 0, to: 0 };
-    }
-    if b + 1 == r {
-        return Run { from: 0, to: 0 };
-    }
-    Run { from: 1, to: c - 1 }
-}
-
-// Row b of c columns and r rows of a kind that is not round, whatever its size.
+// A row of a grid that is not round, whatever its size.
 // Ruled out: the last column of kind 2 taken as fixed; the outer ring of kind 5 forgotten in its last row.
-pub fn straight_run(kind: u64, c: usize, r: usize, b: usize) -> Run
-    ensures { result ≡ straight_run kind c r b }
+#[tactic(auto, unfolding(crate::specs::Runs::straight_run, crate::specs::Runs::run_in))]
+pub fn straight_run(g: Grid, row: usize) -> Run
+    ensures { result ≡ straight_run g row }
 {
-    if c == 0 {
-        return Run { from: 0, to: 0 };
+    let c = g.columns;
+    if c == 0 || g.rows <= row {
+        return Run::NONE;
     }
-    if r <= b {
-        return Run { from: 0, to: 0 };
-    }
-    let last = c - 1;
-    match kind {
-        Grid::STRING_FIXED | Grid::BAR => Run { from: 1, to: last },
-        Grid::STRING_FIXED_FREE => Run { from: 1, to: c },
-        Grid::STRING_FREE => Run { from: 0, to: c },
-        Grid::MEMBRANE_RECTANGULAR | Grid::PLATE => inner_run(c, r, b),
-        _ => Run { from: 0, to: 0 },
+    match Kind::from(g.kind) {
+        Kind::StringFixed | Kind::Bar => Run { from: 1, to: c - 1 },
+        Kind::StringFixedFree => Run { from: 1, to: c },
+        Kind::StringFree => Run { from: 0, to: c },
+        Kind::MembraneRectangular | Kind::Plate => inner_run(g, row),
+        Kind::MembraneRound | Kind::Unknown => Run::NONE,
     }
 }

@@ -2,6 +2,11 @@
 use Rattle.std.proofs.Common.{◌≡◌, ℕ, zero, suc, ◌+◌, ◌-◌, ◌*◌, ◌^◌, ◌<◌, ◌≤◌, Bool, true, false, not, ◌&&◌, ◌||◌, T, eqb, ltb, List}
 use Rattle.std.proofs.Common.{length, ℤ, pos, negsuc, nat_abs, sym, refl, ap, ◌∙◌, subst, ap₂, subst₂, le_refl, add_assoc, suc-mul}
 use Rattle.std.proofs.Common.{mul_comm, mul-le-mul, add-one, arith, w64, to_z, of_z, lt-ltb, eq-eqb, eqb-true}
+use Rattle.std.specs.Prelude.{nat_lt, unsigned_abs, slice_range}
+use Rattle.std.specs.List.{list_any}
+use Rattle.std.proofs.lemmas.List.Folds.{list_any_more}
+use Rattle.std.proofs.Common.{take, drop, length-drop}
+use Rattle.std.proofs.lemmas.List.{get_or-drop}
 use borrow.Author.Tests.{eqb-false}
 use lib.Arith.{digits_div, digits_mod}
 use lib.Dec.{leb-suc-suc}
@@ -9,15 +14,16 @@ use lib.Signed.{mag, lt_z}
 use Rattle.bounded.proofs.Num.{back}
 use Rattle.types.specs.declared.Grid.{Grid}
 use Rattle.scheme.proofs.Laws.Bools.{cases}
-use Rattle.scheme.specs.Lists.{some_below}
-use Rattle.scheme.specs.Instruments.{beyond, Kind, roundMembrane, points, column, row, round_edge, fixed_in, fixed}
+use Rattle.scheme.specs.Lists.{point, some_below}
+use Rattle.types.specs.declared.Kind.{Kind}
+use Rattle.types.specs.declared.Kind.TheVariants.{MembraneRound}
+use Rattle.scheme.specs.Instruments.{beyond, kind, points, column, row, round_edge, fixed_in, fixed}
 use Rattle.scheme.specs.Refusals.{fixed_not_zero}
 use Rattle.scheme.specs.Instruments.{in_table}
 use Rattle.scheme.proofs.Laws.Bools.{and_yes}
 use Rattle.kinds.specs.Runs.{run_of}
 use Rattle.levels.specs.Levels.{not_zero, some_not_zero, row_not_zero, round_not_zero, row_unfixed, unfixed}
 use Rattle.kinds.proofs.SearchLaws.{some_ext, some_rows, some_outside_lem}
-use Rattle.sizes.proofs.KindLaws.{kind_is}
 use Rattle.kinds.proofs.RunLaws.{fixed-run, run_bounds}
 
 -- ---- beyond the ceiling, as code tests it
@@ -44,6 +50,24 @@ pub bits_test : (z : ℤ) → mag z < 2 ^ 63 → not (eqb (of_z w64 z) 0) ≡ lt
 bits_test z h = cases (λ (b : Bool). not b ≡ ltb 0 (nat_abs z)) (eqb (of_z w64 z) 0)
     (λ e. sym (bits_zero z h (eqb-true (of_z w64 z) 0 e))) (λ e. sym (bits_not_zero z (eqb-false (of_z w64 z) 0 e)))
 
+-- ---- some of the points from one on is not 0, as a part of the level has it
+
+any_first : (p : ℤ → Bool) (ys : List ℤ) (n : ℕ) → n ≤ length ys → list_any p (take n ys) ≡ some_below n (λ k. p (point ys k))
+unfolding some_below
+any_first p ys zero h = refl
+any_first p ys (suc n) h =
+    ap (λ (m : ℕ). list_any p (take m ys)) (sym (add-one n)) ∙ list_any_more p ys n (pos 0) (omega arith) ∙
+    ap (λ (t : Bool). t || p (point ys n)) (any_first p ys n (omega arith))
+
+pub some_of : (xs : List ℤ) (a n : ℕ) → a + n ≤ length xs
+    → list_any (λ v. nat_lt 0 (unsigned_abs v)) (slice_range xs a (a + n)) ≡ some_not_zero xs a n
+unfolding some_not_zero
+some_of xs a n h =
+    let test : ℤ → Bool = λ v. nat_lt 0 (unsigned_abs v) in
+    let m : a + n - a ≡ n = omega arith in
+    ap (λ (k : ℕ). list_any test (take k (drop a xs))) m ∙ any_first test (drop a xs) n (omega (arith, length-drop a xs)) ∙
+    some_ext n (λ k q. ap test (get_or-drop a xs k (pos 0)))
+
 -- ---- a fixed point that is not 0: row by row, outside each row's run
 
 -- the row after b begins where b ends, and ends within r rows of c columns where b is one of them
@@ -66,11 +90,11 @@ module _ (g : Grid) (xs : List ℤ) where
       (some_ext (g.columns - r.to) (λ a q. ap (not_zero xs) (sym (add_assoc (b * g.columns) r.to a))))
 
   -- of a round membrane by its edge
-  pub round_row : g.kind ≡ 6 → (b : ℕ) → row_unfixed g xs b ≡ round_not_zero xs (b * g.columns) g.columns b
+  pub round_row : kind g ≡ MembraneRound → (b : ℕ) → row_unfixed g xs b ≡ round_not_zero xs (b * g.columns) g.columns b
   unfolding fixed_in
   round_row e b = some_ext g.columns (λ a q. ap (λ (t : Bool). t && not_zero xs (b * g.columns + a))
-      (ap (λ (K : Kind). fixed_in K g.columns g.rows (column g (b * g.columns + a)) (row g (b * g.columns + a)))
-      (kind_is roundMembrane e) ∙ ap₂ (round_edge g.columns) (digits_mod b q) (digits_div b q)))
+      (ap (λ (K : Kind). fixed_in K g.columns g.rows (column g (b * g.columns + a)) (row g (b * g.columns + a))) e
+      ∙ ap₂ (round_edge g.columns) (digits_mod b q) (digits_div b q)))
 
   pub rows_test : length xs ≡ points g → fixed_not_zero g xs ≡ some_below g.rows (row_unfixed g xs)
   unfolding fixed_not_zero

@@ -1,14 +1,15 @@
 -- The sign bit: of a number, of two at once, and of what tells a number beyond the ceiling.
-use Rattle.std.proofs.Common.{◌≡◌, ℕ, suc, ◌+◌, ◌-◌, ◌%◌, ◌^◌, ◌<◌, ◌≤◌, Bool, true, false, cond, ◌||◌, ltb, ℤ, pos, negsuc, ◌-ℤ◌, sym}
-use Rattle.std.proofs.Common.{refl, ap, ◌∙◌, true≢false, arith, w64, to_z, of_z, ltb-false, ltb-true, le-ltb, le-leb, leb-false, leb-true}
+use Rattle.std.proofs.Common.{◌≡◌, ℕ, suc, ◌+◌, ◌-◌, ◌%◌, ◌^◌, ◌<◌, ◌≤◌, Bool, true, false, ◌||◌, ltb, List, ℤ, pos, negsuc, sym, add-one}
+use Rattle.std.proofs.Common.{refl, ap, ap₂, ◌∙◌, arith, w64, SFits, to_z, of_z, ltb-false, ltb-true, le-leb, leb-false, leb-true}
 use borrow.Author.Tests.{lt-leb}
+use Rattle.std.proofs.lemmas.Int.{to_z-of_z}
 use lib.Bits.{bit_or, or_lt, or_comm, or_add_and, and_le_r}
-use lib.Signed.{mag, lt_z}
-use Rattle.bounded.proofs.Num.{back}
+use lib.Signed.{mag}
 use Rattle.types.specs.Numbers.{ceiling}
 use Rattle.scheme.specs.Instruments.{beyond}
 use Rattle.scheme.proofs.Laws.Bools.{cases}
-use Rattle.levels.specs.Levels.{bits_of, signed}
+use Rattle.scheme.specs.Lists.{point, some_below}
+use Rattle.levels.specs.Levels.{signed}
 
 -- ---- of two at once
 
@@ -29,33 +30,21 @@ signed_or a b = go (signed a) (signed b) refl refl
     go false true e f = second_signed a b (leb-true (2 ^ 63) b f)
     go false false e f = none_signed a b (leb-false (2 ^ 63) a e) (leb-false (2 ^ 63) b f)
 
+-- of the points passed, and one more as it was read
+pub signs : (xs : List ℤ) (k s e : ℕ) → SFits w64 (point xs k) → signed s ≡ some_below k (λ i. beyond (point xs i))
+    → signed e ≡ beyond (to_z w64 (of_z w64 (point xs k))) → signed (bit_or s e) ≡ some_below (k + 1) (λ i. beyond (point xs i))
+unfolding some_below
+signs xs k s e f p q =
+    signed_or s e ∙ ap₂ ◌||◌ p (q ∙ ap beyond (to_z-of_z w64 (point xs k) f)) ∙
+    ap (λ (n : ℕ). some_below n (λ i. beyond (point xs i))) (sym (add-one k))
+
 -- ---- v + ceiling or ceiling − v, modulo 2⁶⁴
 
-pub excess_is : (v : ℤ) (p q : ℕ) → mag v < 2 ^ 63 → p ≡ (bits_of v + ceiling) % 2 ^ 64 → (q + bits_of v) % 2 ^ 64 ≡ ceiling → q < 2 ^ 64
-    → signed (bit_or p q) ≡ beyond v
-excess_is (pos n) p q h e f l = sym (cases (λ (b : Bool). b ≡ signed (bit_or p q)) (ltb ceiling n)
-    (λ t. sym (second_signed p q (omega (arith, ltb-true ceiling n t))))
-    (λ t. sym (none_signed p q (omega (arith, ltb-false ceiling n t)) (omega (arith, ltb-false ceiling n t)))))
-excess_is (negsuc n) p q h e f l = sym (cases (λ (b : Bool). b ≡ signed (bit_or p q)) (ltb ceiling (suc n))
-    (λ t. sym (first_signed p q (omega (arith, ltb-true ceiling (suc n) t))))
-    (λ t. sym (none_signed p q (omega (arith, ltb-false ceiling (suc n) t)) (omega (arith, ltb-false ceiling (suc n) t)))))
-
--- ---- bits as code finds them, by the sign
-
--- −1 − v
-abbrev pub down : ℤ → ℤ
-down v = negsuc 0 -ℤ to_z w64 (of_z w64 v)
-
-pub down_is : (v : ℤ) → mag v < 2 ^ 63 → lt_z v (pos 0) ≡ true → down v ≡ pos (mag v)
-down_is (pos n) h e = absurd (omega (arith, ltb-true n 0 e))
-down_is (negsuc n) h e =
-    ap (λ (z : ℤ). negsuc 0 -ℤ z) (back (negsuc n) h) ∙
-    ap (λ (b : Bool). cond b (negsuc (1 - suc (suc n))) (pos (suc n - 1))) (le-ltb (suc n) 1 (omega arith)) ∙ ap pos (omega arith)
-
-pub bits_below : (v : ℤ) → lt_z v (pos 0) ≡ true → 2 ^ 64 - 1 - mag v ≡ bits_of v
-bits_below (pos n) e = absurd (omega (arith, ltb-true n 0 e))
-bits_below (negsuc n) e = omega arith
-
-pub not-below : (v : ℤ) → lt_z v (pos 0) ≡ false → v ≡ pos (mag v)
-not-below (pos n) e = refl
-not-below (negsuc n) e = absurd (true≢false e)
+pub excess_is : (v : ℤ) → mag v < 2 ^ 63
+    → signed (bit_or ((of_z w64 v + ceiling) % 2 ^ 64) ((ceiling + (2 ^ 64 - of_z w64 v)) % 2 ^ 64)) ≡ beyond v
+excess_is (pos n) h = sym (cases (λ (b : Bool). b ≡ signed (bit_or ((n + ceiling) % 2 ^ 64) ((ceiling + (2 ^ 64 - n)) % 2 ^ 64))) (ltb ceiling n)
+    (λ t. sym (second_signed ((n + ceiling) % 2 ^ 64) ((ceiling + (2 ^ 64 - n)) % 2 ^ 64) (omega (arith, ltb-true ceiling n t))))
+    (λ t. sym (none_signed ((n + ceiling) % 2 ^ 64) ((ceiling + (2 ^ 64 - n)) % 2 ^ 64) (omega (arith, ltb-false ceiling n t)) (omega (arith, ltb-false ceiling n t)))))
+excess_is (negsuc n) h = sym (cases (λ (b : Bool). b ≡ signed (bit_or (((2 ^ 64 - suc n) + ceiling) % 2 ^ 64) ((ceiling + (2 ^ 64 - (2 ^ 64 - suc n))) % 2 ^ 64))) (ltb ceiling (suc n))
+    (λ t. sym (first_signed (((2 ^ 64 - suc n) + ceiling) % 2 ^ 64) ((ceiling + (2 ^ 64 - (2 ^ 64 - suc n))) % 2 ^ 64) (omega (arith, ltb-true ceiling (suc n) t))))
+    (λ t. sym (none_signed (((2 ^ 64 - suc n) + ceiling) % 2 ^ 64) ((ceiling + (2 ^ 64 - (2 ^ 64 - suc n))) % 2 ^ 64) (omega (arith, ltb-false ceiling (suc n) t)) (omega (arith, ltb-false ceiling (suc n) t)))))

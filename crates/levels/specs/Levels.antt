@@ -1,17 +1,13 @@
 -- Signs by bits, and points of a level that are not 0. Vocabulary between the engine's crates: no call that a maker embeds cites it.
-use Rattle.std.specs.Prelude.{ℕ, suc, ◌+◌, ◌-◌, ◌*◌, ◌^◌, Bool, false, ◌&&◌, ◌||◌, List, length, ℤ, pos, negsuc, ◌==◌, nat_le, nat_lt}
+use Rattle.std.specs.Prelude.{ℕ, ◌+◌, ◌-◌, ◌*◌, ◌^◌, Bool, false, ◌&&◌, ◌||◌, List, length, ℤ, ◌==◌, nat_le, nat_lt}
 use Rattle.std.specs.Prelude.{unsigned_abs}
 use Rattle.types.specs.declared.Grid.{Grid}
 use Rattle.scheme.specs.Lists.{point, some_below}
-use Rattle.scheme.specs.Instruments.{Kind, unknown, fixedString, halfFreeString, freeString, bar, membrane, roundMembrane, plate}
+use Rattle.types.specs.declared.Kind.{Kind}
+use Rattle.types.specs.declared.Kind.TheVariants.{Unknown, StringFixed, StringFixedFree, StringFree, Bar, MembraneRectangular, MembraneRound, Plate}
 use Rattle.scheme.specs.Instruments.{points, in_table, round_edge, fixed}
 use Rattle.scheme.specs.Refusals.{fixed_not_zero}
 use Rattle.kinds.specs.declared.runs.Run.{Run}
-
--- a number's bits, in two's complement of 64
-abbrev pub bits_of : ℤ → ℕ
-bits_of (pos n) = n
-bits_of (negsuc n) = 2 ^ 64 - suc n
 
 -- bits with the sign bit
 abbrev pub signed : ℕ → Bool
@@ -39,14 +35,14 @@ row_unfixed g xs b = some_below g.columns (λ a. fixed g (b * g.columns + a) && 
 
 -- some fixed point of a line is not 0: "string, both ends fixed", "point 0 fixed, last free", "both ends free", "both ends supported"
 abbrev pub ends_not_zero : Kind → List ℤ → ℕ → Bool
-ends_not_zero fixedString xs last = not_zero xs 0 || not_zero xs last
-ends_not_zero halfFreeString xs last = not_zero xs 0
-ends_not_zero freeString xs last = false
-ends_not_zero bar xs last = not_zero xs 0 || not_zero xs last
-ends_not_zero unknown xs last = false
-ends_not_zero membrane xs last = false
-ends_not_zero roundMembrane xs last = false
-ends_not_zero plate xs last = false
+ends_not_zero StringFixed xs last = not_zero xs 0 || not_zero xs last
+ends_not_zero StringFixedFree xs last = not_zero xs 0
+ends_not_zero StringFree xs last = false
+ends_not_zero Bar xs last = not_zero xs 0 || not_zero xs last
+ends_not_zero Unknown xs last = false
+ends_not_zero MembraneRectangular xs last = false
+ends_not_zero MembraneRound xs last = false
+ends_not_zero Plate xs last = false
 
 -- 12 "A fixed point .. not 0", of a level that is as long as a grid whose size the table has
 unfoldable pub unfixed : Grid → List ℤ → Bool

@@ -1,65 +1,51 @@
 // What a level's points are refused for: one beyond the ceiling, a fixed one that is not 0.
 ghost use Rattle.std.specs.Prelude.{◌≡◌, ◌+◌, ◌*◌, ◌<◌, ◌≤◌, true, length, nat_lt, unsigned_abs};
-ghost use Rattle.scheme.specs.Instruments.{points, beyond};
+ghost use Rattle.scheme.specs.Instruments.{beyond, points};
 ghost use Rattle.scheme.specs.Step.{some_beyond};
 ghost use Rattle.scheme.specs.Refusals.{fixed_not_zero};
 ghost use Rattle.scheme.specs.Instruments.{in_table};
-ghost use Rattle.levels.specs.Levels.{bits_of, signed, some_not_zero, row_not_zero, round_not_zero, row_unfixed, unfixed};
+ghost use Rattle.levels.specs.Levels.{signed, some_not_zero, row_not_zero, round_not_zero, row_unfixed, unfixed};
 
 use kinds::{Run, is_round_fixed, straight_run};
 use sizes::{has_size, points_of};
-use std::num::{wrapping_add_u64, wrapping_sub_u64};
-use types::{Grid, Settings};
+use types::{Grid, Kind, Settings};
 
 // Ruled out: the ceiling itself taken as beyond; below zero, all but the points beyond.
 pub fn is_beyond(v: i64) -> bool
     ensures { result ≡ beyond v }
 {
-    if v < -Settings::CEILING {
-        return true;
-    }
-    Settings::CEILING < v
+    v < -Settings::CEILING || Settings::CEILING < v
 }
 
 // What a number with the sign bit has at least.
-const SIGN: u64 = 9223372036854775808;
-
-// Two's complement.
-fn bits(v: i64) -> u64
-    ensures { result ≡ bits_of v }
-{
-    if v < 0 {
-        return u64::MAX - (-1 - v) as u64;
-    }
-    v as u64
-}
+const SIGN: u64 = 1 << 63;
 
 // A number with the sign bit where v lies beyond the ceiling: that of v + ceiling or of ceiling − v. It takes no branch.
+#[tactic(auto, using(crate::proofs::SignLaws::excess_is))]
 fn excess(v: i64) -> u64
     ensures { signed result ≡ beyond v }
 {
-    let b = bits(v);
-    let c = Settings::CEILING as u64;
-    wrapping_add_u64(b, c) | wrapping_sub_u64(c, b)
+    let bits = v.cast_unsigned();
+    let ceiling = Settings::CEILING as u64;
+    bits.wrapping_add(ceiling) | ceiling.wrapping_sub(bits)
 }
 
 // All points are looked at, so that the loop has no branch. Ruled out: point 0 left out; every other point left out.
+#[tactic(auto, using(crate::proofs::SignLaws::signs), unfolding(scheme::specs::Lists::some_below, scheme::specs::Step::some_beyond))]
 pub fn some_beyond(xs: &[i64]) -> bool
     ensures { result ≡ some_beyond xs.now }
 {
     let mut signs = 0;
-    let mut point = 0;
-    while point < xs.len() {
-        signs = signs | excess(xs[point]);
-        point += 1;
+    for v in xs {
+        signs |= excess(*v);
     }
     SIGN <= signs
 }
 
-fn is_not_zero(v: i64) -> bool
-    ensures { result ≡ nat_lt 0 (unsigned_abs v) }
+fn is_not_zero(v: &i64) -> bool
+    ensures { result ≡ nat_lt 0 (unsigned_abs v.now) }
 {
-    v != 0
+    *v != 0
 }
 
 // Whether some of the n points from start on is not 0.
@@ -67,14 +53,7 @@ fn some_not_zero(xs: &[i64], start: usize, n: usize) -> bool
     requires { start + n ≤ length xs.now }
     ensures { result ≡ some_not_zero xs.now start n }
 {
-    let mut k = 0;
-    while k < n {
-        if xs[start + k] != 0 {
-            return true;
-        }
-        k += 1;
-    }
-    false
+    xs[start..start + n].iter().any(is_not_zero)
 }
 
 // Whether some point of the row that begins at start is not 0, before its run or after it.
@@ -82,10 +61,7 @@ fn row_not_zero(xs: &[i64], start: usize, columns: usize, run: Run) -> bool
     requires { (run.from ≤ run.to) × (run.to ≤ columns) × (start + columns ≤ length xs.now) }
     ensures { result ≡ row_not_zero xs.now start columns run }
 {
-    if some_not_zero(xs, start, run.from) {
-        return true;
-    }
-    some_not_zero(xs, start + run.to, columns - run.to)
+    some_not_zero(xs, start, run.from) || some_not_zero(xs, start + run.to, columns - run.to)
 }
 
 // Whether some fixed point of row b of a round membrane of c columns is not 0, from both ends of the row to its edge.
@@ -93,79 +69,61 @@ fn round_not_zero(xs: &[i64], start: usize, c: usize, b: usize) -> bool
     requires { (c ≤ 64) × (b < c) × (start + c ≤ length xs.now) }
     ensures { result ≡ round_not_zero xs.now start c b }
 {
-    let mut a = 0;
-    while a < c {
+    for a in 0..c {
         if !is_round_fixed(c, a, b) {
             return false;
         }
         if xs[start + a] | xs[start + (c - 1 - a)] != 0 {
             return true;
         }
-        a += 1;
     }
     false
 }
 
 // Whether some fixed point of a row is not 0.
-fn is_row_unfixed(g: Grid, xs: &[i64], row: usize, start: usize) -> bool
-    requires { (in_table g ≡ true) × (row < g.rows) × (start ≡ row * g.columns) × (start + g.columns ≤ length xs.now) }
+fn is_row_unfixed(g: Grid, xs: &[i64], row: usize) -> bool
+    requires { (in_table g ≡ true) × (row < g.rows) × (length xs.now ≡ points g) }
     ensures { result ≡ row_unfixed g xs.now row }
 {
-    let columns = g.columns;
-    let kind = g.kind;
-    match kind {
-        Grid::MEMBRANE_ROUND => round_not_zero(xs, start, columns, row),
-        _ => row_not_zero(xs, start, columns, straight_run(kind, columns, g.rows, row)),
+    let start = row * g.columns;
+    match Kind::from(g.kind) {
+        Kind::MembraneRound => round_not_zero(xs, start, g.columns, row),
+        _ => row_not_zero(xs, start, g.columns, straight_run(g, row)),
     }
 }
 
-// 12, of a level that is as long as the grid.
+// 12, row by row.
 fn rows_not_zero(g: Grid, xs: &[i64]) -> bool
     requires { (in_table g ≡ true) × (length xs.now ≡ points g) }
     ensures { result ≡ fixed_not_zero g xs.now }
 {
-    let columns = g.columns;
-    let rows = g.rows;
-    let mut row = 0;
-    let mut start = 0;
-    while row < rows {
-        if is_row_unfixed(g, xs, row, start) {
+    for row in 0..g.rows {
+        if is_row_unfixed(g, xs, row) {
             return true;
         }
-        row += 1;
-        start += columns;
     }
     false
 }
 
-// 12 of a line, whose fixed points are the ends that its kind fixes.
-fn is_line_unfixed(g: Grid, xs: &[i64]) -> bool
-    requires { (in_table g ≡ true) × (g.kind ≤ 4) × (length xs.now ≡ points g) }
+// 12, of a level that is as long as the grid: of a line by the ends that its kind fixes.
+fn fixed_not_zero(g: Grid, xs: &[i64]) -> bool
+    requires { (in_table g ≡ true) × (length xs.now ≡ points g) }
     ensures { result ≡ fixed_not_zero g xs.now }
 {
-    let kind = g.kind;
-    let last = g.columns - 1;
-    match kind {
-        Grid::STRING_FREE => false,
-        Grid::STRING_FIXED_FREE => is_not_zero(xs[0]),
-        _ => is_not_zero(xs[0]) | is_not_zero(xs[last]),
+    match Kind::from(g.kind) {
+        Kind::StringFree => false,
+        Kind::StringFixedFree => is_not_zero(&xs[0]),
+        Kind::StringFixed | Kind::Bar => is_not_zero(&xs[0]) || is_not_zero(&xs[g.columns - 1]),
+        _ => rows_not_zero(g, xs),
     }
 }
 
 // 12, of a level as long as a grid whose size the table has; of any other the answer is no.
 // Ruled out: a run's first columns looked at in place of those after it; as many rows looked at as there are columns;
 // the right of a round membrane's row by its row.
+#[tactic(auto, using(crate::proofs::LevelLaws::unfixed_is), unfolding(crate::specs::Levels::unfixed))]
 pub fn is_unfixed(g: Grid, xs: &[i64]) -> bool
     ensures { result ≡ unfixed g xs.now }
 {
-    if !has_size(g) {
-        return false;
-    }
-    if xs.len() != points_of(g) {
-        return false;
-    }
-    if g.kind <= Grid::BAR {
-        return is_line_unfixed(g, xs);
-    }
-    rows_not_zero(g, xs)
+    has_size(g) && xs.len() == points_of(g) && fixed_not_zero(g, xs)
 }

@@ -14,9 +14,9 @@ use lib.Ieee.Compare.{differs_from_itself, nan_differs}
 use lib.Ieee.Exact.{HasValue, odd_sign}
 use lib.Ieee.Fits.{down_pos}
 use Rattle.integers.proofs.Ring.{◌⊗◌, ⊝◌, ◌≈◌, ring}
+use Rattle.std.specs.Prelude.{Some, None}
 use Rattle.types.specs.Numbers.{D}
 use Rattle.scheme.specs.Step.{nearest}
-use Rattle.nearest.specs.declared.Whole.TheVariants.{Is, Outside}
 use Rattle.nearest.specs.Nearest.{signed, halves_up, whole_in, nearest_times, nearest_whole}
 use Rattle.nearest.proofs.HalvesUp.{is_whole, above-whole, same_fraction, plus, minus_half, minus-below, small, large}
 
@@ -85,20 +85,20 @@ of_low_fields s e t h =
     ∙ same_size s (mantissa e t * 2 ^ (e - 1) * D) (2 ^ 1074) (mantissa e t) (2 ^ (1058 - (e - 1)))
     (pow_pos 1074) (pow_pos (1058 - (e - 1))) (mantissa-over (mantissa e t) (e - 1) (omega arith))
 
-no_number : (s b : Bool) → nearest_whole (cond b (inf s) nan) ≡ Outside
+no_number : (s b : Bool) → nearest_whole (cond b (inf s) nan) ≡ None
 unfolding nearest_times
 no_number s true = refl
 no_number s false = refl
 
 -- a field of ones is an infinity or not a number, and any other above 1023 is 2 or more in size
-at_ones : (s : Bool) (t : ℕ) → nearest_whole (of_fields binary64 s 2047 t) ≡ Outside
+at_ones : (s : Bool) (t : ℕ) → nearest_whole (of_fields binary64 s 2047 t) ≡ None
 unfolding of_fields
 at_ones s t = no_number s (eqb t 0)
 
-pub two_or_more : (s : Bool) (a d : ℕ) → 0 < d → 2 * d ≤ a → whole_in (halves_up (signed s (a * D)) d) ≡ Outside
+pub two_or_more : (s : Bool) (a d : ℕ) → 0 < d → 2 * d ≤ a → whole_in (halves_up (signed s (a * D)) d) ≡ None
 two_or_more s a d p h = large s (a * D) d p (omega arith)
 
-pub of_high_fields : (s : Bool) (e t : ℕ) → 1023 < e → e < 2048 → nearest_whole (of_fields binary64 s e t) ≡ Outside
+pub of_high_fields : (s : Bool) (e t : ℕ) → 1023 < e → e < 2048 → nearest_whole (of_fields binary64 s e t) ≡ None
 of_high_fields s zero t h k = absurd (omega arith)
 of_high_fields s (suc x) t h k = go (eq-or-lt_of_le (le_of_suc-le-suc k))
   where
@@ -108,7 +108,7 @@ of_high_fields s (suc x) t h k = go (eq-or-lt_of_le (le_of_suc-le-suc k))
     high : 1023 ≤ suc x - 1
     high = omega arith
 
-    go : (suc x ≡ 2047) ⊎ (suc x < 2047) → nearest_whole (of_fields binary64 s (suc x) t) ≡ Outside
+    go : (suc x ≡ 2047) ⊎ (suc x < 2047) → nearest_whole (of_fields binary64 s (suc x) t) ≡ None
     go (inl e) = ap (λ (y : ℕ). nearest_whole (of_fields binary64 s y t)) e ∙ at_ones s t
     go (inr l) =
         of_fields_lem s (suc x) t l
@@ -138,7 +138,7 @@ module _ (b : ℕ) where
   read_as s h = ap (λ (x : ℕ). nearest_whole (of_fields binary64 (leb sign b) x (digits b))) (field b 11 52)
       ∙ ap (λ (u : Bool). nearest_whole (of_fields binary64 u (exponent b) (digits b))) h
 
-  bits_small : exponent b < 1006 → nearest_whole (of_bits binary64 b) ≡ Is 0
+  bits_small : exponent b < 1006 → nearest_whole (of_bits binary64 b) ≡ Some 0
   bits_small h =
       let d = 1058 - (exponent b - 1) in
       let m = mantissa (exponent b) (digits b) in
@@ -150,7 +150,7 @@ module _ (b : ℕ) where
       twice : {m : ℕ} → m < 2 ^ 53 → 2 * m < 2 ^ 54
       twice h = omega arith
 
-  bits_large : 1023 < exponent b → nearest_whole (of_bits binary64 b) ≡ Outside
+  bits_large : 1023 < exponent b → nearest_whole (of_bits binary64 b) ≡ None
   bits_large h = read_as (leb sign b) refl ∙ of_high_fields (leb sign b) (exponent b) (digits b) h (mod-lt (b / leading) (pow_pos 11))
 
   module _ (low : 1006 ≤ exponent b) (high : exponent b ≤ 1023) where
@@ -166,11 +166,11 @@ module _ (b : ℕ) where
         → nearest_whole (of_bits binary64 b) ≡ whole_in (halves_up (neg_ℤ (pos (leading + digits b))) (2 ^ (1059 - exponent b)))
     bits_minus h = read_as true (le-leb sign b h) ∙ of_middle_fields true (exponent b) (digits b) low high
 
-    bits_minus_half : sign ≤ b → exponent b ≡ 1006 → digits b ≡ 0 → nearest_whole (of_bits binary64 b) ≡ Is 0
+    bits_minus_half : sign ≤ b → exponent b ≡ 1006 → digits b ≡ 0 → nearest_whole (of_bits binary64 b) ≡ Some 0
     bits_minus_half h e t = bits_minus h
         ∙ ap whole_in (minus_half (leading + digits b) (2 ^ (1059 - exponent b)) (pow_pos (1059 - exponent b)) (simp (e, t) (lit≤ tt)))
 
-    bits_minus_below : sign ≤ b → (exponent b ≡ 1006 → digits b ≡ 0 → ⊥) → nearest_whole (of_bits binary64 b) ≡ Outside
+    bits_minus_below : sign ≤ b → (exponent b ≡ 1006 → digits b ≡ 0 → ⊥) → nearest_whole (of_bits binary64 b) ≡ None
     bits_minus_below h n = bits_minus h ∙ minus-below (leading + digits b) (2 ^ (1059 - exponent b)) (go (eq-or-lt_of_le low))
       where
         over : {p : ℕ} → p ≤ 2 ^ 52 → p < 2 * (leading + digits b)
@@ -185,7 +185,7 @@ module _ (b : ℕ) where
   no_sign : b / leading < 2048 → exponent b ≡ b / leading
   no_sign h = omega arith
 
-  pub field_small : b / leading < 1006 → nearest_whole (of_bits binary64 b) ≡ Is 0
+  pub field_small : b / leading < 1006 → nearest_whole (of_bits binary64 b) ≡ Some 0
   field_small h = bits_small (omega arith)
 
   pub field_middle : 1006 ≤ b / leading → b / leading ≤ 1023
@@ -197,37 +197,37 @@ module _ (b : ℕ) where
 
   -- and whether what is rounded is past D
   pub bits_whole : {n : ℕ} → 1006 ≤ b / leading → b / leading ≤ 1023 → n ≡ nearest (leading + digits b) (2 ^ (1059 - b / leading))
-      → n ≤ D → nearest_whole (of_bits binary64 b) ≡ Is n
+      → n ≤ D → nearest_whole (of_bits binary64 b) ≡ Some n
   bits_whole {n} low high e h = field_middle low high refl e ∙ is_whole n h
 
   pub bits_above : {n : ℕ} → 1006 ≤ b / leading → b / leading ≤ 1023 → n ≡ nearest (leading + digits b) (2 ^ (1059 - b / leading))
-      → D < n → nearest_whole (of_bits binary64 b) ≡ Outside
+      → D < n → nearest_whole (of_bits binary64 b) ≡ None
   bits_above {n} low high e h = field_middle low high refl e ∙ above-whole n h
 
-  pub field_large : 1023 < b / leading → b < sign → nearest_whole (of_bits binary64 b) ≡ Outside
+  pub field_large : 1023 < b / leading → b < sign → nearest_whole (of_bits binary64 b) ≡ None
   field_large low high = bits_large (omega arith)
 
   -- a negative number from −1/2 on, and one below
-  pub minus_near : sign ≤ b → b ≤ sign + 1006 * leading → nearest_whole (of_bits binary64 b) ≡ Is 0
+  pub minus_near : sign ≤ b → b ≤ sign + 1006 * leading → nearest_whole (of_bits binary64 b) ≡ Some 0
   minus_near low high = go (eq-or-lt_of_le at_most)
     where
       at_most : exponent b ≤ 1006
       at_most = omega arith
 
-      go : (exponent b ≡ 1006) ⊎ (exponent b < 1006) → nearest_whole (of_bits binary64 b) ≡ Is 0
+      go : (exponent b ≡ 1006) ⊎ (exponent b < 1006) → nearest_whole (of_bits binary64 b) ≡ Some 0
       go (inl e) = bits_minus_half (omega arith) (omega arith) low e (omega arith)
       go (inr l) = bits_small l
 
-  pub minus_far : sign + 1006 * leading < b → b < 2 * sign → nearest_whole (of_bits binary64 b) ≡ Outside
+  pub minus_far : sign + 1006 * leading < b → b < 2 * sign → nearest_whole (of_bits binary64 b) ≡ None
   minus_far low high = go (leb (exponent b) 1023) (leb-true (exponent b) 1023) (leb-false (exponent b) 1023)
     where
-      go : (t : Bool) → (t ≡ true → exponent b ≤ 1023) → (t ≡ false → 1023 < exponent b) → nearest_whole (of_bits binary64 b) ≡ Outside
+      go : (t : Bool) → (t ≡ true → exponent b ≤ 1023) → (t ≡ false → 1023 < exponent b) → nearest_whole (of_bits binary64 b) ≡ None
       go true h k = let l = h refl in bits_minus_below (omega arith) l (omega arith) (λ e t. omega arith)
       go false h k = bits_large (k refl)
 
 -- ---- not a number
 
-pub nan_outside : (x : Float) → ne x x ≡ true → nearest_whole x ≡ Outside
+pub nan_outside : (x : Float) → ne x x ≡ true → nearest_whole x ≡ None
 unfolding nearest_times
 nan_outside x h = ap nearest_whole (differs_from_itself x (subst T (sym h) tt))
 

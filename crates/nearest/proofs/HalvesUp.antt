@@ -10,9 +10,9 @@ use lib.IntN.{ℤ, pos, negsuc, neg_ℤ, ◌+ℤ◌, ◌*ℤ◌}
 use lib.Pow.{pow-add, pow_pos}
 use lib.Signed.{shr_z}
 use Rattle.integers.proofs.Ring.{◌⊕◌, ◌⊗◌, ⊝◌, #◌, ◌≈◌, ring}
+use Rattle.std.specs.Prelude.{Some, None}
 use Rattle.types.specs.Numbers.{D}
 use Rattle.scheme.specs.Step.{nearest}
-use Rattle.nearest.specs.declared.Whole.TheVariants.{Is, Outside}
 use Rattle.nearest.specs.Nearest.{signed, halves_up, whole_in}
 
 -- ---- a factor that numerator and divisor share
@@ -61,7 +61,7 @@ minus_half n d p h =
     ∙ ap (λ z. shr_z z (2 * d)) (ring 2 (λ n j. # 2 ⊗ ⊝ n ⊕ (# 2 ⊗ n ⊕ j) ≈ j) refl (pos n) (pos j))
     ∙ ap pos (div-eq_of_lt (omega arith))
 
-pub minus-below : (n d : ℕ) → d < 2 * n → whole_in (halves_up (neg_ℤ (pos n)) d) ≡ Outside
+pub minus-below : (n d : ℕ) → d < 2 * n → whole_in (halves_up (neg_ℤ (pos n)) d) ≡ None
 unfolding halves_up
 minus-below n d h =
     let j = 2 * n - d - 1 in
@@ -72,18 +72,18 @@ minus-below n d h =
     ∙ ring 2 (λ d j. ⊝ (d ⊕ j) ⊕ d ≈ ⊝ j) refl (pos d) (pos (suc j)))
 
 -- a whole number from 0 to D, and one above D
-pub is_whole : (n : ℕ) → n ≤ D → whole_in (pos n) ≡ Is n
-is_whole n h = ap (λ (b : Bool). cond b (Is n) Outside) (le-leb n D h)
+pub is_whole : (n : ℕ) → n ≤ D → whole_in (pos n) ≡ Some n
+is_whole n h = ap (λ (b : Bool). cond b (Some n) None) (le-leb n D h)
 
-pub above-whole : (n : ℕ) → D < n → whole_in (pos n) ≡ Outside
-above-whole n h = ap (λ (b : Bool). cond b (Is n) Outside) (lt-leb n D h)
+pub above-whole : (n : ℕ) → D < n → whole_in (pos n) ≡ None
+above-whole n h = ap (λ (b : Bool). cond b (Some n) None) (lt-leb n D h)
 
 -- below a half either way it is 0, and from D + 1/2 on there is none
-pub small : (s : Bool) (n d : ℕ) → 2 * n < d → whole_in (halves_up (signed s n) d) ≡ Is 0
+pub small : (s : Bool) (n d : ℕ) → 2 * n < d → whole_in (halves_up (signed s n) d) ≡ Some 0
 small false n d h = ap whole_in (plus n d ∙ ap pos (div-eq_of_lt (omega arith)))
 small true n d h = ap whole_in (minus_half n d (omega arith) (omega arith))
 
-pub large : (s : Bool) (n d : ℕ) → 0 < d → (2 * D + 1) * d ≤ 2 * n → whole_in (halves_up (signed s n) d) ≡ Outside
+pub large : (s : Bool) (n d : ℕ) → 0 < d → (2 * D + 1) * d ≤ 2 * n → whole_in (halves_up (signed s n) d) ≡ None
 large false n d p h = ap whole_in (plus n d) ∙ above-whole (nearest n d) ((le-div_iff_mul-le (mul-pos (zero-lt-suc 1) p)).1 (omega arith))
 large true n d p h = minus-below n d (omega arith)
 

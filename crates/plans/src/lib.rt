@@ -40,6 +40,7 @@ pub fn make_plan(i: Instrument) -> Plan
     ensures { result ≡ plan_of i }
 {
     if wrong_coefficient(i.settings) {
+        // no Option: the steps make a plan where 4 has passed, and would only open it
         return Plan {
             instrument: i,
             own: 0,

@@ -1,6 +1,10 @@
 -- Laws of the call: what refuses it, and the level of one that nothing refuses.
-use mathlib.Core.Path.{◌≡◌, sym, ap, ap₂, ◌∙◌}
-use mathlib.Core.Bool.{Bool, false, ◌&&◌, ◌||◌, cond}
+use mathlib.Core.Path.{◌≡◌, refl, sym, ap, ap₂, ◌∙◌, subst}
+use mir.Syntax.{w64}
+use mir.Val.{to_z, of_z}
+use Rattle.bounded.proofs.Num.{given}
+use Rattle.kinds.specs.declared.runs.Run.{Run}
+use mathlib.Core.Bool.{Bool, true, false, ◌&&◌, ◌||◌, cond}
 use mathlib.Core.List.{List}
 use Prim.Native.Nat.{ℕ, ◌+◌, ◌-◌, ◌*◌, ◌≤◌, ◌<◌}
 use native.Mathlib.Nat.{mul-one, zero-mul, zero-add}
@@ -9,10 +13,8 @@ use borrow.Author.Tests.{ltb-true, ltb-false, leb-true, not-false}
 use lib.Dec.{leb}
 use lib.IntN.{ℤ, pos, nat_abs}
 use Rattle.types.specs.declared.Grid.{Grid}
-use Rattle.types.specs.declared.Refusal.TheVariants.{Nothing, BrokenTable}
-use Rattle.types.specs.Numbers.{ceiling}
-use Rattle.pluck_table.specs.declared.LoadedTable.TheVariants.{Sound, Broken}
-use Rattle.pluck_table.specs.Loading.{loaded_table}
+use Rattle.std.specs.Prelude.{Result, Ok}
+use Rattle.types.specs.Numbers.{ceiling, kind_of}
 use Rattle.scheme.specs.Lists.{tabulate}
 use Rattle.scheme.specs.Instruments.{points, moving}
 use Rattle.scheme.specs.Pluck.{distance_from, pluck_value, pluck_at, pluck_level}
@@ -23,51 +25,29 @@ use Rattle.scheme.proofs.Laws.Bools.{and_both}
 use Rattle.scheme.proofs.Laws.Kinds.{within_is, sized}
 use Rattle.scheme.proofs.Laws.Lists.{length-tabulate, get_d_tabulate, is_tabulate}
 use Rattle.scheme.proofs.Laws.Refusals.{pluck_passes}
-use Rattle.kinds.specs.Runs.{in_run, straight_run, run_of}
-use Rattle.sizes.proofs.KindLaws.{line-size}
-use Rattle.kinds.proofs.RunLaws.{run_is, straight_is, moving-run, run_bounds}
-use Rattle.instruments.specs.Refused.{not_long}
-use Rattle.instruments.proofs.RefusalLaws.{lowest-append, long_is}
-use Rattle.checks.proofs.RefusalLaws.{pluck_same}
+use Rattle.kinds.specs.Runs.{in_run, is_round, straight_run, run_of}
+use Rattle.sizes.proofs.KindLaws.{line-size, by_range}
+use Rattle.kinds.proofs.RunLaws.{straight_is, moving-run, run_bounds}
+use Rattle.checks.proofs.CheckLaws.{before, parts}
 use Rattle.pluck.specs.declared.shape.Shape.{Shape}
-use Rattle.pluck.specs.Shapes.{Shaped, shape_at}
-
--- ---- what refuses a pluck, by the lengths as the code tests them
-
-pub refusal_is : (g : Grid) (older newer c w : ℕ) (a : ℤ)
-    → lowest (pluck_checks g (not_long g older || not_long g newer) c w a) ≡ pluck_refusal g older newer c w a
-unfolding pluck_refusal
-refusal_is g older newer c w a =
-    pluck_same g (not_long g older || not_long g newer) (wrong_length g older || wrong_length g newer) c w a
-    (λ size. ap₂ ◌||◌ (long_is g older size) (long_is g newer size))
+use Rattle.pluck.specs.Shapes.{shape_at}
 
 -- ---- what refuses a pluck by a lent table: first what refuses any, then loading
 
-module _ (g : Grid) (older newer c w : ℕ) (a : ℤ) (lent : List ℕ) where
-  by_parts : pluck_with_refusal g older newer c w a lent
-      ≡ cond (accepted (pluck_refusal g older newer c w a)) (lowest (table_checks lent)) (pluck_refusal g older newer c w a)
-  unfolding pluck_refusal pluck_with_refusal
-  by_parts = lowest-append (pluck_checks g (wrong_length g older || wrong_length g newer) c w a) (table_checks lent) tt
-
-  pub refused-before : accepted (pluck_refusal g older newer c w a) ≡ false
-      → pluck_with_refusal g older newer c w a lent ≡ pluck_refusal g older newer c w a
-  refused-before e = by_parts ∙ simp e
-
-  pub refused_by-table : pluck_refusal g older newer c w a ≡ Nothing → loaded_table lent ≡ Broken
-      → pluck_with_refusal g older newer c w a lent ≡ BrokenTable
-  refused_by-table e f = by_parts ∙ simp (e, f)
-
-  pub refused_by_none : (last : ℕ) → pluck_refusal g older newer c w a ≡ Nothing → loaded_table lent ≡ Sound last
-      → pluck_with_refusal g older newer c w a lent ≡ Nothing
-  refused_by_none last e f = by_parts ∙ simp (e, f)
+pub by_parts : (g : Grid) (older newer c w : ℕ) (a : ℤ) (lent : List ℕ) → pluck_with_refusal g older newer c w a lent
+    ≡ before (pluck_refusal g older newer c w a) (lowest (table_checks lent))
+unfolding pluck_refusal pluck_with_refusal
+by_parts g older newer c w a lent =
+    parts (pluck_checks g (wrong_length g older || wrong_length g newer) c w a) (table_checks lent)
 
 -- ---- a pluck that nothing refuses
 
-abbrev pub shape_of : Grid → ℕ → ℕ → ℤ → Shape
-shape_of g c w a = record { run = run_of g 0; centre = c; width = w; height = a }
+line_straight : (k : ℕ) → 1 ≤ k → k ≤ 4 → is_round (kind_of k) ≡ false
+line_straight =
+    by_range 1 4 tt tt (λ K. is_round K ≡ false) (λ t. refl) (λ t. refl) (λ t. refl) (λ t. refl) (λ t. absurd t) (λ t. absurd t) (λ t. absurd t)
 
-module _ (g : Grid) (older newer c w : ℕ) (a : ℤ) (none : pluck_refusal g older newer c w a ≡ Nothing) where
-  passes : PluckPasses g older newer c w a
+module _ (g : Grid) (older newer c w : ℕ) (a : ℤ) (none : pluck_refusal g older newer c w a ≡ Ok tt) where
+  pub passes : PluckPasses g older newer c w a
   passes = pluck_passes g older newer c w a none
 
   -- plucked kinds are lines
@@ -88,45 +68,58 @@ module _ (g : Grid) (older newer c w : ℕ) (a : ℤ) (none : pluck_refusal g ol
       sym (moving-run g 0 i passes.size (omega (arith, of_line.1)) (omega (arith, columns_is))) ∙ ap (moving g) first
 
   -- as the code works it out
-  pub line-run : straight_run g.kind g.columns g.rows 0 ≡ run_of g 0
+  line-run : straight_run g 0 ≡ run_of g 0
   line-run =
       let k = within_is 1 last_plucked g.kind passes.kind_in in
-      let r : 0 < g.rows = omega (arith, of_line.1) in
-      let c : 0 < g.columns = omega (arith, (sized _ _ _ passes.size).columns_low) in
-      straight_is g.kind g.columns g.rows 0 c r (λ e. omega arith) ∙ sym (run_is g 0 passes.size r)
+      straight_is g 0 passes.size (omega (arith, of_line.1)) (line_straight g.kind k.0 k.1)
 
-  -- and the run of its moving points has the centre
-  pub shaped : Shaped (shape_of g c w a)
+  in_it : in_run (run_of g 0) c ≡ true
   unfolding moving
-  shaped =
-      let b = within_is 1 (g.columns - 1) w (not-false _ passes.width_in) in
-      let m = and_both _ _ (moving_is c (ltb-true c (points g) (and_both _ _ passes.centre_moving).0) ∙ passes.centre_moving) in
-      record {
-        some = b.0;
-        narrow = omega (arith, b.1, of_line.0);
-        low = ltb-false ceiling (nat_abs a) passes.height_low;
-        starts = leb-true _ _ m.0;
-        ends = ltb-true _ _ m.1;
-      }
+  in_it = moving_is c (ltb-true c (points g) (and_both _ _ passes.centre_moving).0) ∙ passes.centre_moving
 
-  pub as_long : older ≡ newer
-  as_long = passes.older_long ∙ sym passes.newer_long
+  -- the half width, and the height, also as it is stored
+  pub some : 1 ≤ w
+  some = (within_is 1 (g.columns - 1) w (not-false _ passes.width_in)).0
 
-  -- the run ends in the level
-  pub run_in_lem : (run_of g 0).to ≤ older
-  run_in_lem = omega (arith, (run_bounds g 0).inside, columns_is, passes.older_long)
+  pub narrow : w ≤ 1024
+  narrow = omega (arith, (within_is 1 (g.columns - 1) w (not-false _ passes.width_in)).1, of_line.0)
 
-  module _ (table : List ℕ) where
-    shape_is : (i : ℕ) → i < points g → shape_at table (shape_of g c w a) i ≡ pluck_at table g c w a i
+  low : nat_abs a ≤ ceiling
+  low = ltb-false ceiling (nat_abs a) passes.height_low
+
+  pub stored : to_z w64 (of_z w64 a) ≡ a
+  stored = (given low tt).is
+
+  pub stored_low : nat_abs (to_z w64 (of_z w64 a)) ≤ ceiling
+  stored_low = subst (λ (z : ℤ). nat_abs z ≤ ceiling) (sym stored) low
+
+  pub as_long : newer ≡ older
+  as_long = passes.newer_long ∙ sym passes.older_long
+
+  -- the run as the code works it out: it has the centre, and ends in the level
+  module _ (run : Run) (made : run ≡ straight_run g 0) where
+    run-is : run_of g 0 ≡ run
+    run-is = sym (made ∙ line-run)
+
+    pub starts : run.from ≤ c
+    starts = leb-true _ _ (and_both _ _ (subst (λ (r : Run). in_run r c ≡ true) run-is in_it)).0
+
+    pub ends : c < run.to
+    ends = ltb-true _ _ (and_both _ _ (subst (λ (r : Run). in_run r c ≡ true) run-is in_it)).1
+
+    pub inside : run.to ≤ older
+    inside = subst (λ (r : Run). r.to ≤ older) run-is (omega (arith, (run_bounds g 0).inside, columns_is, passes.older_long))
+
+  -- a level of the grid with the shape that the code makes
+  module _ (s : Shape) (made : s.run ≡ straight_run g 0) (centre-is : s.centre ≡ c) (width-is : s.width ≡ w)
+      (height-is : s.height ≡ a) where
+    shape_is : (i : ℕ) → i < points g → shape_at s i ≡ pluck_at s.table.entries.now g c w a i
     unfolding shape_at pluck_at
-    shape_is i h =
-        let d = distance_from c i in
-        ap (λ (t : Bool). cond (t && leb d w) (pluck_value table w a d) (pos 0)) (moving_is i h)
+    shape_is i h = simp (made ∙ line-run, centre-is, width-is, height-is, moving_is i h)
 
-    -- a level of the grid with the shape
-    pub level_is : tabulate older (shape_at table (shape_of g c w a)) ≡ pluck_level table g c w a
+    pub level_is : tabulate older (shape_at s) ≡ pluck_level s.table.entries.now g c w a
     unfolding pluck_level
     level_is =
-        let shape = shape_at table (shape_of g c w a) in
-        is_tabulate (points g) (pluck_at table g c w a) (pos 0) (tabulate older shape) (length-tabulate older shape ∙ passes.older_long)
-        (λ i h. get_d_tabulate older shape i (pos 0) (omega (arith, passes.older_long)) ∙ shape_is i h)
+        is_tabulate (points g) (pluck_at s.table.entries.now g c w a) (pos 0) (tabulate older (shape_at s))
+        (length-tabulate older (shape_at s) ∙ passes.older_long)
+        (λ i h. get_d_tabulate older (shape_at s) i (pos 0) (omega (arith, passes.older_long)) ∙ shape_is i h)

@@ -43,3 +43,12 @@ module _ (p w k : ℕ) (some : 1 ≤ w) (narrow : w ≤ 1024) (in-width : k ≤ 
 
   pub place_is : k * (1024 * reciprocal) / p ≡ quotient
   place_is = div-eq_of_lt-le p low high
+
+-- the steps from the first entry to that of distance d, of a half width w
+module _ (w d step : ℕ) (is : step ≡ 1024 * (4294967296 / w + 1)) (some : 1 ≤ w) (narrow : w ≤ 1024) where
+  pub place_by_steps : (w - d) * step / 4294967296 ≡ 1024 * (w - d) / w
+  place_by_steps =
+      ap (λ (n : ℕ). (w - d) * n / 4294967296) is ∙ place_is 4294967296 w (w - d) some narrow (sub-le w d) (omega arith)
+
+  pub in_table : (w - d) * step / 4294967296 < 1025
+  in_table = omega (arith, place_by_steps, place_inside w d some)

@@ -6,19 +6,11 @@ use Rattle.scheme.specs.Pluck.{distance_from, pluck_value}
 use Rattle.kinds.specs.Runs.{in_run}
 use Rattle.pluck.specs.declared.shape.Shape.{Shape}
 
--- what the refusals let pass: 7 the centre, 8 the height, 10 the half width
-pub record Shaped (s : Shape) : Type 0 where
-  pub some : 1 ≤ s.width
-  pub narrow : s.width ≤ 1024
-  pub low : nat_abs s.height ≤ ceiling
-  pub starts : s.run.from ≤ s.centre
-  pub ends : s.centre < s.run.to
-
 -- "A moving point at distance d ≤ w gets ..; the others get 0": on a line, whose moving points are one run (`shape_is`)
-unfoldable pub shape_at : (table : List ℕ) → Shape → ℕ → ℤ
-shape_at table s i =
+unfoldable pub shape_at : Shape → ℕ → ℤ
+shape_at s i =
     let d = distance_from s.centre i in
-    cond (in_run s.run i && leb d s.width) (pluck_value table s.width s.height d) (pos 0)
+    cond (in_run s.run i && leb d s.width) (pluck_value s.table.entries.now s.width s.height d) (pos 0)
 
 -- 1024/w in parts of 2³², rounded up: w − d of them give the place in the table (`place_is`)
 abbrev pub step_of : ℕ → ℕ

@@ -1,4 +1,15 @@
-// The table T of a pluck.
+// Tables of a pluck, and the table T.
+ghost use Rattle.std.specs.Prelude.{◌≡◌};
+ghost use Rattle.pluck_table.specs.Table.{ShapeRule};
+
+// A table that keeps the rule of a shape, and the place of its last entry.
+#[derive(Clone, Copy)]
+pub(crate) struct Table<'a> {
+    pub entries: &'a [u32],
+    pub last: usize,
+    ghost rule: { ShapeRule entries.now },
+    ghost at_end: { last ≡ 1024 },
+}
 
 // Entry j is the nearest whole number to 32768(1−cos(πj/1024)).
 pub(crate) const TABLE: [u32; 1025] = [

@@ -6,9 +6,8 @@ ghost use Rattle.types.specs.Numbers.{ceiling};
 ghost use Rattle.scheme.specs.Step.{float_of};
 ghost use Rattle.scheme.specs.Calls as Calls;
 
-use instruments::is_nothing;
 use reading_checks::reading_refusal;
-use types::{Grid, ReadingAnswer, Refusal};
+use types::{Grid, Refusal};
 
 // The value of a point over 2⁴³.
 fn float_of(v: i64) -> f64
@@ -19,19 +18,11 @@ fn float_of(v: i64) -> f64
 }
 
 // The reading of newer at a pick-up, or what refuses it.
-// Ruled out: the point divided by 2⁴²; a refused reading whose value is not 0.
-pub fn reading(g: Grid, newer: &[i64], pick: usize) -> ReadingAnswer
+// Ruled out: the point divided by 2⁴²; a refused reading that answers a value.
+#[tactic(auto, using(crate::proofs::ReadingLaws::pick_within, crate::proofs::ReadingLaws::point_low), unfolding(scheme::specs::Calls::reading))]
+pub fn reading(g: Grid, newer: &[i64], pick: usize) -> Result<f64, Refusal>
     ensures { result ≡ Calls.reading g newer.now pick }
 {
-    let refusal = reading_refusal(g, newer, pick);
-    if !is_nothing(refusal) {
-        return ReadingAnswer {
-            value: 0.0,
-            refusal,
-        };
-    }
-    ReadingAnswer {
-        value: float_of(newer[pick]),
-        refusal: Refusal::Nothing,
-    }
+    reading_refusal(g, newer, pick)?;
+    Ok(float_of(newer[pick]))
 }

@@ -6,37 +6,34 @@ ghost use Rattle.scheme.specs.Step.{some_beyond};
 ghost use Rattle.scheme.specs.Refusals.{lowest, state_checks, reading_refusal};
 ghost use Rattle.levels.specs.Levels.{unfixed};
 
-use instruments::{grid_refusal, is_nothing, wrong_length};
+use instruments::{grid_refusal, wrong_length};
 use levels::{is_unfixed, some_beyond};
-use types::{Grid, Refusal};
+use types::{Grid, Outcome, Refusal};
 
 // 11 and 12 of one level.
-fn level_refusal(g: Grid, xs: &[i64]) -> Refusal
+fn level_refusal(g: Grid, xs: &[i64]) -> Outcome
     ensures { result ≡ lowest (state_checks (some_beyond xs.now) (unfixed g xs.now)) }
 {
     if some_beyond(xs) {
-        return Refusal::PointBeyond;
+        return Err(Refusal::PointBeyond);
     }
     if is_unfixed(g, xs) {
-        Refusal::FixedNotZero
-    } else {
-        Refusal::Nothing
+        return Err(Refusal::FixedNotZero);
     }
+    Ok(())
 }
 
 // The float reading's 1, 2, 6, 9, 11 and 12. Ruled out: membranes not read; the pick-up taken for the length.
-pub fn reading_refusal(g: Grid, newer: &[i64], pick: usize) -> Refusal
+#[tactic(auto, using(crate::proofs::ReadingLaws::unfixed_same), unfolding(scheme::specs::Refusals::reading_refusal))]
+pub fn reading_refusal(g: Grid, newer: &[i64], pick: usize) -> Outcome
     ensures { result ≡ reading_refusal g newer.now pick }
 {
-    let r = grid_refusal(g, Grid::LAST);
-    if !is_nothing(r) {
-        return r;
-    }
+    grid_refusal(g, Grid::LAST)?;
     if wrong_length(g, newer.len()) {
-        return Refusal::WrongLength;
+        return Err(Refusal::WrongLength);
     }
     if newer.len() <= pick {
-        return Refusal::PickUp;
+        return Err(Refusal::PickUp);
     }
     level_refusal(g, newer)
 }

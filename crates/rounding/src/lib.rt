@@ -3,9 +3,8 @@
 
 ghost use Rattle.std.specs.Prelude.{◌≡◌, ◌+◌, ◌^◌, ◌≤◌, unsigned_abs};
 ghost use Rattle.scheme.specs.Step.{sample_of};
-ghost use Rattle.rounding.specs.Rounding.{sign_of, mirror_of, turned_of, with_sign, divisor_of, rounded_by};
+ghost use Rattle.rounding.specs.Rounding.{sign_of, mirror_of, with_sign, rounded_by};
 
-use std::num::wrapping_add_u64;
 use types::Settings;
 
 // −1 for a number below 0, else 0.
@@ -15,14 +14,14 @@ fn sign(n: i64) -> i64
     if n < 0 { -1 } else { 0 }
 }
 
-// x, or −1 − x where n is below 0: by bits, without a branch.
+// x, or −1 − x where n is below 0. By bits for speed: no branch depends on a sign.
 fn mirrored(x: i64, n: i64) -> i64
     ensures { result ≡ mirror_of n x }
 {
     x ^ sign(n)
 }
 
-// x, or −x where n is below 0.
+// x, or −x where n is below 0. By bits for speed, as above.
 fn signed(x: i64, n: i64) -> i64
     requires { unsigned_abs x ≤ 2 ^ 62 + 2 ^ 31 }
     ensures { result ≡ with_sign n x }
@@ -30,28 +29,14 @@ fn signed(x: i64, n: i64) -> i64
     mirrored(x, n) - sign(n)
 }
 
-// All bits of a number below 0, else none.
-fn mask(n: i64) -> u64
-    ensures { result ≡ turned_of n 0 }
-{
-    if n < 0 { u64::MAX } else { 0 }
-}
-
-// x, or all its bits turned where n is below 0.
-fn turned(x: u64, n: i64) -> u64
-    ensures { result ≡ turned_of n x }
-{
-    x ^ mask(n)
-}
-
-// |n| + half, of every number: n and half are added with the sign of n. The bits of n are those of `mirrored(n, n)` turned. A result that
-// ends in an exclusive or keeps the compiler from testing before a division whether 32 bits would do.
+// |n| + half, of every number: half is added with the sign of n. In place of `unsigned_abs` for speed: a result that ends in an exclusive
+// or keeps the compiler from testing before a division whether 32 bits would do.
 // Ruled out: half left out; half added without the sign of n.
 pub fn raised(n: i64, half: u32) -> u64
     ensures { result ≡ unsigned_abs n + half }
 {
-    let bits = turned(mirrored(n, n) as u64, n);
-    turned(wrapping_add_u64(bits, turned(half as u64, n)), n)
+    let sum = n.wrapping_add(mirrored(i64::from(half), n));
+    mirrored(sum, n).cast_unsigned()
 }
 
 // A whole number, and what rounding to it leaves.
@@ -61,13 +46,6 @@ pub struct Rounded {
     pub remainder: i64,
 }
 
-// A divisor: 2 for one below 2.
-fn divisor(d: u32) -> u64
-    ensures { result ≡ divisor_of d }
-{
-    if d < 2 { 2 } else { d as u64 }
-}
-
 // n over d to the nearest whole number, halves away from zero, where half is d / 2: the quotient and the remainder of |n| + half, the
 // remainder less half, with the sign of n. A divisor below 2 counts as 2.
 // Ruled out: the remainder without the sign of n; a divisor of 1, by which the size of −2⁶³ fits no i64.
@@ -75,9 +53,9 @@ pub fn round_by(n: i64, d: u32, half: u32) -> Rounded
     ensures { result ≡ rounded_by n d half }
 {
     let size = raised(n, half);
-    let by = divisor(d);
+    let by = u64::from(d.max(2));
     let quotient = (size / by) as i64;
-    let left = (size % by) as i64 - half as i64;
+    let left = (size % by) as i64 - i64::from(half);
     Rounded {
         whole: signed(quotient, n),
         remainder: signed(left, n),
@@ -87,6 +65,7 @@ pub fn round_by(n: i64, d: u32, half: u32) -> Rounded
 const UNITS_PER_SAMPLE: u32 = Settings::UNITS_PER_SAMPLE as u32;
 
 // The sample of a point: over 2²⁸, rounded as a step is. Ruled out: halves toward zero; over 2²⁷.
+#[tactic(auto, using(crate::proofs::RoundLaws::rounded_is), unfolding(scheme::specs::Step::sample_of))]
 pub fn read_out(v: i64) -> i64
     ensures { result ≡ sample_of v }
 {

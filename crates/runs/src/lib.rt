@@ -7,46 +7,37 @@ ghost use Rattle.kinds.specs.Runs.{in_run, round_run, row_run};
 
 use kinds::{Run, is_round_fixed, straight_run};
 use sizes::has_size;
-use types::Grid;
+use types::{Grid, Kind};
 
 // Row b of a round membrane of c columns: from its first moving column, and as far from the right.
 fn round_run(c: usize, b: usize) -> Run
     requires { (c ≤ 64) × (b < c) }
     ensures { result ≡ round_run c b }
 {
-    let mut a = 0;
-    while a < c {
+    for a in 0..c {
         if !is_round_fixed(c, a, b) {
             return Run { from: a, to: c - a };
         }
-        a += 1;
     }
-    Run { from: 0, to: 0 }
+    Run::NONE
 }
 
-// Row b of c columns and r rows of a kind, whatever its size: that of a grid of the table, which is not tested for again.
+// A row of a grid of any kind, whatever its size: that of a grid of the table, which is not tested for again.
 // Ruled out: kind 5 taken as the round one; the rows taken for the columns.
-pub fn row_run(kind: u64, c: usize, r: usize, b: usize) -> Run
-    ensures { result ≡ row_run kind c r b }
+pub fn row_run(g: Grid, row: usize) -> Run
+    ensures { result ≡ row_run g row }
 {
-    match kind {
-        Grid::MEMBRANE_ROUND => {
-            if 64 < c {
-                return Run { from: 0, to: 0 };
-            }
-            if c <= b {
-                return Run { from: 0, to: 0 };
-            }
-            round_run(c, b)
-        }
-        _ => straight_run(kind, c, r, b),
+    match Kind::from(g.kind) {
+        Kind::MembraneRound if g.columns <= 64 && row < g.columns => round_run(g.columns, row),
+        Kind::MembraneRound => Run::NONE,
+        _ => straight_run(g, row),
     }
 }
 
 fn is_in(run: Run, a: usize) -> bool
     ensures { result ≡ in_run run a }
 {
-    if run.from <= a { a < run.to } else { false }
+    (run.from..run.to).contains(&a)
 }
 
 // Whether a point moves, by the run of its row; none does where the table does not have the grid's size.
@@ -57,11 +48,7 @@ pub fn is_moving(g: Grid, point: usize) -> bool
     if !has_size(g) {
         return false;
     }
-    let columns = g.columns;
-    let row = point / columns;
-    let a = point % columns;
-    if g.rows <= row {
-        return false;
-    }
-    is_in(row_run(g.kind, columns, g.rows, row), a)
+    let row = point / g.columns;
+    let column = point % g.columns;
+    row < g.rows && is_in(row_run(g, row), column)
 }

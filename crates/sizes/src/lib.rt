@@ -1,53 +1,44 @@
-// What goes by the kind number: sizes, and limits of stability.
+// What goes by the kind: sizes, and limits of stability.
 #![tactic(auto)]
 
-ghost use Rattle.std.specs.Prelude.{◌≡◌, ◌&&◌, ◌≤◌};
-ghost use Rattle.scheme.specs.Instruments.{kind_of, within, size_in, in_table, stable_in};
+ghost use Rattle.std.specs.Prelude.{◌≡◌};
+ghost use Rattle.scheme.specs.Instruments.{grid_size, in_table, line_size, stable_in, within};
 ghost use Rattle.sizes.specs.Sizes.{points_of};
 
-use types::{Grid, Settings};
+use types::{Grid, Kind, Settings};
 
 // Whether a ≤ n ≤ b. Ruled out: a itself outside; b itself outside.
 pub fn is_within(a: usize, b: usize, n: usize) -> bool
     ensures { result ≡ within a b n }
 {
-    if a <= n { n <= b } else { false }
+    (a..=b).contains(&n)
 }
 
-// Whether there are 3..most columns and low..high rows.
-fn is_sized(columns: usize, most: usize, rows: usize, low: usize, high: usize) -> bool
-    ensures { result ≡ (within 3 most columns && within low high rows) }
+// Whether there are 3..1024 columns and one row.
+fn is_line(g: Grid) -> bool
+    ensures { result ≡ line_size g.columns g.rows }
 {
-    if is_within(3, most, columns) {
-        is_within(low, high, rows)
-    } else {
-        false
-    }
+    is_within(3, 1024, g.columns) && g.rows == 1
 }
 
-// The same of kinds 5 to 7: a round membrane has as many rows as columns.
-fn is_grid_sized(kind: u64, columns: usize, rows: usize) -> bool
-    requires { (5 ≤ kind) × (kind ≤ 7) }
-    ensures { result ≡ size_in (kind_of kind) columns rows }
+// Whether there are 3..64 columns and 3..64 rows.
+fn is_rectangle(g: Grid) -> bool
+    ensures { result ≡ grid_size g.columns g.rows }
 {
-    match kind {
-        Grid::MEMBRANE_ROUND => is_sized(columns, 64, rows, columns, columns),
-        _ => is_sized(columns, 64, rows, 3, 64),
-    }
+    is_within(3, 64, g.columns) && is_within(3, 64, g.rows)
 }
 
 // Whether the table has these columns and rows for the kind.
 // Ruled out: two columns; 65 columns of kind 5; only square plates.
+#[tactic(auto, unfolding(scheme::specs::Instruments::size_in))]
 pub fn has_size(g: Grid) -> bool
     ensures { result ≡ in_table g }
 {
-    let kind = g.kind;
-    let columns = g.columns;
-    let rows = g.rows;
-    match kind {
-        Grid::STRING_FIXED..=Grid::BAR => is_sized(columns, 1024, rows, 1, 1),
-        Grid::MEMBRANE_RECTANGULAR..=Grid::PLATE => is_grid_sized(kind, columns, rows),
-        _ => false,
+    match Kind::from(g.kind) {
+        Kind::Unknown => false,
+        Kind::StringFixed | Kind::StringFixedFree | Kind::StringFree | Kind::Bar => is_line(g),
+        Kind::MembraneRectangular | Kind::Plate => is_rectangle(g),
+        Kind::MembraneRound => is_within(3, 64, g.columns) && g.rows == g.columns,
     }
 }
 
@@ -60,24 +51,19 @@ pub fn points_of(g: Grid) -> usize
 }
 
 // 5: whether the kind is stable with q and m. Ruled out: kind 4 stable by q + 3m; 2q = D refused for kind 5; a plate stable by 2q + 15m.
-#[tactic(auto, using(crate::proofs::KindLaws::membrane_stable))]
-pub fn is_stable(kind: u64, q: u64, m: u64) -> bool
-    ensures { result ≡ stable_in (kind_of kind) q m }
+#[tactic(auto, using(crate::proofs::KindLaws::q_past, crate::proofs::KindLaws::m_past), unfolding(scheme::specs::Instruments::stable_in))]
+pub fn is_stable(kind: Kind, q: u64, m: u64) -> bool
+    ensures { result ≡ stable_in kind q m }
 {
     // past D no kind is stable, and up to D no sum wraps
-    if Settings::D < q {
-        return false;
-    }
-    if Settings::D < m {
+    if Settings::D < q || Settings::D < m {
         return false;
     }
     match kind {
-        Grid::STRING_FIXED..=Grid::STRING_FREE => m == 0,
-        Grid::BAR => q + 4 * m <= Settings::D,
-        Grid::MEMBRANE_RECTANGULAR | Grid::MEMBRANE_ROUND => {
-            if 2 * q <= Settings::D { m == 0 } else { false }
-        }
-        Grid::PLATE => 2 * q + 16 * m <= Settings::D,
-        _ => false,
+        Kind::Unknown => false,
+        Kind::StringFixed | Kind::StringFixedFree | Kind::StringFree => m == 0,
+        Kind::Bar => q + 4 * m <= Settings::D,
+        Kind::MembraneRectangular | Kind::MembraneRound => 2 * q <= Settings::D && m == 0,
+        Kind::Plate => 2 * q + 16 * m <= Settings::D,
     }
 }

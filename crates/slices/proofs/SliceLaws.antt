@@ -1,52 +1,18 @@
--- A slice whose points are put one after the other, and what is left of it.
-use mathlib.Core.Path.{◌≡◌, refl, sym, ap, ◌∙◌, subst}
-use mathlib.Core.Bool.{Bool, cond}
-use mathlib.Core.List.{List}
-use Prim.Native.Nat.{ℕ, zero, suc, ◌+◌, ◌≤◌, ◌<◌}
-use native.Mathlib.Decide.{ℕ_discrete}
-use native.Mathlib.Omega.{arith}
+-- A slice of zeros, and what is left of a slice whose front was written over.
+use Rattle.std.proofs.Common.{◌≡◌, refl, sym, ap, ◌∙◌, Bool, cond, List, ◌++◌, ℕ, zero, suc, ◌-◌, ◌<◌, min, ltb, ℤ, pos, length, take, drop, replicate}
+use Rattle.std.proofs.Common.{arith, length-append, length-take, length-drop}
+use Rattle.std.proofs.lemmas.List.{get_or-take, get_or-drop, get_or_append_left, get_or-append_right}
 use borrow.Author.Tests.{ltb-true, ltb-false, lt-ltb}
-use lib.Dec.{ltb}
-use lib.IntN.{ℤ, pos}
-use lib.ListN.{length, set, length-set, replicate, length-replicate}
-use lib.Seq.{ext_get_or, get_or-set_same, get_or-set_other}
+use lib.ListN.{length-replicate}
 use Rattle.scheme.specs.Lists.{tabulate, point}
 use Rattle.scheme.proofs.Laws.Bools.{cases}
 use Rattle.scheme.proofs.Laws.Lists.{is_tabulate}
-use Rattle.slices.specs.Slices.{Common, copied}
-
--- the points below k have the values v, the others are as they were
-pub record Passed (v : ℕ → ℤ) (xs₀ xs : List ℤ) (k : ℕ) : Type 0 where
-  pub long : length xs ≡ length xs₀
-  pub put : (j : ℕ) → j < k → point xs j ≡ v j
-  pub kept : (j : ℕ) → k ≤ j → point xs j ≡ point xs₀ j
-
-pub passed_none : (v : ℕ → ℤ) (xs : List ℤ) → Passed v xs xs 0
-passed_none v xs = record { long = refl; put = λ j h. absurd (omega arith); kept = λ j h. refl }
-
--- one more
-pub passed-more : {v : ℕ → ℤ} {xs₀ xs : List ℤ} {k : ℕ} → Passed v xs₀ xs k → k < length xs₀ → (x : ℤ) → x ≡ v k
-    → Passed v xs₀ (set xs k x) (k + 1)
-passed-more {v} {xs₀} {xs} {k} p h x e = record {
-  long = length-set xs k x ∙ p.long;
-  put = λ j l. go j l (ℕ_discrete j k);
-  kept = λ j l. get_or-set_other xs k j x (pos 0) (λ s. omega arith) ∙ p.kept j (omega arith);
-}
-  where
-    go : (j : ℕ) → j < k + 1 → Dec (j ≡ k) → point (set xs k x) j ≡ v j
-    go j l (yes s) = subst (λ (j : ℕ). point (set xs k x) j ≡ v j) (sym s)
-        (get_or-set_same xs k x (pos 0) (omega (arith, p.long)) ∙ e)
-    go j l (no s) = get_or-set_other xs k j x (pos 0) s ∙ p.put j (omega (arith, s))
+use Rattle.slices.specs.Slices.{copied}
 
 pub zeros : (n k : ℕ) → point (replicate n (pos 0)) k ≡ pos 0
 zeros zero k = refl
 zeros (suc n) zero = refl
 zeros (suc n) (suc k) = zeros n k
-
-pub cleared : {xs₀ xs : List ℤ} {k : ℕ} → length xs₀ ≤ k → Passed (λ j. pos 0) xs₀ xs k → xs ≡ replicate (length xs₀) (pos 0)
-cleared {xs₀} {xs} {k} h p =
-    ext_get_or (pos 0) xs (replicate (length xs₀) (pos 0)) (p.long ∙ sym (length-replicate (length xs₀) (pos 0)))
-    (λ j l. p.put j (omega (arith, p.long)) ∙ sym (zeros (length xs₀) j))
 
 -- the same, point by point
 pub zeros_are : (n : ℕ) → replicate n (pos 0) ≡ tabulate n (λ k. pos 0)
@@ -54,18 +20,23 @@ zeros_are n = is_tabulate n (λ k. pos 0) (pos 0) (replicate n (pos 0)) (length-
 
 -- ---- copies
 
--- what two lengths have in common, the other way round
-pub common_swapped : {m n r : ℕ} → Common m n r → Common n m r
-common_swapped c = record { first = c.second; second = c.first; all = λ j h l. c.all j l h }
-
-pub copied_is : (xs ys₀ : List ℤ) {ys : List ℤ} {n k : ℕ} → Common (length xs) (length ys₀) n → k ≡ n → Passed (point xs) ys₀ ys k
-    → ys ≡ copied xs ys₀
+-- the points that both have, from xs, and the others of ys
+pub front_copied : (xs ys front : List ℤ) (n : ℕ) → n ≡ min (length xs) (length ys) → front ≡ take n xs
+    → front ++ drop n ys ≡ copied xs ys
 unfolding copied
-copied_is xs ys₀ {ys} {n} {k} c e p =
-    is_tabulate (length ys₀) (λ k. cond (ltb k (length xs)) (point xs k) (point ys₀ k)) (pos 0) ys p.long
-    (λ j l. cases (λ b. point ys j ≡ cond b (point xs j) (point ys₀ j)) (ltb j (length xs))
-    (λ t. p.put j (omega (arith, e, c.all j (ltb-true j (length xs) t) l)))
-    (λ f. p.kept j (omega (arith, e, c.first, ltb-false j (length xs) f))))
+front_copied xs ys front n e f =
+    is_tabulate (length ys) (λ k. cond (ltb k (length xs)) (point xs k) (point ys k)) (pos 0) (front ++ drop n ys)
+    (length-append front (drop n ys) ∙ omega (arith, long, length-drop n ys))
+    (λ j l. cases (λ b. point (front ++ drop n ys) j ≡ cond b (point xs j) (point ys j)) (ltb j (length xs))
+    (λ t. let h : j < n = omega (arith, ltb-true j (length xs) t) in
+    get_or_append_left front (drop n ys) (pos 0) j (omega (arith, long)) ∙ ap (λ (zs : List ℤ). point zs j) f
+    ∙ get_or-take n xs j (pos 0) h)
+    (λ t. let h = ltb-false j (length xs) t in
+    get_or-append_right front (drop n ys) n j (pos 0) long (omega arith) ∙ get_or-drop n ys (j - n) (pos 0)
+    ∙ ap (point ys) (omega arith)))
+  where
+    long : length front ≡ n
+    long = ap length f ∙ omega (arith, length-take n xs)
 
 -- between slices of one length, all of them
 pub copied-whole : (xs ys : List ℤ) → length xs ≡ length ys → copied xs ys ≡ xs

@@ -1,13 +1,7 @@
 -- What is left of a slice that another was copied to. Vocabulary between the engine's crates: no call that a maker
 -- embeds cites it.
-use Rattle.std.specs.Prelude.{cond, List, ℕ, ◌≤◌, ◌<◌, ltb, ℤ, length}
+use Rattle.std.specs.Prelude.{cond, List, ltb, ℤ, length}
 use Rattle.scheme.specs.Lists.{tabulate, point}
-
--- the places that two slices of m and n places both have
-pub record Common (m n r : ℕ) : Type 0 where
-  pub first : r ≤ m
-  pub second : r ≤ n
-  pub all : (j : ℕ) → j < m → j < n → j < r
 
 -- ys, with the points of xs as far as both have places
 unfoldable pub copied : (xs ys : List ℤ) → List ℤ
