@@ -20,7 +20,7 @@ use Rattle.scheme.proofs.Laws.Bools.{or_neither}
 use Rattle.scheme.proofs.Laws.Refusals.{NoneApplies, none_applies, right-length}
 use Rattle.levels.proofs.LevelLaws.{unfixed_is}
 use Rattle.instruments.specs.Refused.{not_long}
-use Rattle.checks.proofs.CheckLaws.{before, parts, second_same, long_is}
+use Rattle.instruments.proofs.RefusalLaws.{first_of, lowest-append, second_same, instrument_in, long_is}
 use Rattle.block_checks.specs.State.{state_refusal}
 
 -- a block's input by another test of the lengths, which is the same where the table has the size
@@ -28,10 +28,7 @@ input_same : (i : Instrument) (wrong wrong' : Bool) (pick : ℕ) (h : Option Hit
     → lowest (input_checks i wrong pick h) ≡ lowest (input_checks i wrong' pick h)
 input_same i wrong wrong' pick h same =
     let after : Bool → List Check = λ w. length_checks w ++ (hit_checks i.grid h ++ pick_checks i.grid pick) in
-    parts (instrument_checks i) (after wrong) ∙
-    second_same (lowest (instrument_checks i)) (λ e. ap (λ (w : Bool). lowest (after w))
-    (same (not-false _ (none_applies (instrument_checks i) e).1.0))) ∙
-    sym (parts (instrument_checks i) (after wrong'))
+    second_same (instrument_checks i) (after wrong) (after wrong') (λ n. ap (λ (w : Bool). lowest (after w)) (same (instrument_in i n)))
 
 -- what refuses a block: its input by the lengths as the code tests them, then the state of two levels of any length
 module _ (i : Instrument) (older newer : List ℤ) (wrong : Bool) (pick : ℕ) (h : Option Hit) where
@@ -52,21 +49,26 @@ module _ (i : Instrument) (older newer : List ℤ) (wrong : Bool) (pick : ℕ) (
   input_is = input_same i tested lengths pick h
       (λ size. ap₂ (λ (x y : Bool). x || y || wrong) (long_is i.grid (length older) size) (long_is i.grid (length newer) size))
 
-  state_is : lowest input ≡ Ok tt → lowest state ≡ state_refusal i.grid older newer
+  -- where the input has passed, the state is the definition's
+  state_is : NoneApplies input → lowest state ≡ state_refusal i.grid older newer
   unfolding state_refusal
-  state_is e =
-      let none : NoneApplies input = none_applies input e in
+  state_is none =
       let size : in_table i.grid ≡ true = not-false _ none.1.0 in
       let l = or_neither _ _ (or_neither _ _ none.1.1.1.1.0).0 in
       ap₂ (λ (x y : Bool). lowest (state_checks (some_beyond older || some_beyond newer) (x || y)))
       (sym (unfixed_is i.grid older size (right-length i.grid (length older) l.0)))
       (sym (unfixed_is i.grid newer size (right-length i.grid (length newer) l.1)))
 
-  pub by_parts : block_refusal i older newer wrong pick h ≡ before (lowest (input_checks i tested pick h)) (state_refusal i.grid older newer)
+  pub by_parts : block_refusal i older newer wrong pick h
+      ≡ first_of (lowest (input_checks i tested pick h)) (state_refusal i.grid older newer)
   unfolding block_refusal
   by_parts =
-      parts input state ∙ second_same (lowest input) state_is ∙
-      ap (λ (r : Result Unit Refusal). before r (state_refusal i.grid older newer)) (sym input_is)
+      lowest-append input state ∙ go (lowest input) refl ∙
+      ap (λ (r : Result Unit Refusal). first_of r (state_refusal i.grid older newer)) (sym input_is)
+    where
+      go : (r : Result Unit Refusal) → lowest input ≡ r → first_of r (lowest state) ≡ first_of r (state_refusal i.grid older newer)
+      go (Ok tt) e = state_is (none_applies input e)
+      go (Err r) e = refl
 
 -- a test that is the same where the one before it fails
 or_same : (a b : Bool) {w w' : Bool} → (a ≡ false → w ≡ w') → (a || b || w) ≡ (a || b || w')

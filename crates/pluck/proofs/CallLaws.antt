@@ -28,17 +28,17 @@ use Rattle.scheme.proofs.Laws.Refusals.{pluck_passes}
 use Rattle.kinds.specs.Runs.{in_run, is_round, straight_run, run_of}
 use Rattle.sizes.proofs.KindLaws.{line-size, by_range}
 use Rattle.kinds.proofs.RunLaws.{straight_is, moving-run, run_bounds}
-use Rattle.checks.proofs.CheckLaws.{before, parts}
+use Rattle.instruments.proofs.RefusalLaws.{first_of, lowest-append}
 use Rattle.pluck.specs.declared.shape.Shape.{Shape}
 use Rattle.pluck.specs.Shapes.{shape_at}
 
 -- ---- what refuses a pluck by a lent table: first what refuses any, then loading
 
 pub by_parts : (g : Grid) (older newer c w : ℕ) (a : ℤ) (lent : List ℕ) → pluck_with_refusal g older newer c w a lent
-    ≡ before (pluck_refusal g older newer c w a) (lowest (table_checks lent))
+    ≡ first_of (pluck_refusal g older newer c w a) (lowest (table_checks lent))
 unfolding pluck_refusal pluck_with_refusal
 by_parts g older newer c w a lent =
-    parts (pluck_checks g (wrong_length g older || wrong_length g newer) c w a) (table_checks lent)
+    lowest-append (pluck_checks g (wrong_length g older || wrong_length g newer) c w a) (table_checks lent)
 
 -- ---- a pluck that nothing refuses
 

@@ -12,8 +12,9 @@ use Rattle.scheme.proofs.Laws.Refusals.{right-length}
 use Rattle.levels.specs.Levels.{unfixed}
 use Rattle.levels.proofs.LevelLaws.{unfixed_is}
 use Rattle.instruments.specs.Refused.{not_long}
+use Rattle.instruments.proofs.RefusalLaws.{long_is}
 
 -- where 2 and 6 have passed they are the definition's
 pub unfixed_same : (g : Grid) (xs : List ℤ) → in_table g ≡ true → not_long g (length xs) ≡ false → unfixed g xs ≡ fixed_not_zero g xs
 unfixed_same g xs size l =
-    unfixed_is g xs size (right-length g (length xs) (sym (ap (λ (t : Bool). not (eqb (length xs) (cond t (points g) 0))) size) ∙ l))
+    unfixed_is g xs size (right-length g (length xs) (sym (long_is g (length xs) size) ∙ l))
