@@ -36,7 +36,7 @@ module _ (x y : Refusal) (t u : Bool) where
 -- ---- one list of checks after another
 
 -- the first of two answers that refuses
-abbrev first_of : Result Unit Refusal → Result Unit Refusal → Result Unit Refusal
+abbrev pub first_of : Result Unit Refusal → Result Unit Refusal → Result Unit Refusal
 first_of (Ok done) b = b
 first_of (Err r) b = Err r
 
