@@ -33,13 +33,21 @@ moving_in-moving-requires g c =
     let room = in_level p.0 p.1 c.loop-row.invariant last in
     (some_columns p.0 p.1, omega (arith, room, few_points p.0.given.planned))
 
+pub invariant_of-basis : goal.invariant_of-basis
+invariant_of-basis g c =
+    let p = c.requires in
+    let last : c.loop-row.row + 1 < c.args.plan.instrument.grid.rows = omega arith in
+    let e = c.moving_in-moving.ensures in
+    record {
+      ready = subst (λ (f : ℤ). Ready c.args.plan f c.loop-row.older c.args.newer.now) (ap (λ (x : Stretch). x.force) e)
+          (moving_ready p.0 p.1 c.loop-row.invariant last e);
+    }
+
 pub plate_row-requires-clause-ready : goal.plate_row-requires-clause-ready
 plate_row-requires-clause-ready g c =
     let p = c.requires in
     let last : c.loop-row.row + 1 < c.args.plan.instrument.grid.rows = omega arith in
     let e = c.moving_in-moving.ensures in (
-      subst (λ (f : ℤ). Ready c.args.plan f c.loop-row.older c.args.newer.now) (ap (λ (x : Stretch). x.force) e)
-          (moving_ready p.0 p.1 c.loop-row.invariant last e),
       moving_placed p.0 p.1 c.loop-row.invariant last e,
       p.0.given.hit_low,
     )

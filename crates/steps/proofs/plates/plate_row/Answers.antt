@@ -26,11 +26,11 @@ owed p h older newer out₀ rows {row = row} {out} {sums} {r} e moves nowhere z 
 pub returns-then-row : goal.returns-then-row
 returns-then-row c =
     let a = c.args in
-    owed a.plan a.hit a.older.now a.newer.now a.out.now a.rows (c.as_written.ensures ∙ written_so a.row c.if-row.true)
+    owed a.basis.plan a.hit a.basis.older.now a.basis.newer.now a.out.now a.rows (c.as_written.ensures ∙ written_so a.row c.if-row.true)
     c.requires.two_rows.1.moves (sym c.is_hit_in.ensures ∙ c.if-is_hit_in.false) c.requires.force_value c.plate_run.ensures
 
 pub returns : goal.returns
 returns c =
     let a = c.args in
-    owed a.plan a.hit a.older.now a.newer.now a.out.now a.rows (c.as_written-2.ensures ∙ written_so a.row c.if-row.false)
+    owed a.basis.plan a.hit a.basis.older.now a.basis.newer.now a.out.now a.rows (c.as_written-2.ensures ∙ written_so a.row c.if-row.false)
     c.requires.two_rows.1.moves (sym c.is_hit_in.ensures ∙ c.if-is_hit_in.false) c.requires.force_value c.plate_run-2.ensures
