@@ -3,6 +3,7 @@
 
 mod arithmetic;
 mod call;
+mod layout;
 mod level;
 mod neighbours;
 mod pieces;
