@@ -5,9 +5,9 @@ ghost use Rattle.scheme.specs.Refusals.{too_strong};
 ghost use Rattle.steps.specs.Plan.{Ready, SoftGrid};
 ghost use Rattle.steps.specs.Run.{Stepping, Placed, Moves};
 ghost use Rattle.steps.specs.Pass.{Passable, Passing, Passed, RowRoom};
-ghost use Rattle.steps.specs.Edges.{EdgesOf};
 
 use crate::basis::Basis;
+use crate::layout::Layout;
 use crate::pieces::put_piece;
 use crate::plates::plate_level;
 use crate::points::points_run;
@@ -67,25 +67,24 @@ fn row_pass<const WRITE: bool, const IN_PLACE: bool>(
     Some(inexact)
 }
 
-// Every moving point: edges has the moving points of each row. Off a line there is no stiffness.
+// Every moving point, row by row. Off a line there is no stiffness.
 fn level_run<const WRITE: bool, const IN_PLACE: bool>(
-    plan: Plan,
-    edges: &[u16; 128],
+    layout: &Layout,
     older: &mut [i64],
     newer: &[i64],
     out: &mut [i64],
     hit: Option<Hit>,
 ) -> Option<u64>
-    requires passable { Passable plan hit IN_PLACE older.old newer.now out.old }
-    requires edges_of { EdgesOf plan.instrument.grid edges.now × SoftGrid plan.instrument }
-    ensures { Passed plan.instrument hit WRITE IN_PLACE older.old newer.now out.old
+    requires passable { Passable layout.now.plan hit IN_PLACE older.old newer.now out.old }
+    requires soft { SoftGrid layout.now.plan.instrument }
+    ensures { Passed layout.now.plan.instrument hit WRITE IN_PLACE older.old newer.now out.old
         older.new out.new result }
 {
-    let rows = plan.instrument.grid.rows;
+    let plan = layout.plan;
     let mut inexact = 0;
-    for row in 0..rows {
-        let from = edges[row] as usize;
-        let to = edges[64 + row] as usize;
+    for row in 0..plan.instrument.grid.rows {
+        let from = layout.edges[row] as usize;
+        let to = layout.edges[64 + row] as usize;
         inexact += row_pass::<WRITE, IN_PLACE>(plan, older, newer, from, to, hit, out)?;
     }
     Some(inexact)
@@ -93,20 +92,19 @@ fn level_run<const WRITE: bool, const IN_PLACE: bool>(
 
 // The next level, worked out beside the two, tested in place or written in place. Off a line only a plate is stiff.
 pub(crate) fn next_level<const WRITE: bool, const IN_PLACE: bool>(
-    plan: Plan,
-    edges: &[u16; 128],
+    layout: &Layout,
     older: &mut [i64],
     newer: &[i64],
     out: &mut [i64],
     hit: Option<Hit>,
 ) -> Option<u64>
-    requires passable { Passable plan hit IN_PLACE older.old newer.now out.old }
-    requires edges_of { EdgesOf plan.instrument.grid edges.now }
-    ensures { Passed plan.instrument hit WRITE IN_PLACE older.old newer.now out.old
+    requires { Passable layout.now.plan hit IN_PLACE older.old newer.now out.old }
+    ensures { Passed layout.now.plan.instrument hit WRITE IN_PLACE older.old newer.now out.old
         older.new out.new result }
 {
+    let plan = layout.plan;
     if plan.m != 0 && plan.instrument.grid.rows != 1 {
         return plate_level::<WRITE, IN_PLACE>(plan, older, newer, out, hit);
     }
-    level_run::<WRITE, IN_PLACE>(plan, edges, older, newer, out, hit)
+    level_run::<WRITE, IN_PLACE>(layout, older, newer, out, hit)
 }

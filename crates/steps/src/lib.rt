@@ -2,7 +2,9 @@
 #![tactic(auto)]
 
 mod arithmetic;
+mod basis;
 mod call;
+mod layout;
 mod level;
 mod neighbours;
 mod pieces;
@@ -12,4 +14,4 @@ mod points;
 mod step;
 mod within;
 
-pub use call::{InPlace, InTurn, steps_in_place, steps_in_turn};
+pub use call::{InTurn, steps_in_place, steps_in_turn};

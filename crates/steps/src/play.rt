@@ -1,49 +1,38 @@
 // The steps of a block.
-ghost use Rattle.std.specs.Prelude.{◌≡◌, ◌<◌, length, set};
+ghost use Rattle.std.specs.Prelude.{◌≡◌, ◌<◌, length};
 ghost use Rattle.scheme.specs.Instruments.{points};
 ghost use Rattle.scheme.specs.Calls as Calls;
-ghost use Rattle.steps.specs.Edges.{EdgesOf};
 ghost use Rattle.turns.specs.Turns.{turn_after, older_of, newer_of};
 ghost use Rattle.steps.specs.Steps.{Begins, Played};
 
+use crate::layout::Layout;
 use crate::step::{sample_in_turn, step_in_turn};
 use counts::capped_sum;
-use plans::Plan;
-use turns::{hit_after, next_turn};
+use turns::{Turn, hit_after};
 use types::Hit;
-
-// A sample in its place.
-fn put_sample(samples: &mut [i16], place: usize, v: i16)
-    requires { place < length samples.old }
-    ensures { samples.new ≡ set samples.old place v }
-{
-    samples[place] = v;
-}
 
 // How many steps were done, how many points were inexact in them, and the turn that the slices are in.
 #[derive(Clone, Copy)]
 pub(crate) struct Steps {
     pub(crate) done: usize,
     pub(crate) inexact: u64,
-    pub(crate) turn: usize,
+    pub(crate) turn: Turn,
 }
 
 // A step for each place of samples, until the next would put a point beyond the ceiling. The slices begin in turn `first`.
 pub(crate) fn play(
-    plan: Plan,
-    edges: &[u16; 128],
+    layout: &Layout,
     older: &mut [i64],
     newer: &mut [i64],
     work: &mut [i64],
     samples: &mut [i16],
     pick: usize,
-    hit: Hit,
-    first: usize,
+    hit: Option<Hit>,
+    first: Turn,
 ) -> Steps
-    requires begins { Begins first plan hit older.old newer.old work.old × (pick < points plan.instrument.grid) }
-    requires edges_of { EdgesOf plan.instrument.grid edges.now }
+    requires { Begins first layout.now.plan hit older.old newer.old work.old × (pick < points layout.now.plan.instrument.grid) }
     ensures { Played
-        (Calls.play plan.instrument pick hit (older_of first older.old newer.old work.old)
+        (Calls.play layout.now.plan.instrument pick hit (older_of first older.old newer.old work.old)
         (newer_of first older.old newer.old work.old) samples.old)
         (length samples.old) result (older_of result.turn older.new newer.new work.new)
         (newer_of result.turn older.new newer.new work.new) samples.new
@@ -51,10 +40,9 @@ pub(crate) fn play(
 {
     let mut inexact = 0;
     let mut turn = first;
-    let mut j = 0;
-    while j < samples.len() {
+    for (j, place) in samples.iter_mut().enumerate() {
         let h = hit_after(hit, j);
-        let Some(n) = step_in_turn(plan, edges, older, newer, work, h, turn) else {
+        let Some(n) = step_in_turn(layout, older, newer, work, h, turn) else {
             return Steps {
                 done: j,
                 inexact,
@@ -62,13 +50,11 @@ pub(crate) fn play(
             };
         };
         inexact = capped_sum(inexact, n);
-        let v = sample_in_turn(older, newer, work, pick, turn);
-        put_sample(samples, j, v);
-        turn = next_turn(turn);
-        j += 1;
+        *place = sample_in_turn(older, newer, work, pick, turn);
+        turn = turn.next();
     }
     Steps {
-        done: j,
+        done: samples.len(),
         inexact,
         turn,
     }

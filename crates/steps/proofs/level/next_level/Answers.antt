@@ -5,5 +5,5 @@ use Rattle.steps.proofs.level.next_level.Goals as goal
 
 pub plate_level-requires : goal.plate_level-requires
 plate_level-requires g c =
-    let planned = c.requires.passable.given.planned in
-    (c.requires.passable, grid-stiff c.args.plan.instrument planned.passes c.if-plan-ne1.true (m_some planned c.if-plan-ne0.true))
+    let planned = c.requires.given.planned in
+    (c.requires, grid-stiff c.args.layout.now.plan.instrument planned.passes c.if-plan-ne1.true (m_some planned c.if-plan-ne0.true))

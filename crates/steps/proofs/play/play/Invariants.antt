@@ -1,4 +1,5 @@
-use Rattle.std.proofs.Common.{◌≡◌, ◌-◌, length}
+-- j steps are done, and the rest is a play from where they left the levels.
+use Rattle.std.proofs.Common.{◌≡◌, length}
 use Rattle.scheme.specs.Calls as Calls
 use Rattle.turns.specs.Turns.{turn_after, older_of, newer_of, out_of}
 use Rattle.steps.specs.Steps.{Room}
@@ -6,12 +7,12 @@ use Rattle.steps.proofs.PlayLaws.{Playing}
 use Rattle.steps.proofs.play.play.Given as goal
 
 abbrev pub invariant-loop-j : goal.invariant-loop-j
-invariant-loop-j l =
-    Playing l.plan.instrument l.pick l.hit
-    (Calls.play l.plan.instrument l.pick l.hit (older_of l.first l.fn.older l.fn.newer l.fn.work)
-    (newer_of l.first l.fn.older l.fn.newer l.fn.work) l.fn.samples)
-    (length l.fn.samples) (older_of l.turn l.older l.newer l.work) (newer_of l.turn l.older l.newer l.work) l.samples l.j l.inexact
-    × Room l.plan.instrument.grid (out_of l.turn l.older l.newer l.work) × (l.turn ≡ turn_after l.first l.j)
-
-abbrev pub decreases-loop-j : goal.decreases-loop-j
-decreases-loop-j l = length l.fn.samples - l.j
+invariant-loop-j l = record {
+  playing : Playing l.layout.plan.instrument l.pick l.hit
+      (Calls.play l.layout.plan.instrument l.pick l.hit (older_of l.fn.first l.initial.older l.initial.newer l.initial.work)
+      (newer_of l.fn.first l.initial.older l.initial.newer l.initial.work) l.initial.samples)
+      (length l.initial.samples) (older_of l.turn l.older l.newer l.work) (newer_of l.turn l.older l.newer l.work) l.samples l.j
+      l.inexact;
+  room : Room l.layout.plan.instrument.grid (out_of l.turn l.older l.newer l.work);
+  turn_is : l.turn ≡ turn_after l.fn.first l.j;
+}
