@@ -104,7 +104,10 @@ pub(crate) fn next_level<const WRITE: bool, const IN_PLACE: bool>(
 {
     let plan = layout.plan;
     if plan.m != 0 && plan.instrument.grid.rows != 1 {
-        return plate_level::<WRITE, IN_PLACE>(plan, older, newer, out, hit);
+        if hit.is_none() {
+            return plate_level::<WRITE, IN_PLACE, false>(plan, older, newer, out, hit);
+        }
+        return plate_level::<WRITE, IN_PLACE, true>(plan, older, newer, out, hit);
     }
     level_run::<WRITE, IN_PLACE>(layout, older, newer, out, hit)
 }

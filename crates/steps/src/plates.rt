@@ -137,8 +137,9 @@ fn struck_row(
     Some(inexact)
 }
 
-// The moving points of a row, where the hit is not among them by one of two loops, each with `write` a constant.
-fn plate_row(
+// The moving points of a row, where the hit is not among them by one of two loops, each with `write` a constant. A step without a hit
+// doesn't ask for it.
+fn plate_row<const STRUCK: bool>(
     basis: Basis,
     rows: SumRows,
     row: Stretch,
@@ -148,13 +149,14 @@ fn plate_row(
 ) -> Option<u64>
     requires ready { Placed row (length out.old) × (too_strong hit ≡ false) }
     requires force_value { row.force ≡ pos 0 }
+    requires unstruck { STRUCK ≡ false → hit ≡ None }
     requires two_rows { TwoRows basis.plan.instrument.grid basis.newer.now sums.old rows row.from
         × InRow basis.plan.instrument.grid rows row.from row.to }
     ensures { Stepping basis.entry.plan.instrument hit row.write row.base basis.entry.older.now basis.entry.newer.now
         out.old out.new row.from row.to result
         × (all_within result ≡ true → TwoRows basis.entry.plan.instrument.grid basis.entry.newer.now sums.new rows row.to) }
 {
-    if is_hit_in(hit, row.from, row.to) {
+    if STRUCK && is_hit_in(hit, row.from, row.to) {
         return struck_row(basis, rows, row, hit, sums, out);
     }
     if row.write {
@@ -180,14 +182,15 @@ fn moving_in<const WRITE: bool, const IN_PLACE: bool>(start: usize, columns: usi
 }
 
 // Every moving point of a plate. After a row the two places of the sums are exchanged.
-pub(crate) fn plate_level<const WRITE: bool, const IN_PLACE: bool>(
+pub(crate) fn plate_level<const WRITE: bool, const IN_PLACE: bool, const STRUCK: bool>(
     plan: Plan,
     older: &mut [i64],
     newer: &[i64],
     out: &mut [i64],
     hit: Option<Hit>,
 ) -> Option<u64>
-    requires { Passable plan hit IN_PLACE older.old newer.now out.old × (kind plan.instrument.grid ≡ Plate) }
+    requires passable { Passable plan hit IN_PLACE older.old newer.now out.old × (kind plan.instrument.grid ≡ Plate) }
+    requires unstruck { STRUCK ≡ false → hit ≡ None }
     ensures { Passed plan.instrument hit WRITE IN_PLACE older.old newer.now out.old
         older.new out.new result }
 {
@@ -208,7 +211,7 @@ pub(crate) fn plate_level<const WRITE: bool, const IN_PLACE: bool>(
         };
         let moving = moving_in::<WRITE, IN_PLACE>(start, columns);
         let basis = Basis { plan, older, newer };
-        let n = plate_row(basis, rows, moving, hit, &mut sums, out)?;
+        let n = plate_row::<STRUCK>(basis, rows, moving, hit, &mut sums, out)?;
         put_piece::<IN_PLACE>(out, moving, older);
         inexact += n;
         (here, other) = (other, here);
