@@ -221,13 +221,6 @@ module _ {v : ℕ → Next} {write : Bool} {base : ℕ} where
       → Ran v write base out₀ out a b' r
   ran_ends {out₀} {out} {a} {r = r} e q = subst (λ (n : ℕ). Ran v write base out₀ out a n r) e q
 
--- ---- a loop that puts values: those of the places from..at are put
-
-pub record Putting (v : ℕ → ℤ) (xs₀ : List ℤ) (from to : ℕ) (xs : List ℤ) (at : ℕ) : Type 0 where
-  pub filled : Filled v true 0 xs₀ xs from at
-  pub order : from ≤ at
-  pub upto : at ≤ to
-
 -- ---- a run that tests
 
 module _ {v : ℕ → Next} where

@@ -20,7 +20,8 @@ use stretches::{Stretch, is_hit_in};
 use types::Hit;
 
 // Where the sums of two rows stand: of column c of the row that begins at point `start` at place here + c; at other + c that of the row
-// above it until column c is done, then that of the row below it. `last` tells that the row below is the ring's.
+// above it until column c is done, then that of the row below it. `last` tells that the row below is the ring's. Both rows lie in one array
+// and are exchanged by their places, so that no sum is moved.
 #[derive(Clone, Copy)]
 pub(crate) struct SumRows {
     pub(crate) start: usize,
