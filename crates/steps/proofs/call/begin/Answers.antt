@@ -1,8 +1,6 @@
 -- What the checks let pass is what the steps ask, and the plan is the instrument's.
-use Rattle.std.proofs.Common.{◌≡◌, false, ap, ◌∙◌}
-use Rattle.types.specs.declared.Instrument.{Instrument}
+use Rattle.std.proofs.Common.{false, ◌∙◌}
 use Rattle.scheme.proofs.Laws.Refusals.{instrument_passes, block_passes}
-use Rattle.plans.specs.declared.Plan.{Plan}
 use Rattle.steps.proofs.PlanLaws.{made}
 use Rattle.steps.proofs.CallLaws.{pick_inside, first_steppable, own_steps, opened}
 use Rattle.steps.proofs.call.begin.Goals as goal
