@@ -6,6 +6,7 @@ ghost use Rattle.steps.specs.Plan.{Ready, SoftGrid};
 ghost use Rattle.steps.specs.Run.{Stepping, Placed, Moves};
 ghost use Rattle.steps.specs.Pass.{Passable, Passing, Passed, RowRoom};
 
+use crate::basis::Basis;
 use crate::layout::Layout;
 use crate::pieces::put_piece;
 use crate::plates::plate_level;
@@ -16,17 +17,10 @@ use stretches::{Stretch, piece_at};
 use types::Hit;
 
 // The moving points of a row.
-fn row_stretches(
-    plan: Plan,
-    older: &[i64],
-    newer: &[i64],
-    row: Stretch,
-    hit: Option<Hit>,
-    out: &mut [i64],
-) -> Option<u64>
-    requires ready { Ready plan (pos 0) older.now newer.now × Placed row (length out.old) }
-    requires moves { Moves plan.instrument.grid row.from row.to × (too_strong hit ≡ false) × SoftGrid plan.instrument }
-    ensures { Stepping plan.instrument hit row.write row.base older.now newer.now
+fn row_stretches(basis: Basis, row: Stretch, hit: Option<Hit>, out: &mut [i64]) -> Option<u64>
+    requires ready { Placed row (length out.old) }
+    requires moves { Moves basis.plan.instrument.grid row.from row.to × (too_strong hit ≡ false) × SoftGrid basis.plan.instrument }
+    ensures { Stepping basis.entry.plan.instrument hit row.write row.base basis.entry.older.now basis.entry.newer.now
         out.old out.new row.from row.to result }
 {
     let mut inexact = 0;
@@ -34,7 +28,7 @@ fn row_stretches(
     // by `while`: each stretch begins where the one before it ended, which no iterator of the library says
     while at < row.to {
         let s = row.stretch_at(hit, at);
-        inexact += points_run(plan, older, newer, s, out)?;
+        inexact += points_run(basis, s, out)?;
         at = s.to;
     }
     Some(inexact)
@@ -56,14 +50,16 @@ fn row_pass<const WRITE: bool, const IN_PLACE: bool>(
         older.new out.new from to result }
 {
     if !WRITE && plan.m == 0 {
-        return is_row_within(plan, older, newer, from, to, hit).then_some(0);
+        let basis = Basis { plan, older, newer };
+        return is_row_within(basis, from, to, hit).then_some(0);
     }
     let mut inexact = 0;
     let mut at = from;
     // by `while`: each piece begins where the one before it ended
     while at < to {
         let piece = piece_at(at, to, WRITE, IN_PLACE);
-        let n = row_stretches(plan, older, newer, piece, hit, out)?;
+        let basis = Basis { plan, older, newer };
+        let n = row_stretches(basis, piece, hit, out)?;
         put_piece::<IN_PLACE>(out, piece, older);
         inexact += n;
         at = piece.to;
@@ -108,7 +104,10 @@ pub(crate) fn next_level<const WRITE: bool, const IN_PLACE: bool>(
 {
     let plan = layout.plan;
     if plan.m != 0 && plan.instrument.grid.rows != 1 {
-        return plate_level::<WRITE, IN_PLACE>(plan, older, newer, out, hit);
+        if hit.is_none() {
+            return plate_level::<WRITE, IN_PLACE, false>(plan, older, newer, out, hit);
+        }
+        return plate_level::<WRITE, IN_PLACE, true>(plan, older, newer, out, hit);
     }
     level_run::<WRITE, IN_PLACE>(layout, older, newer, out, hit)
 }

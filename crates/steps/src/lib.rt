@@ -2,6 +2,7 @@
 #![tactic(auto)]
 
 mod arithmetic;
+mod basis;
 mod call;
 mod layout;
 mod level;

@@ -57,11 +57,19 @@ returns-then-plan-eq0 g c =
     tested_passing a.plan.instrument a.hit (not (eqb g.row.IN_PLACE 0)) c.is_row_within.result c.requires.moves.0.order (ap not (eq-eqb g.row.WRITE 0 c.if-not-this.true))
     c.is_row_within.ensures c.then_some.ensures
 
+pub invariant_of-basis : goal.invariant_of-basis
+invariant_of-basis g c = record { ready = c.requires.ready.0 }
+
+pub invariant_of-basis-in-loop-at : goal.invariant_of-basis-in-loop-at
+invariant_of-basis-in-loop-at g c =
+    let i = c.loop-at.invariant in
+    record { ready = (piece_of c.requires.ready c.requires.moves.0 i.0 i.1 c.loop-at-test.true c.piece_at-piece.ensures).ready }
+
 pub row_stretches-requires-clause-ready : goal.row_stretches-requires-clause-ready
 row_stretches-requires-clause-ready g c =
     let i = c.loop-at.invariant in
     let b = piece_of c.requires.ready c.requires.moves.0 i.0 i.1 c.loop-at-test.true c.piece_at-piece.ensures in
-    (b.ready, b.placed)
+    b.placed
 
 pub returns-in_err-n : goal.returns-in_err-n
 returns-in_err-n g c =
