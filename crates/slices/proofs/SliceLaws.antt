@@ -1,6 +1,6 @@
 -- A slice of zeros, and what is left of a slice whose front was written over.
-use Rattle.std.proofs.Common.{◌≡◌, refl, sym, ap, ◌∙◌, Bool, cond, List, ◌++◌, ℕ, zero, suc, ◌-◌, ◌<◌, min, ltb, ℤ, pos, length, take, drop, replicate}
-use Rattle.std.proofs.Common.{arith, length-append, length-take, length-drop}
+use Rattle.std.proofs.Common.{◌≡◌, refl, sym, ap, ◌∙◌, Bool, cond, List, ◌++◌, ℕ, zero, suc, ◌-◌, ◌<◌, min}
+use Rattle.std.proofs.Common.{ltb, ℤ, pos, length, take, drop, replicate, arith, length-append, length-take, length-drop}
 use Rattle.std.proofs.lemmas.List.{get_or-take, get_or-drop, get_or_append_left, get_or-append_right}
 use borrow.Author.Tests.{ltb-true, ltb-false, lt-ltb}
 use lib.ListN.{length-replicate}
