@@ -1,6 +1,6 @@
 -- What the library's `parse` reads of a text that no plus leads, and which fields are such texts.
-use Rattle.std.proofs.Common.{rules, arith, ◌≡◌, ◌≢◌, ℕ, ◌+◌, ◌-◌, ◌*◌, ◌^◌, ◌≤◌, ◌<◌, Bool, true, false, List, [], ◌∷◌, length, drop, get_or}
-use Rattle.std.proofs.Common.{refl, sym, ap, subst, ◌∙◌, ℤ, pos, neg_ℤ, w64}
+use Rattle.std.proofs.Common.{rules, arith, ◌≡◌, ◌≢◌, ℕ, ◌+◌, ◌-◌, ◌*◌, ◌^◌, ◌≤◌, ◌<◌, Bool, true, false, List, [], ◌∷◌, length}
+use Rattle.std.proofs.Common.{drop, get_or, refl, sym, ap, subst, ◌∙◌, ℤ, pos, neg_ℤ, w64}
 use mathlib.Core.Bool.{cond, true≢false}
 use mathlib.Core.List.{foldl}
 use lib.Dec.{eqb}
@@ -16,7 +16,8 @@ use Rattle.std.proofs.lemmas.Str.{IsUtf8-from_ascii}
 use Rattle.std.proofs.lemmas.Str.Ascii.{IsAscii-nil, IsAscii-cons}
 use Rattle.std.proofs.lemmas.Str.Parse.{IsNumeralModel, numerals_by_fold, parse_plain, parse_signed_plain, parse_signed_minus}
 use Rattle.scheme.proofs.Laws.Bools.{and_both}
-use Rattle.ring_decimals.specs.Decimals.{all, minus, is_digit, digits_value, unsigned_to, is_unsigned, is_signed, unsigned_read, signed_read}
+use Rattle.ring_decimals.specs.Decimals.{all, minus, is_digit, digits_value, unsigned_to, is_unsigned, is_signed}
+use Rattle.ring_decimals.specs.Decimals.{unsigned_read, signed_read}
 use Rattle.ring_decimals.specs.Text.{plus, NoNumber, Plain}
 use Rattle.ring_decimals.proofs.DecimalLaws.{within, parts, digit_range}
 use Rattle.ring_decimals.proofs.SignedLaws.{signed-minus, signed_plus, minus_read, plus_read}
@@ -55,7 +56,8 @@ module _ {E : Type 0} (f : List ℕ) (no_plus : get_or f 0 0 ≢ plus) where
           ∙ minus_read f led
       go false e =
           let plain = eqb-false _ _ e in
-          read f (2 ^ 63 - 1) (pos (digits_value f)) (λ l. omega arith) (λ l. omega arith) r (parse_signed_plain own w64 f r h no_plus plain)
+          read f (2 ^ 63 - 1) (pos (digits_value f)) (λ l. omega arith) (λ l. omega arith) r
+          (parse_signed_plain own w64 f r h no_plus plain)
           ∙ plus_read f plain
 
 -- ---- fields that are no number

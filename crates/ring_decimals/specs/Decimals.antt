@@ -1,5 +1,6 @@
 -- Numbers of signed 64 bits as decimal digits.
-use Rattle.std.specs.Prelude.{Bool, true, Option, Some, None, ◌&&◌, cond, ℕ, ◌+◌, ◌-◌, ◌*◌, ◌^◌, ltb, leb, eqb, ℤ, pos, neg_ℤ, length, drop, get_or}
+use Rattle.std.specs.Prelude.{Option, Some, None}
+use Rattle.std.specs.Prelude.{Bool, true, ◌&&◌, cond, ℕ, ◌+◌, ◌-◌, ◌*◌, ◌^◌, ltb, leb, eqb, ℤ, pos, neg_ℤ, length, drop, get_or}
 use mathlib.Core.List.{List, [], ◌∷◌, foldl}
 
 -- every element passes the test

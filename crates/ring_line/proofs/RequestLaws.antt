@@ -4,7 +4,7 @@ use mathlib.Core.Bool.{Bool, true, false, ◌&&◌, cond}
 use mathlib.Core.List.{List, [], ◌∷◌}
 use Prim.Native.Nat.{ℕ, ◌-◌, ◌^◌, ◌≤◌, ◌<◌}
 use native.Mathlib.Omega.{arith}
-use borrow.Author.Tests.{le-leb, lt-leb, leb-true, leb-false, eqb-true, ne_eqb}
+use borrow.Author.Tests.{lt-leb, leb-true, leb-false, eqb-true, ne_eqb}
 use lib.Dec.{ltb, leb, eqb, lit<}
 use lib.IntN.{ℤ}
 use lib.ListN.{length, take, get_or}
@@ -102,21 +102,6 @@ module _ (line values rest : List ℕ) (r : Read line 9 values rest) where
         force = value j;
       } in
       ap Some same ∙ sym (ap (λ (t : Bool). cond t (Some (numbers fs)) None) ok)
-
--- ---- the first line
-
-module _ (bytes line : List ℕ) (e : line ≡ before line_feed bytes) where
-  pub too_long : 255 < length line → None ≡ request_of bytes
-  unfolding request_of
-  too_long h =
-      let l = before line_feed bytes in
-      sym (ap (λ (t : Bool). cond t (line_request l) None) (lt-leb (length l) 255 (omega (arith, ap length e))))
-
-  pub short : length line ≤ 255 → line_request line ≡ request_of bytes
-  unfolding request_of
-  short h =
-      let l = before line_feed bytes in
-      ap line_request e ∙ sym (ap (λ (t : Bool). cond t (line_request l) None) (le-leb (length l) 255 (omega (arith, ap length e))))
 
 -- ---- the first bytes
 

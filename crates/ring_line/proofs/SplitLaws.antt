@@ -98,7 +98,8 @@ module _ {F : Type 0} (g : Mut F (Bor ℕ × Unit {0}) Bool) (s t : SplitN ℕ F
             go true w = alone w
             go false w = wrong_field line values i rest read x.now after (others w.0 w.1) h u
 
-        pub more_left : (v : ℕ) → i < length values → is_unsigned x.now ≡ true → digits_value x.now ≡ v → Left line (i + 1) (set values i v) t
+        pub more_left : (v : ℕ) → i < length values → is_unsigned x.now ≡ true → digits_value x.now ≡ v →
+            Left line (i + 1) (set values i v) t
         more_left v low u d = record { count = omega (arith, l.count, e.0); rest = go (split_done (splitn_parts t)) e.1.2 }
           where
             go : (b : Bool) → MatchBool b (rest ≡ x.now) ((y : ℕ) × (rest ≡ x.now ++ (y ∷ after))) →
@@ -111,6 +112,7 @@ pub all_left : {F : Type 0} (line values : List ℕ) (s : SplitN ℕ F) → spli
 all_left line values s c d r =
     record {
       count = omega (arith, c);
-      rest = subst (λ (b : Bool). MatchBool b (well_formed (fields line) ≡ false) (Read line 0 values (split_rest (splitn_parts s)))) (sym d)
+      rest = subst (λ (b : Bool). MatchBool b (well_formed (fields line) ≡ false) (Read line 0 values (split_rest (splitn_parts s))))
+          (sym d)
           (subst (Read line 0 values) (sym r) (read_none line values));
     }

@@ -69,6 +69,7 @@ fn first_line(bytes: &[u8]) -> &[u8]
 // The ten numbers of the first line of the bytes, or none where the line is answered by `input`. The definition `request_of` tells which,
 // and `numbers` the values; the first 256 bytes of the input are enough (`FirstBytesTell`).
 // Ruled out: a line of 256 bytes taken; 8193 steps taken.
+#[tactic(auto, unfolding(crate::specs::Requests::request_of))]
 pub fn request(bytes: &[u8]) -> Option<Numbers>
     ensures { result ≡ request_of bytes.now }
 {

@@ -1,6 +1,6 @@
 -- The whole listing: whether it is written, and the buffer afterwards.
 use mathlib.Core.Path.{◌≡◌, refl, sym, ap, ap₂, ◌∙◌}
-use mathlib.Core.Bool.{Bool, true, false, ◌&&◌, cond}
+use mathlib.Core.Bool.{Bool, true, ◌&&◌, cond}
 use mathlib.Core.List.{List, [], ◌++◌}
 use Prim.Native.Nat.{ℕ, zero, suc, ◌≤◌, ◌<◌}
 use native.Mathlib.Nat.{le_refl}
@@ -48,14 +48,10 @@ lines_first count samples h =
     ap (λ (k : ℕ). step_lines k (take count samples)) (length-take-le count samples h) ∙ lines_part count count samples (le_refl count)
 
 module _ (buffer : List ℕ) (count : ℕ) (samples : List ℤ) (refusal : ℕ) where
-  pub listed : is_listed (length buffer) (length samples) count refusal ≡ true
+  listed : is_listed (length buffer) (length samples) count refusal ≡ true
       → listing count samples refusal ≡ listed_to buffer count samples refusal
   unfolding listed_to
   listed e = sym (ap (λ (t : Bool). cond t (listing count samples refusal) []) e)
-
-  pub not_listed : is_listed (length buffer) (length samples) count refusal ≡ false → [] ≡ listed_to buffer count samples refusal
-  unfolding listed_to
-  not_listed e = sym (ap (λ (t : Bool). cond t (listing count samples refusal) []) e)
 
   -- where there is room and each number is small enough
   pub lists : room ≤ length buffer → count ≤ 8192 → count ≤ length samples → refusal < 100

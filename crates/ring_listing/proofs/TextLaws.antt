@@ -28,7 +28,8 @@ put_put {a} {b} {c} {s} {t} p q =
     record {
       ends = omega (arith, p.ends, q.ends, length-append s t);
       holds = q.holds ∙ ap (λ (l : List ℕ). l ++ t) p.holds ∙ append_assoc (take a.length a.buffer.now) s t;
-      kept = q.kept ∙ subst⁻¹ (λ (k : ℕ). drop k b.buffer.now ≡ drop k a.buffer.now) q.ends (kept_on b.length (length t) a.buffer.now b.buffer.now p.kept);
+      kept = q.kept ∙ subst⁻¹ (λ (k : ℕ). drop k b.buffer.now ≡ drop k a.buffer.now) q.ends
+          (kept_on b.length (length t) a.buffer.now b.buffer.now p.kept);
       same = q.same ∙ p.same;
       long = q.long ∙ p.long;
     }

@@ -61,6 +61,7 @@ fn put_answer(out: &mut [u8], bytes: &[u8]) -> usize
 
 // What `ring` prints for the bytes of its standard input, at the start of out, and how many bytes that is; nothing where out has no room
 // for every answer. Ruled out: the count and the refusal exchanged; the byte after the text cleared.
+#[tactic(auto, unfolding(crate::specs::Answer::written_to))]
 pub fn answer(out: &mut [u8], bytes: &[u8]) -> usize
     ensures prefix_len { IsPrefixLen result out.new }
     ensures value { result ≡ length (written_to out.old bytes.now) }

@@ -19,13 +19,17 @@ returns-in_err-next c =
 pub returns-in_err-value : goal.returns-in_err-value
 returns-in_err-value c =
     let none = wrong_read _ _ (sym c.in_err-value.ensures) in
-    let wrong = wrong_left _ c.loop-value.fields c.next.new.self _ _ _ c.loop-value.invariant c.in_ok-next.field-0 c.in_ok-next.ensures.steps (omega arith) (answers_always _ _ _ (search rules)) none in
+    let next = c.in_ok-next in
+    let wrong = wrong_left _ c.loop-value.fields c.next.new.self _ _ _ c.loop-value.invariant next.field-0 next.ensures.steps (omega arith)
+    (answers_always _ _ _ (search rules)) none in
     c.from_residual-in_err-value.ensures ∙ turned_down _ wrong
 
 pub loop-value-preserved : goal.loop-value-preserved
 loop-value-preserved c =
     let w = right_read _ _ (sym c.in_ok-value.ensures) in
-    more_left _ c.loop-value.fields c.next.new.self _ _ _ c.loop-value.invariant c.in_ok-next.field-0 c.in_ok-next.ensures.steps (omega arith) (answers_always _ _ _ (search rules)) _ (omega arith) w.0 w.1
+    let next = c.in_ok-next in
+    more_left _ c.loop-value.fields c.next.new.self _ _ _ c.loop-value.invariant next.field-0 next.ensures.steps (omega arith)
+    (answers_always _ _ _ (search rules)) _ (omega arith) w.0 w.1
 
 pub returns-in_err-next-2 : goal.returns-in_err-next-2
 returns-in_err-next-2 c =
@@ -34,16 +38,19 @@ returns-in_err-next-2 c =
 
 pub returns-in_err-force : goal.returns-in_err-force
 returns-in_err-force c =
-    let r = last_left _ c.loop-value.fields c.next-2.new.self _ _ _ c.loop-value.invariant c.in_ok-next-2.field-0 c.in_ok-next-2.ensures.steps (omega arith) in
+    let next = c.in_ok-next-2 in
+    let r = last_left _ c.loop-value.fields c.next-2.new.self _ _ _ c.loop-value.invariant next.field-0 next.ensures.steps (omega arith) in
     c.from_residual-in_err-force.ensures ∙ force_turned_down _ _ _ r (sym c.in_err-force.ensures)
 
 pub returns-then-values-gt8192 : goal.returns-then-values-gt8192
 returns-then-values-gt8192 c =
-    let r = last_left _ c.loop-value.fields c.next-2.new.self _ _ _ c.loop-value.invariant c.in_ok-next-2.field-0 c.in_ok-next-2.ensures.steps (omega arith) in
+    let next = c.in_ok-next-2 in
+    let r = last_left _ c.loop-value.fields c.next-2.new.self _ _ _ c.loop-value.invariant next.field-0 next.ensures.steps (omega arith) in
     steps_turned_down _ _ _ r (omega arith)
 
 pub returns : goal.returns
 returns c =
-    let r = last_left _ c.loop-value.fields c.next-2.new.self _ _ _ c.loop-value.invariant c.in_ok-next-2.field-0 c.in_ok-next-2.ensures.steps (omega arith) in
+    let next = c.in_ok-next-2 in
+    let r = last_left _ c.loop-value.fields c.next-2.new.self _ _ _ c.loop-value.invariant next.field-0 next.ensures.steps (omega arith) in
     let whole : to_z w64 (of_z w64 c.in_ok-force.force) ≡ c.in_ok-force.force = search rules in
     ap Some (c.numbers_of.ensures ∙ ap (ten c.loop-value.value-items) whole) ∙ taken _ _ _ r _ (sym c.in_ok-force.ensures) (omega arith)

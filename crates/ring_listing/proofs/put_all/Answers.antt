@@ -17,7 +17,8 @@ put_done-requires c =
     let w = within (length c.args.out.now) (length c.args.samples.now) c.args.count c.args.refusal c.requires in
     let size = length-take-le c.args.count c.args.samples.now w.there in
     let last = done-length c.args.count c.args.refusal (omega (arith, w.few)) w.two_digits in
-    let long : length c.put_steps.new.self.buffer.now ≡ length c.args.out.now = c.put_steps.ensures.put.long ∙ ap length c.new-text.ensures.value in
+    let long : length c.put_steps.new.self.buffer.now ≡ length c.args.out.now =
+    c.put_steps.ensures.put.long ∙ ap length c.new-text.ensures.value in
     (w.two_digits, omega (arith, c.put_steps.ensures.upper_bound, w.few, w.has_room, size, last, long, c.new-text.ensures.length))
 
 pub returns-clause-value : goal.returns-clause-value

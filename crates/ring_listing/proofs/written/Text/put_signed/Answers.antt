@@ -22,4 +22,5 @@ pub returns : goal.returns
 returns c =
     let back = to_z-of_z w16 c.args.value c.ranges.value in
     let size = c.from.ensures ∙ c.unsigned_abs.ensures.value ∙ ap nat_abs back in
-    put_same (signed_parts c.args.value) (put_put (put_same (ap sign back) c.put_sign.ensures) (put_same (ap decimal size) c.put_decimal.ensures))
+    put_same (signed_parts c.args.value)
+    (put_put (put_same (ap sign back) c.put_sign.ensures) (put_same (ap decimal size) c.put_decimal.ensures))
