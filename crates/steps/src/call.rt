@@ -23,7 +23,8 @@ pub struct InTurn {
     pub turn: Turn,
 }
 
-// The steps of a block that 1 to 12 let pass: of three levels from their first turn, of two from theirs.
+// The steps of a block that 1 to 12 let pass: of three levels from their first turn, of two from theirs. Samples, pick and hit stay
+// parameters of their own, since each clause names each of them by itself.
 fn begin(
     i: Instrument,
     older: &mut [i64],

@@ -53,7 +53,7 @@ fn step_in_place(
     next_level::<true, true>(layout, older, newer, room, hit)
 }
 
-// A step in the turn that the slices are in.
+// A step in the turn that the slices are in. They stay three parameters: a struct of them, lent on through `&mut self`, has no rule yet.
 pub(crate) fn step_in_turn(
     layout: &Layout,
     older: &mut [i64],
