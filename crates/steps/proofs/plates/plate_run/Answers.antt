@@ -1,7 +1,9 @@
 -- No more points are inexact than there are.
-use Rattle.std.proofs.Common.{arith, refl}
+use mathlib.Core.Path.{subst}
+use Rattle.steps.specs.Plates.{TwoRows}
+use Rattle.std.proofs.Common.{rules, arith, refl}
 use Rattle.scheme.proofs.Laws.Step.{moving_inside}
-use Rattle.steps.proofs.FillLaws.{running_most}
+use Rattle.steps.proofs.FillLaws.{running_on, running_most, running_done}
 use Rattle.steps.proofs.PlanLaws.{few_points}
 use Rattle.steps.proofs.plates.plate_run.Goals as goal
 
@@ -12,3 +14,16 @@ overflow_add-inexact c =
     (c.requires.two_rows.1.moves.each c.loop-at.at inv.order c.loop-at-test.true) in
     let most = running_most inv (omega arith) c.in_ok-inexact.ensures.0 refl in
     record { fits = omega (arith, most, inside, few_points c.args.basis.ready.planned) }
+
+pub loop-at-preserved : goal.loop-at-preserved
+loop-at-preserved c =
+    let q = c.in_ok-inexact.ensures in
+    (running_on c.loop-at.invariant.0 (omega arith) q.0 refl (omega arith), q.1, search rules)
+
+pub returns : goal.returns
+returns c =
+    let inv = c.loop-at.invariant in (
+      running_done inv.0 c.loop-at-test.false,
+      λ e. subst (TwoRows c.args.basis.plan.instrument.grid c.args.basis.newer.now c.loop-at.sums c.args.rows)
+          (omega (arith, inv.0.upto, c.loop-at-test.false)) inv.1,
+    )
