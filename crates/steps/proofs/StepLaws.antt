@@ -12,7 +12,6 @@ use Rattle.types.specs.declared.Instrument.{Instrument}
 use Rattle.types.specs.declared.Hit.{Hit}
 use Rattle.scheme.specs.Instruments.{points}
 use Rattle.stretches.specs.Pieces.{piece}
-use Rattle.turns.proofs.TurnLaws.{AtTurn}
 use Rattle.plans.specs.declared.Plan.{Plan}
 use Rattle.turns.specs.declared.Turn.{Turn}
 use Rattle.turns.specs.Turns.{of_two, older_of, newer_of, out_of}
