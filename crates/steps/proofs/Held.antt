@@ -1,5 +1,5 @@
 -- A small number that the machine stored is read back.
-use mathlib.Core.Path.{◌≡◌, sym, subst}
+use mathlib.Core.Path.{◌≡◌}
 use Prim.Native.Nat.{ℕ, ◌^◌, ◌≤◌}
 use lib.Dec.{T, ltb}
 use lib.IntN.{ℤ, nat_abs}

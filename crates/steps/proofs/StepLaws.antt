@@ -1,22 +1,17 @@
 -- A step of small levels: a pass beside them, then a copy.
 use Rattle.std.proofs.Common.{Option}
-use mathlib.Core.Path.{◌≡◌, refl, sym, ap, ◌∙◌, subst}
-use mathlib.Core.Bool.{Bool, true, false, true≢false}
+use mathlib.Core.Path.{◌≡◌, sym, ap, ◌∙◌, subst}
+use mathlib.Core.Bool.{true, false, true≢false}
 use mathlib.Core.List.{List}
-use mathlib.Core.Logic.{⊎_elim}
-use Prim.Native.Nat.{ℕ, ◌≤◌}
+use Prim.Native.Nat.{ℕ}
 use native.Mathlib.Omega.{arith}
 use lib.IntN.{ℤ}
 use lib.ListN.{length}
 use Rattle.types.specs.declared.Instrument.{Instrument}
 use Rattle.types.specs.declared.Hit.{Hit}
-use Rattle.scheme.specs.Instruments.{points}
-use Rattle.stretches.specs.Pieces.{piece}
 use Rattle.plans.specs.declared.Plan.{Plan}
-use Rattle.turns.specs.declared.Turn.{Turn}
-use Rattle.turns.specs.Turns.{of_two, older_of, newer_of, out_of}
 use Rattle.steps.specs.Run.{all_within}
-use Rattle.steps.specs.Steps.{Steppable, Stepped, SteppedInPlace, SteppedIn}
+use Rattle.steps.specs.Steps.{Steppable, Stepped, SteppedInPlace}
 use Rattle.steps.specs.Pass.{Passable, Passed}
 
 pub small_given : {p : Plan} {h : Option Hit} {older newer room : List ℤ} → Steppable p h older newer older → room ≡ older

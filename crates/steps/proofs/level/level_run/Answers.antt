@@ -1,11 +1,10 @@
 -- The rows passed have their next values.
 use mathlib.Core.Bool.{not}
 use lib.Dec.{eqb}
-use Rattle.std.proofs.Common.{Option, arith, refl, ◌≡◌, sym, ◌+◌, ◌*◌, ◌≤◌, ◌<◌, ℕ, Bool, List, ℤ, get_or, Some, None}
+use Rattle.std.proofs.Common.{Option, arith, refl, sym, ◌+◌, ◌*◌, ◌≤◌, ◌<◌, ℕ, Bool, List, ℤ, get_or, Some, None}
 use mathlib.Core.Path.{subst₂}
 use Rattle.types.specs.declared.Hit.{Hit}
 use Rattle.scheme.specs.Instruments.{points}
-use Rattle.kinds.specs.declared.runs.Run.{Run}
 use Rattle.kinds.specs.Runs.{run_of}
 use Rattle.levels.proofs.LevelLaws.{next_row}
 use Rattle.plans.specs.declared.Plan.{Plan}

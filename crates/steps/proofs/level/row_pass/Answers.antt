@@ -2,7 +2,7 @@
 use mathlib.Core.Bool.{not}
 use borrow.Author.Tests.{eq-eqb}
 use lib.Dec.{eqb}
-use Rattle.std.proofs.Common.{Option, arith, refl, ◌≡◌, sym, ap, ◌∙◌, ◌+◌, ◌≤◌, ◌<◌, ℕ, Bool, List, ℤ, pos, length, Some}
+use Rattle.std.proofs.Common.{Option, arith, refl, ◌≡◌, sym, ap, ◌∙◌, ◌≤◌, ◌<◌, ℕ, Bool, List, ℤ, pos, length, Some}
 use mathlib.Core.Path.{subst}
 use Rattle.types.specs.declared.Hit.{Hit}
 use Rattle.scheme.specs.Instruments.{points}
@@ -13,7 +13,7 @@ use Rattle.stretches.specs.Pieces.{base_of, piece_at}
 use Rattle.steps.specs.Plan.{Ready}
 use Rattle.steps.specs.Run.{Placed, Moves}
 use Rattle.steps.specs.Pass.{Passing, RowRoom}
-use Rattle.steps.proofs.PlanLaws.{few_points, m_none}
+use Rattle.steps.proofs.PlanLaws.{few_points}
 use Rattle.steps.proofs.HitLaws.{some_move, run_inside}
 use Rattle.steps.proofs.PassLaws.{piece_placed, passing_append, passing_stops, passing_most}
 use Rattle.steps.proofs.PassLaws.{passing_ready, stretch_passing, stretch_stops, tested_passing}

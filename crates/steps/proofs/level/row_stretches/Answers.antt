@@ -1,13 +1,11 @@
 -- Stretch by stretch, one force on the points of each.
-use Rattle.std.proofs.Common.{arith, refl, ◌≡◌, ℕ, ◌<◌, List, ℤ, Option, Some}
+use Rattle.std.proofs.Common.{arith, refl, ℕ, List, ℤ, Option}
 use mathlib.Core.Path.{subst}
 use Rattle.types.specs.declared.Hit.{Hit}
 use Rattle.plans.specs.declared.Plan.{Plan}
 use Rattle.stretches.specs.declared.Stretch.{Stretch}
-use Rattle.stretches.specs.Stretches.{stretch_at}
-use Rattle.steps.specs.Run.{next_of, Advanced, Moves}
+use Rattle.steps.specs.Run.{Advanced}
 use Rattle.steps.proofs.PlanLaws.{few_points}
-use Rattle.steps.proofs.FillLaws.{Running}
 use Rattle.steps.proofs.HitLaws.{Struck, struck_here, struck-ends, struck_ready, struck_placed, struck_moves, struck_some, struck_on}
 use Rattle.steps.proofs.HitLaws.{struck_most, struck_stops, struck-from, run_inside}
 use Rattle.steps.proofs.level.row_stretches.Goals as goal

@@ -1,11 +1,10 @@
 -- The rows passed have their next values, the sums of two rows stand.
-use Rattle.std.proofs.Common.{rules, arith, refl, ◌≡◌, ap, ◌+◌, ◌<◌, ℕ, List, ℤ, pos}
+use Rattle.std.proofs.Common.{rules, arith, refl, ap, ◌+◌, ◌<◌, ℤ}
 use mathlib.Core.Path.{subst}
-use Rattle.scheme.specs.Lists.{point}
 use Rattle.slices.proofs.SliceLaws.{zeros}
 use Rattle.steps.specs.Plan.{Ready}
 use Rattle.stretches.specs.declared.Stretch.{Stretch}
-use Rattle.steps.proofs.PlanLaws.{few_rows, few_points}
+use Rattle.steps.proofs.PlanLaws.{few_points}
 use Rattle.steps.proofs.RowLaws.{steppable_ready}
 use Rattle.steps.proofs.PlateRowLaws.{some_columns, some_rows, few_columns, three_rows, plate_start, in_level}
 use Rattle.steps.proofs.PlateRowLaws.{moving_ready, moving_placed, moving_inside, moving-row, moving_sums, plate_stops}

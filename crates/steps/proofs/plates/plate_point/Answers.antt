@@ -1,23 +1,20 @@
 -- The point has the sum of its neighbours, and the stiffness by that of their sums.
-use Rattle.std.proofs.Common.{arith, ◌≡◌, sym, ap, ◌∙◌, ◌+◌, ◌-◌, ◌*◌, ◌≤◌, ◌<◌, ℕ, ℤ, pos, ◌*ℤ◌, List, false, not, to_z, of_z, w64}
+use Rattle.std.proofs.Common.{arith, sym, ap, ◌∙◌, ◌+◌, ◌-◌, ◌*◌, ℤ, pos, ◌*ℤ◌, not}
 use mathlib.Core.Path.{subst}
 use lib.ListN.{set}
 use Rattle.bounded.proofs.Num.{back}
 use Rattle.types.specs.Numbers.{ceiling}
 use Rattle.scheme.specs.Lists.{point}
 use Rattle.scheme.proofs.Laws.Step.{moving_inside}
-use Rattle.plans.specs.declared.Plan.{Plan}
 use Rattle.plans.specs.Plans.{count_of}
-use Rattle.stretches.specs.declared.Stretch.{Stretch}
-use Rattle.steps.specs.declared.plates.SumRows.{SumRows}
-use Rattle.steps.specs.Plan.{bending_of, Bendable, Ready, Summed, Neighbouring}
-use Rattle.steps.specs.Plates.{TwoRows, InRow, Readable, second_at}
+use Rattle.steps.specs.Plan.{bending_of, Bendable, Neighbouring}
+use Rattle.steps.specs.Plates.{TwoRows, Readable, second_at}
 use Rattle.steps.proofs.Held.{held, held_below}
 use Rattle.steps.proofs.KindLaws.{wide}
 use Rattle.steps.proofs.BesideLaws.{around_below}
 use Rattle.steps.proofs.PlanLaws.{few_points}
 use Rattle.steps.proofs.PointLaws.{bendable, bent}
-use Rattle.steps.proofs.PlateLaws.{below, readable, plate_beside, two-next}
+use Rattle.steps.proofs.PlateLaws.{readable, plate_beside, two-next}
 use Rattle.steps.proofs.plates.plate_point.Goals as goal
 
 pub sum_below-below-requires : goal.sum_below-below-requires

@@ -1,5 +1,5 @@
 -- Without the hit both loops run over the row itself.
-use Rattle.std.proofs.Common.{ap, not, ◌≡◌, sym, ◌∙◌, ◌+◌, ℕ, false, true, List, ℤ, pos, Option}
+use Rattle.std.proofs.Common.{ap, not, ◌≡◌, sym, ◌∙◌, ℕ, false, true, List, ℤ, pos, Option}
 use mathlib.Core.Path.{subst}
 use Rattle.types.specs.declared.Hit.{Hit}
 use Rattle.plans.specs.declared.Plan.{Plan}

@@ -1,13 +1,7 @@
 -- Point by point, each with the hit's force on it.
-use Rattle.std.proofs.Common.{rules, arith, refl, ◌≡◌, ℕ, ◌<◌, List, ℤ}
-use Rattle.types.specs.declared.Hit.{Hit}
-use Rattle.plans.specs.declared.Plan.{Plan}
-use Rattle.stretches.specs.declared.Stretch.{Stretch}
-use Rattle.stretches.specs.Stretches.{stretch_at}
-use Rattle.steps.specs.Run.{next_of, Moves}
+use Rattle.std.proofs.Common.{rules, arith, refl}
 use Rattle.steps.proofs.PlanLaws.{few_points}
-use Rattle.steps.proofs.FillLaws.{Running}
-use Rattle.steps.proofs.HitLaws.{Struck, struck_here, struck-ends, struck_ready, struck_placed, struck-from, struck_moves, struck_some, struck_on}
+use Rattle.steps.proofs.HitLaws.{struck_here, struck-ends, struck_ready, struck_placed, struck-from, struck_moves, struck_some, struck_on}
 use Rattle.steps.proofs.HitLaws.{struck_most, struck_stops, run_inside}
 use Rattle.steps.proofs.PlateLaws.{some_row}
 use Rattle.steps.proofs.plates.struck_row.Goals as goal

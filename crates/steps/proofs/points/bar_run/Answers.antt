@@ -1,5 +1,5 @@
 -- Each point has the sum of its neighbours, and the stiffness by those on either side.
-use Rattle.std.proofs.Common.{arith, refl, ◌≡◌, ap, ◌∙◌, ◌+◌, ◌-◌, pos, ◌*ℤ◌, to_z, of_z, w64}
+use Rattle.std.proofs.Common.{arith, refl, ◌≡◌, ap, ◌∙◌, ◌+◌, ◌-◌, pos, ◌*ℤ◌}
 use Rattle.bounded.proofs.Num.{back}
 use Rattle.bounded.proofs.Expr.{E, ◌⊞◌, fits, is}
 use Rattle.scheme.proofs.Laws.Step.{moving_inside}

@@ -1,5 +1,4 @@
-use Rattle.std.proofs.Common.{◌≡◌, ◌-◌, to_z}
-use mir.Syntax.{w64}
+use Rattle.std.proofs.Common.{◌≡◌, ◌-◌}
 use Rattle.steps.specs.Run.{next_by, bar_sum}
 use Rattle.steps.proofs.FillLaws.{Running}
 use Rattle.steps.proofs.points.bar_run.Given as goal

@@ -1,5 +1,5 @@
 -- The first point, the inner points, the last point.
-use Rattle.std.proofs.Common.{arith, ◌≡◌, refl, sym, ◌∙◌, ℕ, ◌+◌, ◌-◌, ◌≤◌, ◌<◌, zero-le, ℤ, nat_abs, List, length, Option, Some}
+use Rattle.std.proofs.Common.{arith, ◌≡◌, refl, sym, ◌∙◌, ℕ, ◌-◌, ◌≤◌, zero-le, ℤ, nat_abs, List, length, Option}
 use mathlib.Core.Path.{subst}
 use Rattle.plans.specs.declared.Plan.{Plan}
 use Rattle.stretches.specs.declared.Stretch.{Stretch}

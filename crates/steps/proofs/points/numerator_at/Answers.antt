@@ -1,8 +1,7 @@
 -- The numerator is the scheme's.
-use Rattle.std.proofs.Common.{arith, ◌≡◌, ap, ◌∙◌, ◌*◌, ◌<◌, ℤ, pos, ◌-ℤ◌, ◌*ℤ◌, length, to_z, of_z, w64}
+use Rattle.std.proofs.Common.{arith, ◌≡◌, ap, ◌∙◌, ◌*◌, ℤ, pos, ◌-ℤ◌, ◌*ℤ◌, to_z, of_z, w64}
 use Rattle.bounded.proofs.Num.{back}
 use Rattle.types.specs.Numbers.{D, ceiling}
-use Rattle.scheme.specs.Lists.{point}
 use Rattle.scheme.specs.Step.{divisor}
 use Rattle.scheme.proofs.Laws.Step.{moving_inside}
 use Rattle.steps.proofs.PlanLaws.{few_points}

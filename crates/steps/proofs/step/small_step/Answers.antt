@@ -1,5 +1,5 @@
 -- The next level is copied where no value of it lies beyond the ceiling.
-use Rattle.std.proofs.Common.{arith, refl, sym, ◌∙◌}
+use Rattle.std.proofs.Common.{refl, sym, ◌∙◌}
 use Rattle.slices.proofs.SliceLaws.{copied-whole}
 use Rattle.steps.proofs.StepLaws.{small_given, small_copied}
 use Rattle.steps.proofs.step.small_step.Goals as goal

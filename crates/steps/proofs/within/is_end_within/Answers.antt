@@ -1,6 +1,6 @@
 -- The one neighbour counts twice.
-use Rattle.std.proofs.Common.{arith, ◌≡◌, ◌<◌, ℤ, pos}
-use Rattle.bounded.proofs.Expr.{E, ◌⊞◌, fits, said}
+use Rattle.std.proofs.Common.{arith, ◌<◌, ℤ, pos}
+use Rattle.bounded.proofs.Expr.{E, ◌⊞◌, said}
 use Rattle.steps.specs.Plan.{Neighbouring}
 use Rattle.steps.proofs.BesideLaws.{at#, end-beside}
 use Rattle.steps.proofs.FillLaws.{tested_point}

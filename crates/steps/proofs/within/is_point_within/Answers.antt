@@ -1,10 +1,10 @@
 -- By the numerator with the hit's force.
-use Rattle.std.proofs.Common.{◌≡◌, sym, ap, ◌∙◌, ◌≤◌, not, ℤ, nat_abs, to_z, of_z, w64}
+use Rattle.std.proofs.Common.{sym, ap, ◌∙◌, ◌≤◌, not, ℤ, nat_abs}
 use mathlib.Core.Path.{subst}
 use Rattle.bounded.proofs.Num.{back}
 use Rattle.types.specs.Numbers.{ceiling}
 use Rattle.scheme.specs.Instruments.{beyond}
-use Rattle.scheme.specs.Step.{round_away, force_of, divisor}
+use Rattle.scheme.specs.Step.{round_away, divisor}
 use Rattle.steps.specs.Run.{Next}
 use Rattle.steps.proofs.HitLaws.{force_low, next-value}
 use Rattle.steps.proofs.PointLaws.{beside-held}

@@ -1,7 +1,6 @@
 -- The first point, the inner points, the last point.
-use Rattle.std.proofs.Common.{rules, arith, ◌≡◌, refl, sym, ap, false, ℕ, ◌-◌, ◌≤◌, ◌<◌, ℤ, pos, List, length}
+use Rattle.std.proofs.Common.{rules, arith, ◌≡◌, sym, false, ℕ, ◌-◌, ◌≤◌, ◌<◌, ℤ, pos, List, length}
 use mathlib.Core.Path.{subst}
-use Rattle.types.specs.declared.Grid.{Grid}
 use Rattle.plans.specs.declared.Plan.{Plan}
 use Rattle.stretches.specs.declared.Stretch.{Stretch}
 use Rattle.stretches.specs.Stretches.{clamp}
