@@ -17,7 +17,7 @@ use Rattle.scheme.specs.Refusals.{wrong_length, block_refusal}
 use Rattle.scheme.specs.Passing.{BlockPasses}
 use Rattle.scheme.specs.Calls.{AfterBlock, AfterInPlace, accepted, play, reported, without_work, block_refused, block, block_in_place}
 use Rattle.std.specs.Prelude.{Result, Ok, Err, Option}
-use Rattle.scheme.proofs.Laws.Refusals.{right-length, block_passes}
+use Rattle.scheme.proofs.Laws.Refusals.{right-length, instrument_passes, block_passes}
 use Rattle.slices.proofs.SliceLaws.{zeros}
 use Rattle.scheme.proofs.Laws.Calls.{stands_behind, block_refused_lem, block-done, in_place_refused, in_place_done}
 use Rattle.plans.specs.declared.Plan.{Plan}
@@ -29,6 +29,8 @@ use Rattle.turns.specs.declared.Turn.TheVariants.{First, There}
 use Rattle.turns.specs.Turns.{of_two, turn_after, turn_of_three, turn_of_two, older_of, newer_of}
 use Rattle.steps.specs.Steps.{Room, Steppable, Begins, Played}
 use Rattle.steps.specs.Left.{Opens, three, two, in_turn, LeftFrom, refused, carried, LeftInTurn, LeftInPlace}
+use Rattle.plans.specs.Plans.{plan_of}
+use Rattle.steps.proofs.PlanLaws.{made}
 use Rattle.steps.proofs.PlayLaws.{room_of}
 use Rattle.turns.proofs.TurnLaws.{two_older, two_newer, two_after, turn_three, turn_two}
 
@@ -42,6 +44,11 @@ pub work_right : (i : Instrument) (older newer work : List ℤ) (pick : ℕ) (h 
     → block_refusal i older newer (wrong_length i.grid (length work)) pick h ≡ Ok tt → length work ≡ points i.grid
 work_right i older newer work pick h e =
     right-length i.grid (length work) (block_passes i older newer (wrong_length i.grid (length work)) pick h e).rest_right
+
+-- the plan of an instrument that nothing refuses
+pub plan_made : (i : Instrument) (older newer : List ℤ) (pick : ℕ) (h : Option Hit) → block_refusal i older newer false pick h ≡ Ok tt
+    → (p : Plan) → p ≡ plan_of i → (p.instrument ≡ i) × Planned p
+plan_made i older newer pick h e = made i (instrument_passes i (block_passes i older newer false pick h e).instrument)
 
 module _ (i : Instrument) (older newer : List ℤ) (pick : ℕ) (h : Option Hit) (e : block_refusal i older newer false pick h ≡ Ok tt)
     (p : Plan) (own : p.instrument ≡ i) where

@@ -1,4 +1,4 @@
--- Which slice has which level, and the turn after some steps.
+-- Which slice has which level after a step, and the turn after some steps.
 use mathlib.Core.Path.{◌≡◌, refl, ap, ◌∙◌}
 use mathlib.Core.Bool.{true, false}
 use mathlib.Core.List.{List}
@@ -8,22 +8,6 @@ use lib.IntN.{ℤ}
 use Rattle.turns.specs.declared.Turn.{Turn}
 use Rattle.turns.specs.declared.Turn.TheVariants.{First, Second, Last, There, Exchanged}
 use Rattle.turns.specs.Turns.{of_two, next_turn, turn_after, turn_of_three, turn_of_two, older_of, newer_of, out_of}
-
--- ---- which slice holds which level
-
-module _ (t : Turn) (a b c : List ℤ) where
-  pub record AtTurn (older newer out : List ℤ) : Type 0 where
-    pub older_is : older_of t a b c ≡ older
-    pub newer_is : newer_of t a b c ≡ newer
-    pub out_is : out_of t a b c ≡ out
-
-  -- a turn that is known
-  pub turn_at : (u : Turn) → t ≡ u → AtTurn (older_of u a b c) (newer_of u a b c) (out_of u a b c)
-  turn_at u e = record {
-    older_is = ap (λ (t : Turn). older_of t a b c) e;
-    newer_is = ap (λ (t : Turn). newer_of t a b c) e;
-    out_is = ap (λ (t : Turn). out_of t a b c) e;
-  }
 
 -- ---- after a step the newer level is older, and the next level newer
 
