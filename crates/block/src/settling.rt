@@ -1,24 +1,25 @@
 // The levels back in their places after the steps of a block.
-ghost use Rattle.std.specs.Prelude.{◌≡◌, ◌<◌, length};
-ghost use Rattle.turns.specs.Turns.{older_of, newer_of};
+ghost use Rattle.std.specs.Prelude.{◌≡◌, false, length};
+ghost use Rattle.turns.specs.Turns.{of_two, older_of, newer_of};
 
-use slices::copy;
+use turns::Turn;
 
 // The two levels back in their places.
-pub(crate) fn settle(older: &mut [i64], newer: &mut [i64], work: &[i64], turn: usize)
-    requires { (length newer.old ≡ length older.old) × (length work.now ≡ length older.old) × (turn < 3) }
+pub(crate) fn settle(older: &mut [i64], newer: &mut [i64], work: &[i64], turn: Turn)
+    requires { (length newer.old ≡ length older.old) × (of_two turn ≡ false → length work.now ≡ length older.old) }
     ensures { (older.new ≡ older_of turn older.old newer.old work.now)
         × (newer.new ≡ newer_of turn older.old newer.old work.now) }
 {
     match turn {
-        0 => {}
-        1 => {
-            copy(newer, older);
-            copy(work, newer);
+        Turn::First | Turn::There => {}
+        Turn::Second => {
+            older.copy_from_slice(newer);
+            newer.copy_from_slice(work);
         }
-        _ => {
-            copy(older, newer);
-            copy(work, older);
+        Turn::Last => {
+            newer.copy_from_slice(older);
+            older.copy_from_slice(work);
         }
+        Turn::Exchanged => older.swap_with_slice(newer),
     }
 }

@@ -52,6 +52,8 @@ refused_by cs ds e f = sym (lowest-append cs ds ∙ ap (λ a. first_of a (lowest
 pub goes_on : (cs ds : List Check) {q r : Result Unit Refusal} → q ≡ lowest cs → q ≡ Ok tt → r ≡ lowest ds → r ≡ lowest (cs ++ ds)
 goes_on cs ds e f g = g ∙ sym (lowest-append cs ds ∙ ap (λ a. first_of a (lowest ds)) (sym e ∙ f))
 
+pub ruleset in_turn = (refused_by, goes_on)
+
 -- the second list where the first has passed
 pub second_same : (cs ds es : List Check) → (NoneApplies cs → lowest ds ≡ lowest es) → lowest (cs ++ ds) ≡ lowest (cs ++ es)
 second_same cs ds es same = lowest-append cs ds ∙ go (lowest cs) refl ∙ sym (lowest-append cs es)

@@ -42,7 +42,7 @@ fn settings_refusal(i: Instrument) -> Outcome
 }
 
 // 1, 2, 4 and 5. Ruled out: the last kind refused 1; q 65536 refused 4; 13 taken for nothing; nothing taken for a refusal.
-#[tactic(auto, using(crate::proofs::RefusalLaws::refused_by, crate::proofs::RefusalLaws::goes_on), unfolding(scheme::specs::Refusals::instrument_refusal))]
+#[tactic(auto, using(crate::proofs::RefusalLaws::in_turn), unfolding(scheme::specs::Refusals::instrument_refusal))]
 pub fn instrument_refusal(i: Instrument) -> Outcome
     ensures { result ≡ instrument_refusal i }
 {

@@ -4,7 +4,7 @@ use mathlib.Core.Bool.{Bool, true, false, ◌&&◌}
 use Prim.Native.Nat.{ℕ, zero, suc, ◌+◌, ◌-◌, ◌*◌, ◌≤◌, ◌<◌}
 use native.Mathlib.Nat.{mul-le-mul}
 use native.Mathlib.Omega.{arith}
-use borrow.Author.Tests.{ltb-true, leb-true, le-leb, lt-ltb, le-ltb}
+use borrow.Author.Tests.{leb-true, le-leb, lt-ltb, le-ltb}
 use lib.Dec.{ltb, leb, ltb→lt, nltb→le}
 use lib.IntN.{ℤ, pos, negsuc, nat_abs, ◌+ℤ◌, ◌-ℤ◌}
 use lib.Signed.{le_z}
@@ -12,7 +12,7 @@ use Rattle.integers.proofs.Ring.{◌⊕◌, ◌⊖◌, ◌⊗◌, #◌, ◌², �
 use Rattle.integers.proofs.Size.{cond_ind, square-size}
 use Rattle.scheme.specs.Lists.{square}
 use Rattle.scheme.specs.Instruments.{off_centre, round_edge}
-use Rattle.scheme.proofs.Laws.Bools.{and_both, and_yes, not_so, same}
+use Rattle.scheme.proofs.Laws.Bools.{and_yes, same}
 use Rattle.kinds.specs.Search.{Passed}
 use Rattle.kinds.specs.Runs.{run, on_square, round_run, apart}
 use Rattle.kinds.proofs.SearchLaws.{leading_is}
@@ -81,12 +81,6 @@ edge_inward G b a c h l e =
 
 pub on_square_lem : (c a b : ℕ) → c ≤ 64 → a < c → b < c → on_square c a b ≡ true
 on_square_lem c a b l p q = and_yes (le-leb c 64 l) ∙ and_yes (lt-ltb a c p) ∙ lt-ltb b c q
-
-pub off-square : (c a b : ℕ) → (c ≤ 64 → c ≤ b) → on_square c a b ≡ false
-off-square c a b h = not_so (λ e.
-    let p = and_both (leb c 64) _ e in
-    let q = and_both (ltb a c) (ltb b c) p.1 in
-    omega (arith, h (leb-true c 64 p.0), ltb-true b c q.1))
 
 -- what `is_round_fixed` said of a point on it
 pub edge_said : (c a b : ℕ) {r x : Bool} → c ≤ 64 → a < c → b < c → r ≡ (on_square c a b && round_edge c a b) → r ≡ x → round_edge c a b ≡ x

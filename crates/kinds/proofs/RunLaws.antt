@@ -11,7 +11,8 @@ use lib.Dec.{ltb, leb, eqb, leb-zero, eqb-suc-zero}
 use Rattle.integers.proofs.Order.{≤_totalℕ}
 use Rattle.types.specs.declared.Grid.{Grid}
 use Rattle.types.specs.declared.Kind.{Kind}
-use Rattle.types.specs.declared.Kind.TheVariants.{Unknown, StringFixed, StringFixedFree, StringFree, Bar, MembraneRectangular, MembraneRound, Plate}
+use Rattle.types.specs.declared.Kind.TheVariants.{Unknown, StringFixed, StringFixedFree, StringFree, Bar, MembraneRectangular}
+use Rattle.types.specs.declared.Kind.TheVariants.{MembraneRound, Plate}
 use Rattle.scheme.specs.Instruments.{kind, points, size_in, at_edge, outer_ring, round_edge, fixed_in, fixed, moving, in_table}
 use Rattle.scheme.proofs.Laws.Bools.{and_both, and_yes, and_no, or_no, cases, not_so, same}
 use Rattle.scheme.proofs.Laws.Kinds.{Sized, sized}

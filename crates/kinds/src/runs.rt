@@ -5,7 +5,7 @@ ghost use Rattle.kinds.specs.Runs.{inner_run, on_square, straight_run};
 
 use types::{Grid, Kind};
 
-// The columns a with from ≤ a < to.
+// The columns a with from ≤ a < to. A Range is not Copy, as this is and what holds it.
 #[derive(Clone, Copy)]
 pub struct Run {
     pub from: usize,

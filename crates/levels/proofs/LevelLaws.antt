@@ -45,7 +45,9 @@ any_first p ys (suc n) h =
 
 pub some_of : (xs : List ℤ) → list_any (λ v. nat_lt 0 (unsigned_abs v)) xs ≡ some_not_zero xs
 unfolding some_not_zero
-some_of xs = ap (list_any (λ v. nat_lt 0 (unsigned_abs v))) (sym (take-length xs)) ∙ any_first (λ v. nat_lt 0 (unsigned_abs v)) xs (length xs) (omega arith)
+some_of xs =
+    ap (list_any (λ v. nat_lt 0 (unsigned_abs v))) (sym (take-length xs)) ∙
+    any_first (λ v. nat_lt 0 (unsigned_abs v)) xs (length xs) (omega arith)
 
 pub some_first : (ys : List ℤ) (n : ℕ) → n ≤ length ys → some_not_zero (take n ys) ≡ some_below n (not_zero ys)
 unfolding some_not_zero
@@ -97,7 +99,8 @@ module _ (g : Grid) where
       let p : a < n = omega arith in
       ap (λ (z : ℤ). nat_lt 0 (unsigned_abs z)) (sym (get_or-take n (drop s xs) a (pos 0) p ∙ get_or-drop s xs a (pos 0)))
 
-  pub rows_test : (xs : List ℤ) → length xs ≡ points g → fixed_not_zero g xs ≡ some_below g.rows (λ b. row_unfixed g (row_of g.columns xs b) b)
+  pub rows_test : (xs : List ℤ) → length xs ≡ points g
+      → fixed_not_zero g xs ≡ some_below g.rows (λ b. row_unfixed g (row_of g.columns xs b) b)
   unfolding fixed_not_zero
   rows_test xs l =
       let test : ℕ → Bool = λ i. fixed g i && not_zero xs i in

@@ -6,7 +6,8 @@ use mathlib.Core.Logic.{◌⊎◌, inl, inr}
 use Rattle.types.specs.declared.Grid.{Grid}
 use Rattle.scheme.specs.Lists.{some_below}
 use Rattle.types.specs.declared.Kind.{Kind}
-use Rattle.types.specs.declared.Kind.TheVariants.{Unknown, StringFixed, StringFixedFree, StringFree, Bar, MembraneRectangular, MembraneRound, Plate}
+use Rattle.types.specs.declared.Kind.TheVariants.{Unknown, StringFixed, StringFixedFree, StringFree, Bar, MembraneRectangular}
+use Rattle.types.specs.declared.Kind.TheVariants.{MembraneRound, Plate}
 use Rattle.scheme.specs.Instruments.{kind, points, fixed, within, size_in, in_table}
 use Rattle.scheme.specs.Refusals.{fixed_not_zero}
 use Rattle.scheme.proofs.Laws.Bools.{and_both}

@@ -4,7 +4,8 @@ use Rattle.std.specs.Prelude.{unsigned_abs, take, drop, slice_range}
 use Rattle.types.specs.declared.Grid.{Grid}
 use Rattle.scheme.specs.Lists.{point, some_below}
 use Rattle.types.specs.declared.Kind.{Kind}
-use Rattle.types.specs.declared.Kind.TheVariants.{Unknown, StringFixed, StringFixedFree, StringFree, Bar, MembraneRectangular, MembraneRound, Plate}
+use Rattle.types.specs.declared.Kind.TheVariants.{Unknown, StringFixed, StringFixedFree, StringFree, Bar, MembraneRectangular}
+use Rattle.types.specs.declared.Kind.TheVariants.{MembraneRound, Plate}
 use Rattle.scheme.specs.Instruments.{points, in_table, round_edge, fixed}
 use Rattle.scheme.specs.Refusals.{fixed_not_zero}
 use Rattle.kinds.specs.declared.runs.Run.{Run}

@@ -22,8 +22,8 @@ const SIGN: u64 = 1 << 63;
 
 // A number with the sign bit where v lies beyond the ceiling: that of v + ceiling or of ceiling − v. It takes no branch.
 #[tactic(auto, using(crate::proofs::SignLaws::excess_is))]
-fn excess(v: i64) -> u64
-    ensures { signed result ≡ beyond v }
+fn excess(v: &i64) -> u64
+    ensures { signed result ≡ beyond v.now }
 {
     let bits = v.cast_unsigned();
     let ceiling = Settings::CEILING as u64;
@@ -31,13 +31,13 @@ fn excess(v: i64) -> u64
 }
 
 // All points are looked at, so that the loop has no branch. Ruled out: point 0 left out; every other point left out.
-#[tactic(auto, using(crate::proofs::SignLaws::signs), unfolding(scheme::specs::Lists::some_below, scheme::specs::Step::some_beyond))]
+#[tactic(auto, unfolding(scheme::specs::Lists::some_below, scheme::specs::Step::some_beyond))]
 pub fn some_beyond(xs: &[i64]) -> bool
     ensures { result ≡ some_beyond xs.now }
 {
     let mut signs = 0;
     for v in xs {
-        signs |= excess(*v);
+        signs |= excess(v);
     }
     SIGN <= signs
 }

@@ -25,9 +25,6 @@ count_few g = go (eqb g.rows 1)
     go true = omega arith
     go false = omega arith
 
--- the plan of an instrument that passes, and of one that does not
+-- the plan of an instrument that passes
 pub plan_passed : (i : Instrument) → wrong_coefficient i.settings ≡ false → plan_of i ≡ factors i
 plan_passed i e = ap (λ (t : Bool). cond {A = Plan} t (no_factors i) (factors i)) e
-
-pub plan_refused : (i : Instrument) → wrong_coefficient i.settings ≡ true → plan_of i ≡ no_factors i
-plan_refused i e = ap (λ (t : Bool). cond {A = Plan} t (no_factors i) (factors i)) e

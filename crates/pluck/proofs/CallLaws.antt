@@ -1,32 +1,30 @@
 -- Laws of the call: what refuses it, and the level of one that nothing refuses.
-use mathlib.Core.Path.{◌≡◌, refl, sym, ap, ap₂, ◌∙◌, subst}
-use mir.Syntax.{w64}
-use mir.Val.{to_z, of_z}
-use Rattle.bounded.proofs.Num.{given}
-use Rattle.kinds.specs.declared.runs.Run.{Run}
-use mathlib.Core.Bool.{Bool, true, false, ◌&&◌, ◌||◌, cond}
+use mathlib.Core.Path.{◌≡◌, refl, sym, ap, ◌∙◌, subst}
+use mathlib.Core.Bool.{true, false, ◌||◌}
 use mathlib.Core.List.{List}
 use Prim.Native.Nat.{ℕ, ◌+◌, ◌-◌, ◌*◌, ◌≤◌, ◌<◌}
 use native.Mathlib.Nat.{mul-one, zero-mul, zero-add}
 use native.Mathlib.Omega.{arith}
 use borrow.Author.Tests.{ltb-true, ltb-false, leb-true, not-false}
-use lib.Dec.{leb}
 use lib.IntN.{ℤ, pos, nat_abs}
+use mir.Syntax.{w64}
+use mir.Val.{to_z, of_z}
+use Rattle.std.specs.Prelude.{Ok}
+use Rattle.bounded.proofs.Num.{given}
 use Rattle.types.specs.declared.Grid.{Grid}
-use Rattle.std.specs.Prelude.{Result, Ok}
 use Rattle.types.specs.Numbers.{ceiling, kind_of}
 use Rattle.scheme.specs.Lists.{tabulate}
 use Rattle.scheme.specs.Instruments.{points, moving}
-use Rattle.scheme.specs.Pluck.{distance_from, pluck_value, pluck_at, pluck_level}
+use Rattle.scheme.specs.Pluck.{pluck_at, pluck_level}
 use Rattle.scheme.specs.Refusals.{last_plucked, wrong_length, lowest, table_checks, pluck_checks, pluck_refusal, pluck_with_refusal}
-use Rattle.scheme.specs.Calls.{accepted}
 use Rattle.scheme.specs.Passing.{PluckPasses}
 use Rattle.scheme.proofs.Laws.Bools.{and_both}
-use Rattle.scheme.proofs.Laws.Kinds.{within_is, sized}
+use Rattle.scheme.proofs.Laws.Kinds.{within_is}
 use Rattle.scheme.proofs.Laws.Lists.{length-tabulate, get_d_tabulate, is_tabulate}
 use Rattle.scheme.proofs.Laws.Refusals.{pluck_passes}
+use Rattle.kinds.specs.declared.runs.Run.{Run}
 use Rattle.kinds.specs.Runs.{in_run, is_round, straight_run, run_of}
-use Rattle.sizes.proofs.KindLaws.{line-size, by_range}
+use Rattle.sizes.proofs.KindLaws.{by_number, line-size}
 use Rattle.kinds.proofs.RunLaws.{straight_is, moving-run, run_bounds}
 use Rattle.instruments.proofs.RefusalLaws.{first_of, lowest-append}
 use Rattle.pluck.specs.declared.shape.Shape.{Shape}
@@ -44,7 +42,8 @@ by_parts g older newer c w a lent =
 
 line_straight : (k : ℕ) → 1 ≤ k → k ≤ 4 → is_round (kind_of k) ≡ false
 line_straight =
-    by_range 1 4 tt tt (λ K. is_round K ≡ false) (λ t. refl) (λ t. refl) (λ t. refl) (λ t. refl) (λ t. absurd t) (λ t. absurd t) (λ t. absurd t)
+    by_number (λ k K. 1 ≤ k → k ≤ 4 → is_round K ≡ false) (λ l h. refl) (λ l h. refl) (λ l h. refl) (λ l h. refl) (λ l h. refl)
+    (λ l h. refl) (λ l h. absurd (omega arith)) (λ l h. refl) (λ k p l h. refl)
 
 module _ (g : Grid) (older newer c w : ℕ) (a : ℤ) (none : pluck_refusal g older newer c w a ≡ Ok tt) where
   pub passes : PluckPasses g older newer c w a

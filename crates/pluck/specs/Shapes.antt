@@ -1,6 +1,5 @@
 -- The shape that a pluck gives to a line, and what it leaves. Vocabulary of private functions.
-use Rattle.std.specs.Prelude.{◌≡◌, Bool, ◌&&◌, cond, List, ℕ, ◌+◌, ◌-◌, ◌*◌, ◌/◌, ◌≤◌, ◌<◌, leb, ltb, ℤ, pos, nat_abs, length, set}
-use Rattle.types.specs.Numbers.{ceiling}
+use Rattle.std.specs.Prelude.{◌≡◌, Bool, ◌&&◌, cond, List, ℕ, ◌+◌, ◌-◌, ◌*◌, ◌/◌, ◌≤◌, ◌<◌, leb, ltb, ℤ, pos, length, set}
 use Rattle.scheme.specs.Lists.{point}
 use Rattle.scheme.specs.Pluck.{distance_from, pluck_value}
 use Rattle.kinds.specs.Runs.{in_run}

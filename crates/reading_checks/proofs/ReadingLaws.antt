@@ -1,12 +1,11 @@
 -- A level's fixed points as the code asks for them.
-use mathlib.Core.Path.{◌≡◌, sym, ◌∙◌, ap}
-use mathlib.Core.Bool.{Bool, true, false, not, cond}
+use mathlib.Core.Path.{◌≡◌, sym, ◌∙◌}
+use mathlib.Core.Bool.{true, false}
 use mathlib.Core.List.{List}
-use lib.Dec.{eqb}
 use lib.IntN.{ℤ}
 use lib.ListN.{length}
 use Rattle.types.specs.declared.Grid.{Grid}
-use Rattle.scheme.specs.Instruments.{points, in_table}
+use Rattle.scheme.specs.Instruments.{in_table}
 use Rattle.scheme.specs.Refusals.{fixed_not_zero}
 use Rattle.scheme.proofs.Laws.Refusals.{right-length}
 use Rattle.levels.specs.Levels.{unfixed}

@@ -10,7 +10,7 @@ use instruments::{grid_refusal, wrong_length};
 use levels::{is_unfixed, some_beyond};
 use types::{Grid, Outcome, Refusal};
 
-// 11 and 12 of one level.
+// 11 and 12 of one level. Of two, 11 of both comes before 12 of either: `state_refusal` of block_checks.
 fn level_refusal(g: Grid, xs: &[i64]) -> Outcome
     ensures { result ≡ lowest (state_checks (some_beyond xs.now) (unfixed g xs.now)) }
 {

@@ -1,8 +1,7 @@
 // A text that is written into a lent buffer, from its start on.
 // Not by `fmt::Write`: `write!` tells what was written only where it answers Ok, and `put_listing` fixes its buffer for every argument.
 ghost use Rattle.std.specs.Prelude.{◌≡◌, ◌+◌, ◌≤◌, ◌<◌, ◌*◌, length};
-ghost use Rattle.ring_line.specs.Lists.{text};
-ghost use Rattle.ring_listing.specs.Text.{decimal, signed_decimal, pair_line, step_lines, done_line, listing};
+ghost use Rattle.ring_listing.specs.Text.{decimal, signed_decimal, pair_line, step_lines, done_line};
 ghost use Rattle.ring_listing.specs.Put.{sign, Put, Room};
 
 // The first `length` bytes of the buffer are written.

@@ -29,6 +29,7 @@ fn read_some<R: Read>(input: &mut R, bytes: &mut [u8], at: usize) -> io::Result<
 }
 
 // Reads until a line feed came, the bytes are full, or the input ends; how many were read. A read that fails ends it with that error.
+// Not by the library's `read_until`: it reads into a Vec, and the engine has no heap.
 pub(crate) fn read_line<R: Read>(input: &mut R, bytes: &mut [u8]) -> io::Result<usize>
     ensures prefix_len { IfOk result (λ n. IsPrefixLen n bytes.new) }
     ensures line { IfOk result (λ n. IfSome (R.remaining input.old) (SameLine (length bytes.old) (take n bytes.new))) }

@@ -21,7 +21,7 @@ fn mirrored(x: i64, n: i64) -> i64
     x ^ sign(n)
 }
 
-// x, or −x where n is below 0. By bits for speed, as above.
+// x, or −x where n is below 0. By bits for speed: a choice of −x or x takes two instructions more for each point.
 fn signed(x: i64, n: i64) -> i64
     requires { unsigned_abs x ≤ 2 ^ 62 + 2 ^ 31 }
     ensures { result ≡ with_sign n x }
@@ -30,7 +30,7 @@ fn signed(x: i64, n: i64) -> i64
 }
 
 // |n| + half, of every number: half is added with the sign of n. In place of `unsigned_abs` for speed: a result that ends in an exclusive
-// or keeps the compiler from testing before a division whether 32 bits would do.
+// or keeps the compiler from testing before each division whether 32 bits would do.
 // Ruled out: half left out; half added without the sign of n.
 pub fn raised(n: i64, half: u32) -> u64
     ensures { result ≡ unsigned_abs n + half }

@@ -58,6 +58,9 @@ module _ (g : Grid) (s : Sheet) where
         → stable_in (kind g) (settings_of c).q (settings_of c).m ≡ true → sheet_call g s ≡ Ok (settings_of c)
     carried_out e f h = after ∙ simp (e, f, h)
 
+-- the answers after 1 and 2
+pub ruleset by_checks = (number_refused, coefficient_refused, unstable_refused, carried_out)
+
 -- ---- the coefficients
 
 whole-low : (x : Float) → ltb D (unwrap_or (nearest_whole x) 0) ≡ false

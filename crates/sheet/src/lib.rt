@@ -8,7 +8,6 @@ ghost use Rattle.std.specs.Prelude.{◌≡◌};
 ghost use Rattle.sheet.specs.Call.{sheet_call};
 
 use crate::coefficients::Coefficients;
-use crate::numbers::are_allowed;
 use instruments::grid_refusal;
 use sizes::is_stable;
 use types::{Grid, Kind, Refusal, Settings};
@@ -41,13 +40,13 @@ pub struct Sheet {
 
 // The settings of a sheet for a kind and its grid, or what refuses it.
 // Ruled out: q and m exchanged; a loss outside 0..D accepted.
-#[tactic(auto, using(crate::proofs::CallLaws::number_refused, crate::proofs::CallLaws::coefficient_refused, crate::proofs::CallLaws::unstable_refused, crate::proofs::CallLaws::carried_out))]
+#[tactic(auto, using(crate::proofs::CallLaws::by_checks))]
 pub fn settings_for(grid: Grid, sheet: Sheet) -> Result<Settings, Refusal>
     ensures { result ≡ sheet_call grid sheet }
 {
     grid_refusal(grid, Grid::LAST)?;
     let kind = Kind::from(grid.kind);
-    if !are_allowed(kind, sheet) {
+    if !sheet.is_allowed(kind) {
         return Err(Refusal::SheetNumber);
     }
     let coefficients = Coefficients::of_sheet(grid.columns, sheet);

@@ -32,32 +32,38 @@ fn is_pitched(kind: Kind) -> bool
     )
 }
 
-fn speed_allowed(kind: Kind, speed: Speed) -> bool
-    ensures { result ≡ speed_allowed kind speed }
-{
-    match speed {
-        Speed::Hertz(f) => is_pitched(kind) && is_non_negative(f),
-        Speed::Tension { tension, density } => is_non_negative(tension) && is_positive(density),
+impl Speed {
+    fn is_allowed(self, kind: Kind) -> bool
+        ensures { result ≡ speed_allowed kind self }
+    {
+        match self {
+            Speed::Hertz(f) => is_pitched(kind) && is_non_negative(f),
+            Speed::Tension { tension, density } => is_non_negative(tension) && is_positive(density),
+        }
     }
 }
 
-fn loss_allowed(loss: Loss) -> bool
-    ensures { result ≡ loss_allowed loss }
-{
-    match loss {
-        Loss::PerSecond(sigma) => is_non_negative(sigma),
-        Loss::Seconds(seconds) => is_positive(seconds),
+impl Loss {
+    fn is_allowed(self) -> bool
+        ensures { result ≡ loss_allowed self }
+    {
+        match self {
+            Loss::PerSecond(sigma) => is_non_negative(sigma),
+            Loss::Seconds(seconds) => is_positive(seconds),
+        }
     }
 }
 
-// 3: whether each number of the sheet is allowed.
-#[tactic(auto, unfolding(crate::specs::Numbers::numbers_allowed))]
-pub(crate) fn are_allowed(kind: Kind, sheet: Sheet) -> bool
-    ensures { result ≡ numbers_allowed kind sheet }
-{
-    is_positive(sheet.rate)
-        && is_positive(sheet.length)
-        && is_non_negative(sheet.bending)
-        && speed_allowed(kind, sheet.speed)
-        && loss_allowed(sheet.loss)
+impl Sheet {
+    // 3: whether each of its numbers is allowed for a kind.
+    #[tactic(auto, unfolding(crate::specs::Numbers::numbers_allowed))]
+    pub(crate) fn is_allowed(self, kind: Kind) -> bool
+        ensures { result ≡ numbers_allowed kind self }
+    {
+        is_positive(self.rate)
+            && is_positive(self.length)
+            && is_non_negative(self.bending)
+            && self.speed.is_allowed(kind)
+            && self.loss.is_allowed()
+    }
 }

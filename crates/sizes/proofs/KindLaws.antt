@@ -7,7 +7,8 @@ use borrow.Author.Tests.{eqb-true, lt-leb}
 use lib.Dec.{leb, eqb}
 use Rattle.types.specs.Numbers.{D}
 use Rattle.types.specs.declared.Kind.{Kind}
-use Rattle.types.specs.declared.Kind.TheVariants.{Unknown, StringFixed, StringFixedFree, StringFree, Bar, MembraneRectangular, MembraneRound, Plate}
+use Rattle.types.specs.declared.Kind.TheVariants.{Unknown, StringFixed, StringFixedFree, StringFree, Bar, MembraneRectangular}
+use Rattle.types.specs.declared.Kind.TheVariants.{MembraneRound, Plate}
 use Rattle.types.specs.Numbers.{kind_of}
 use Rattle.scheme.specs.Instruments.{within, size_in, stable_in}
 use Rattle.scheme.specs.Refusals.{last_kind}

@@ -14,7 +14,9 @@ use Rattle.bounded.proofs.Expr.{E, via, size}
 use Rattle.types.specs.declared.Grid.{Grid}
 use Rattle.types.specs.Numbers.{ceiling}
 use Rattle.scheme.specs.Lists.{point}
-use Rattle.scheme.specs.Instruments.{Kind, bar, kind, points, column, row, at_edge, fixed_in, fixed, moving}
+use Rattle.types.specs.declared.Kind.{Kind}
+use Rattle.types.specs.declared.Kind.TheVariants.{Bar}
+use Rattle.scheme.specs.Instruments.{kind, points, column, row, at_edge, fixed_in, fixed, moving}
 use Rattle.scheme.specs.Step.{neighbours}
 use Rattle.scheme.proofs.Laws.Bools.{or_neither, neither_or}
 use Rattle.scheme.proofs.Laws.Neighbours.{line-inner}
@@ -45,7 +47,7 @@ bar_between xs k h l =
 
 -- ---- they are the neighbour rule's
 
-module _ (g : Grid) (line : g.rows ≡ 1) (is_bar : kind g ≡ bar) (xs : List ℤ) (long : length xs ≡ points g) where
+module _ (g : Grid) (line : g.rows ≡ 1) (is_bar : kind g ≡ Bar) (xs : List ℤ) (long : length xs ≡ points g) where
   as_columns : length xs ≡ g.columns
   as_columns = long ∙ line_long g line
 
@@ -75,7 +77,7 @@ module _ (g : Grid) (line : g.rows ≡ 1) (is_bar : kind g ≡ bar) (xs : List �
           sym (sum-two (point xs) (k - 1) (k + 1))
 
 -- a point of a bar: the sum of its neighbours, and that of the sums on either side
-pub bar_beside : (g : Grid) → kind g ≡ bar → (newer : List ℤ) → length newer ≡ points g
+pub bar_beside : (g : Grid) → kind g ≡ Bar → (newer : List ℤ) → length newer ≡ points g
     → {from to : ℕ} → OnLine g from to → (k : ℕ) → from ≤ k → k < to
     → Summed g newer k (bar_sum newer k) (bar_sum newer (k - 1) +ℤ bar_sum newer (k + 1))
 bar_beside g is_bar newer long on k first last =

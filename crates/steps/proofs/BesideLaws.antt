@@ -15,7 +15,8 @@ use Rattle.types.specs.declared.Grid.{Grid}
 use Rattle.types.specs.declared.Instrument.{Instrument}
 use Rattle.types.specs.Numbers.{ceiling}
 use Rattle.scheme.specs.Lists.{point}
-use Rattle.scheme.specs.Instruments.{bar, kind, points, in_table, moving}
+use Rattle.types.specs.declared.Kind.TheVariants.{Bar}
+use Rattle.scheme.specs.Instruments.{kind, points, in_table, moving}
 use Rattle.scheme.specs.Step.{neighbours, biharmonic}
 use Rattle.scheme.specs.Passing.{InstrumentPasses}
 use Rattle.scheme.proofs.Laws.Neighbours.{line-inner, line_first, line_last, grid-inner, grid-above, grid-below}
@@ -98,10 +99,10 @@ module _ (i : Instrument) (ok : InstrumentPasses i) where
   m = i.settings.m
 
   -- where L of L counts on a line, the kind is a bar
-  pub is_bar : g.rows ≡ 1 → (m ≡ 0 → ⊥) → kind g ≡ bar
+  pub is_bar : g.rows ≡ 1 → (m ≡ 0 → ⊥) → kind g ≡ Bar
   is_bar line n = go (line-stiff i ok line)
     where
-      go : (m ≡ 0) ⊎ (kind g ≡ bar) → kind g ≡ bar
+      go : (m ≡ 0) ⊎ (kind g ≡ Bar) → kind g ≡ Bar
       go (inl e) = absurd (n e)
       go (inr e) = e
 
@@ -131,7 +132,7 @@ module _ (i : Instrument) (ok : InstrumentPasses i) where
     end_soft : (k : ℕ) → moving g k ≡ true → Edge g.columns k → m ≡ 0
     end_soft k mk o = go (line-stiff i ok line) o
       where
-        go : (m ≡ 0) ⊎ (kind g ≡ bar) → Edge g.columns k → m ≡ 0
+        go : (m ≡ 0) ⊎ (kind g ≡ Bar) → Edge g.columns k → m ≡ 0
         go (inl e) p = e
         go (inr b) (inl h) = absurd (omega (arith, bar_inner g ok.size line k mk b))
         go (inr b) (inr h) = absurd (omega (arith, bar_inner g ok.size line k mk b))

@@ -1,22 +1,22 @@
 -- What the steps of a block are given, where 1 to 12 let it pass, and what they leave.
 use mathlib.Core.Path.{◌≡◌, refl, sym, ap, ◌∙◌, subst}
-use mathlib.Core.Bool.{Bool, true, false, cond, not, true≢false}
-use mathlib.Core.List.{List}
+use mathlib.Core.Bool.{Bool, true, false, cond, true≢false}
+use mathlib.Core.List.{List, []}
 use Prim.Native.Nat.{ℕ, zero, suc, ◌%◌, ◌≤◌, ◌<◌}
 use native.Mathlib.Omega.{arith}
-use borrow.Author.Tests.{ne_eqb}
-use lib.Dec.{ltb, eqb}
+use lib.Dec.{ltb}
 use lib.IntN.{ℤ, pos}
 use lib.ListN.{length, replicate, length-replicate}
 use Rattle.types.specs.declared.Grid.{Grid}
 use Rattle.types.specs.declared.Instrument.{Instrument}
 use Rattle.types.specs.declared.Hit.{Hit}
 use Rattle.types.specs.declared.Refusal.{Refusal}
-use Rattle.types.specs.declared.Refusal.TheVariants.{Nothing, NextBeyond}
+use Rattle.types.specs.declared.Refusal.TheVariants.{NextBeyond}
 use Rattle.scheme.specs.Instruments.{points}
 use Rattle.scheme.specs.Refusals.{wrong_length, block_refusal}
 use Rattle.scheme.specs.Passing.{BlockPasses}
-use Rattle.scheme.specs.Calls.{AfterBlock, AfterInPlace, accepted, play, block, block_in_place}
+use Rattle.scheme.specs.Calls.{AfterBlock, AfterInPlace, accepted, play, reported, without_work, block_refused, block, block_in_place}
+use Rattle.std.specs.Prelude.{Result, Ok, Err, Option}
 use Rattle.scheme.proofs.Laws.Refusals.{right-length, block_passes}
 use Rattle.slices.proofs.SliceLaws.{zeros}
 use Rattle.scheme.proofs.Laws.Calls.{stands_behind, block_refused_lem, block-done, in_place_refused, in_place_done}
@@ -24,24 +24,26 @@ use Rattle.plans.specs.declared.Plan.{Plan}
 use Rattle.steps.specs.declared.call.InTurn.{InTurn}
 use Rattle.steps.specs.declared.play.Steps.{Steps}
 use Rattle.steps.specs.Plan.{Planned}
-use Rattle.turns.specs.Turns.{turn_after, older_of, newer_of}
+use Rattle.turns.specs.declared.Turn.{Turn}
+use Rattle.turns.specs.declared.Turn.TheVariants.{First, There}
+use Rattle.turns.specs.Turns.{of_two, turn_after, turn_of_three, turn_of_two, older_of, newer_of}
 use Rattle.steps.specs.Steps.{Room, Steppable, Begins, Played}
-use Rattle.steps.specs.Left.{Opens, three, two, LeftFrom, refused, carried, LeftInTurn, LeftInPlace}
+use Rattle.steps.specs.Left.{Opens, three, two, in_turn, LeftFrom, refused, carried, LeftInTurn, LeftInPlace}
 use Rattle.steps.proofs.PlayLaws.{room_of}
-use Rattle.turns.proofs.TurnLaws.{turn_three, turn_many, turn_exchanged}
+use Rattle.turns.proofs.TurnLaws.{two_older, two_newer, two_after, turn_three, turn_two}
 
 -- what nothing refuses is refused for nothing else that was lent, and work has the grid's length
-pub rest_right : (i : Instrument) (older newer : List ℤ) (wrong : Bool) (pick : ℕ) (h : Hit)
-    → block_refusal i older newer wrong pick h ≡ Nothing → block_refusal i older newer false pick h ≡ Nothing
+pub rest_right : (i : Instrument) (older newer : List ℤ) (wrong : Bool) (pick : ℕ) (h : Option Hit)
+    → block_refusal i older newer wrong pick h ≡ Ok tt → block_refusal i older newer false pick h ≡ Ok tt
 rest_right i older newer wrong pick h e =
-    subst (λ (t : Bool). block_refusal i older newer t pick h ≡ Nothing) (block_passes i older newer wrong pick h e).rest_right e
+    subst (λ (t : Bool). block_refusal i older newer t pick h ≡ Ok tt) (block_passes i older newer wrong pick h e).rest_right e
 
-pub work_right : (i : Instrument) (older newer work : List ℤ) (pick : ℕ) (h : Hit)
-    → block_refusal i older newer (wrong_length i.grid (length work)) pick h ≡ Nothing → length work ≡ points i.grid
+pub work_right : (i : Instrument) (older newer work : List ℤ) (pick : ℕ) (h : Option Hit)
+    → block_refusal i older newer (wrong_length i.grid (length work)) pick h ≡ Ok tt → length work ≡ points i.grid
 work_right i older newer work pick h e =
     right-length i.grid (length work) (block_passes i older newer (wrong_length i.grid (length work)) pick h e).rest_right
 
-module _ (i : Instrument) (older newer : List ℤ) (pick : ℕ) (h : Hit) (e : block_refusal i older newer false pick h ≡ Nothing)
+module _ (i : Instrument) (older newer : List ℤ) (pick : ℕ) (h : Option Hit) (e : block_refusal i older newer false pick h ≡ Ok tt)
     (p : Plan) (own : p.instrument ≡ i) where
   passes : BlockPasses p.instrument older newer false pick h
   passes =
@@ -61,14 +63,14 @@ module _ (i : Instrument) (older newer : List ℤ) (pick : ℕ) (h : Hit) (e : b
   }
 
   -- work was cleared
-  pub first_steppable : Planned p → {first : ℕ} (work cleared : List ℤ) → cleared ≡ replicate (length work) (pos 0)
+  pub first_steppable : Planned p → {first : Turn} (work cleared : List ℤ) → cleared ≡ replicate (length work) (pos 0)
       → Opens i.grid work first → Begins first p h older newer cleared
   first_steppable q work cleared z (three l) = record {
     given = steppable q cleared (subst (Room p.instrument.grid) (sym z) (record {
       long = length-replicate (length work) (pos 0) ∙ l ∙ ap (λ (i : Instrument). points i.grid) (sym own);
       still = λ k m. zeros (length work) k;
     }));
-    third = λ t. absurd (omega arith);
+    third = λ t. absurd (true≢false (sym t));
   }
   first_steppable q work cleared z (two l) = record {
     given = steppable q older (room_of p.instrument.grid older passes.older_passes);
@@ -83,146 +85,112 @@ module _ (i : Instrument) (older newer : List ℤ) (pick : ℕ) (h : Hit) (e : b
       subst (λ (i : Instrument). Played (play i pick h older newer samples) n r older₁ newer₁ samples₁) own s
 
 -- the steps begin with each level in the slice that it was lent in
-pub opened : {g : Grid} {work : List ℤ} {first : ℕ} → Opens g work first → (i : Instrument) (pick : ℕ) (h : Hit)
+pub opened : {g : Grid} {work : List ℤ} {first : Turn} → Opens g work first → (i : Instrument) (pick : ℕ) (h : Option Hit)
     (older newer cleared samples : List ℤ) {n : ℕ} {r : Steps} {older₁ newer₁ samples₁ : List ℤ}
     → Played (play i pick h (older_of first older newer cleared) (newer_of first older newer cleared) samples) n r older₁ newer₁ samples₁
     → Played (play i pick h older newer samples) n r older₁ newer₁ samples₁
 opened (three l) i pick h older newer cleared samples p = p
 opened (two l) i pick h older newer cleared samples p = p
 
--- which of two slices has which role
-two_slices : (p : ℕ) (a b c : List ℤ) → 3 ≤ p
-    → (cond (not (eqb p 3)) b a ≡ older_of p a b c) × (cond (not (eqb p 3)) a b ≡ newer_of p a b c)
-two_slices zero a b c l = absurd (omega arith)
-two_slices (suc zero) a b c l = absurd (omega arith)
-two_slices (suc (suc zero)) a b c l = absurd (omega arith)
-two_slices (suc (suc (suc zero))) a b c l = (refl, refl)
-two_slices (suc (suc (suc (suc k)))) a b c l =
-    let e = ap not (ne_eqb (suc (suc (suc (suc k)))) 3 (λ s. omega arith)) in
-    (ap (λ (t : Bool). cond t b a) e, ap (λ (t : Bool). cond t a b) e)
+-- the answer of the steps r, with x for what ended them, is the block's
+answered : (i : Instrument) (older newer samples : List ℤ) (pick : ℕ) (h : Option Hit)
+    {r : Steps} {x : Result Unit Refusal} {older₁ newer₁ samples₁ : List ℤ}
+    → Played (play i pick h older newer samples) (length samples) r older₁ newer₁ samples₁
+    → x ≡ cond (ltb r.done (length samples₁)) (Err NextBeyond) (Ok tt)
+    → (in_turn r x).answer ≡ reported (play i pick h older newer samples).answer
+answered i older newer samples pick h {r} s d =
+    let places = ap length s.samples_are ∙ (stands_behind i pick h older newer samples).places_long in
+    let outcome = d ∙ ap (λ (n : ℕ). cond (ltb r.done n) (Err NextBeyond) (Ok tt)) places ∙ sym s.outcome_is in
+    λ k. record { steps = s.done_is k; inexact = s.inexact_is k; outcome = outcome k }
 
 -- what a call leaves
-module _ (i : Instrument) (older newer work samples : List ℤ) (pick : ℕ) (h : Hit) where
-  abbrev refuses : Refusal
+module _ (i : Instrument) (older newer work samples : List ℤ) (pick : ℕ) (h : Option Hit) where
+  abbrev refuses : Result Unit Refusal
   refuses = block_refusal i older newer (wrong_length i.grid (length work)) pick h
 
   -- one that is refused
-  pub turned_down : {r : Refusal} → r ≡ refuses → accepted refuses ≡ false
-      → LeftInTurn refuses (block i older newer work samples pick h)
-      (record { begun = false; steps = 0; inexact = 0; refusal = r; turn = 0 })
-      older newer work samples
-  turned_down e f =
-      let b = sym (block_refused_lem i older newer work samples pick h f) in
-      record {
-        begun_is = sym f;
-        steps_are = ap (λ (b : AfterBlock). b.answer.steps) b;
-        inexact_is = ap (λ (b : AfterBlock). b.answer.inexact) b;
-        refusal_is = e ∙ ap (λ (b : AfterBlock). b.answer.refusal) b;
-        older_is = ap (λ (b : AfterBlock). b.older) b;
-        newer_is = ap (λ (b : AfterBlock). b.newer) b;
-        samples_are = ap (λ (b : AfterBlock). b.samples) b;
-        turn_is = ap (λ (b : AfterBlock). b.answer.steps % 3) b;
-        refused = λ t. (sym (ap (λ (b : AfterBlock). b.answer.steps) b), ap (λ (b : AfterBlock). b.work) b);
-        carried = λ t. absurd (true≢false (sym t));
-      }
+  pub turned_down : {x : Refusal} → refuses ≡ Err x
+      → LeftInTurn refuses (block i older newer work samples pick h) (Err x) older newer work samples
+  turned_down e =
+      (e, ap (λ (r : Result Unit Refusal). block_refused r older newer work samples) (sym e)
+          ∙ sym (block_refused_lem i older newer work samples pick h (ap accepted e)))
 
   -- one that is carried out: 13 where places are left
-  module _ (e : refuses ≡ Nothing) {r : Steps} {older₁ newer₁ work₁ samples₁ : List ℤ} {refusal : Refusal}
-      (turn : r.turn ≡ turn_after 0 r.done)
+  module _ (e : refuses ≡ Ok tt) {r : Steps} {older₁ newer₁ work₁ samples₁ : List ℤ} {outcome : Result Unit Refusal}
+      (turn : r.turn ≡ turn_after First r.done)
       (older_kept : length older₁ ≡ length older) (newer_kept : length newer₁ ≡ length newer) (work-kept : length work₁ ≡ length work)
       (s : Played (play i pick h older newer samples) (length samples) r (older_of r.turn older₁ newer₁ work₁)
       (newer_of r.turn older₁ newer₁ work₁) samples₁) where
-    pub carried-out : refusal ≡ cond (ltb r.done (length samples₁)) NextBeyond Nothing
-        → LeftInTurn refuses (block i older newer work samples pick h)
-        (record { begun = true; steps = r.done; inexact = r.inexact; refusal = refusal; turn = r.turn })
-        older₁ newer₁ work₁ samples₁
+    pub carried-out : outcome ≡ cond (ltb r.done (length samples₁)) (Err NextBeyond) (Ok tt)
+        → LeftInTurn refuses (block i older newer work samples pick h) (Ok (in_turn r outcome)) older₁ newer₁ work₁ samples₁
     carried-out d =
         let b = sym (block-done i older newer work samples pick h e) in
         let passes = block_passes i older newer (wrong_length i.grid (length work)) pick h e in
         let long = work_right i older newer work pick h e in
-        let places : length samples₁ ≡ length samples =
-        ap length s.samples_are ∙ (stands_behind i pick h older newer samples).places_long in
-        record {
-          begun_is = sym (ap accepted e);
-          steps_are = s.done_is ∙ ap (λ (b : AfterBlock). b.answer.steps) b;
-          inexact_is = s.inexact_is ∙ ap (λ (b : AfterBlock). b.answer.inexact) b;
-          refusal_is = d ∙ ap (λ (n : ℕ). cond (ltb r.done n) NextBeyond Nothing) places ∙ sym s.refusal_is
-              ∙ ap (λ (b : AfterBlock). b.answer.refusal) b;
-          older_is = s.older_is ∙ ap (λ (b : AfterBlock). b.older) b;
-          newer_is = s.newer_is ∙ ap (λ (b : AfterBlock). b.newer) b;
-          samples_are = s.samples_are ∙ ap (λ (b : AfterBlock). b.samples) b;
-          turn_is = turn ∙ turn_three r.done ∙ ap (λ (n : ℕ). n % 3) (s.done_is ∙ ap (λ (b : AfterBlock). b.answer.steps) b);
-          refused = λ t. absurd (true≢false t);
-          carried = λ t. record {
-            newer_long = newer_kept ∙ passes.newer_passes.long ∙ sym passes.older_passes.long ∙ sym older_kept;
+        let steps = s.done_is ∙ ap (λ (b : AfterBlock). b.answer.steps) b in (
+          e,
+          record {
+            stands = record {
+              answer_is = answered i older newer samples pick h s d ∙ ap (λ (b : AfterBlock). b.answer) b;
+              older_is = s.older_is ∙ ap (λ (b : AfterBlock). b.older) b;
+              newer_is = s.newer_is ∙ ap (λ (b : AfterBlock). b.newer) b;
+              samples_are = s.samples_are ∙ ap (λ (b : AfterBlock). b.samples) b;
+              newer_long = newer_kept ∙ passes.newer_passes.long ∙ sym passes.older_passes.long ∙ sym older_kept;
+            };
+            turn_is = turn ∙ turn_three r.done ∙ ap (λ (n : ℕ). turn_of_three (n % 3)) steps;
             work_long = work-kept ∙ long ∙ sym passes.older_passes.long ∙ sym older_kept;
             zeros_are = sym (ap (λ (b : AfterBlock). b.work) b) ∙ ap (λ (n : ℕ). replicate n (pos 0)) (sym (work-kept ∙ long));
-          };
-        }
+          },
+        )
 
   -- either, by what refuses it
-  pub left_in_turn : {r : Refusal} {t : InTurn} {older₁ newer₁ work₁ samples₁ : List ℤ} → r ≡ refuses
+  pub left_in_turn : {r : Result Unit Refusal} {t : Result InTurn Refusal} {older₁ newer₁ work₁ samples₁ : List ℤ} → r ≡ refuses
       → length older₁ ≡ length older → length newer₁ ≡ length newer → length work₁ ≡ length work
-      → LeftFrom 0 r (play i pick h older newer samples) older newer work samples t older₁ newer₁ work₁ samples₁
+      → LeftFrom First r (play i pick h older newer samples) older newer work samples t older₁ newer₁ work₁ samples₁
       → LeftInTurn refuses (block i older newer work samples pick h) t older₁ newer₁ work₁ samples₁
-  left_in_turn e a b c (refused x is f) = turned_down (is ∙ e) (ap accepted (sym e) ∙ f)
+  left_in_turn e a b c (refused x is) = turned_down (sym e ∙ is)
   left_in_turn e a b c (carried s x older₁ newer₁ work₁ samples₁ none turn p is) = carried-out (sym e ∙ none) turn a b c p is
 
 -- what a call on two levels leaves
-module _ (i : Instrument) (older newer samples : List ℤ) (pick : ℕ) (h : Hit) where
-  abbrev refuses_two : Refusal
+module _ (i : Instrument) (older newer samples : List ℤ) (pick : ℕ) (h : Option Hit) where
+  abbrev refuses_two : Result Unit Refusal
   refuses_two = block_refusal i older newer false pick h
 
   -- one that is refused
-  pub turned_down_two : {r : Refusal} → r ≡ refuses_two → accepted refuses_two ≡ false
-      → LeftInPlace (block_in_place i older newer samples pick h)
-      (record { steps = 0; inexact = 0; refusal = r; exchanged = false }) older newer samples
-  turned_down_two e f =
-      let b = sym (in_place_refused i older newer samples pick h f) in
-      record {
-        steps_are = ap (λ (b : AfterInPlace). b.answer.steps) b;
-        inexact_is = ap (λ (b : AfterInPlace). b.answer.inexact) b;
-        refusal_is = e ∙ ap (λ (b : AfterInPlace). b.answer.refusal) b;
-        older_is = ap (λ (b : AfterInPlace). b.older) b;
-        newer_is = ap (λ (b : AfterInPlace). b.newer) b;
-        samples_are = ap (λ (b : AfterInPlace). b.samples) b;
-        exchanged_is = ap (λ (b : AfterInPlace). eqb (b.answer.steps % 2) 1) b;
-        same_long = λ t. absurd (true≢false (sym t));
-      }
+  pub turned_down_two : {x : Refusal} → refuses_two ≡ Err x
+      → LeftInPlace refuses_two (block_in_place i older newer samples pick h) (Err x) older newer samples
+  turned_down_two e =
+      (e, ap (λ (r : Result Unit Refusal). without_work (block_refused r older newer [] samples)) (sym e)
+          ∙ sym (in_place_refused i older newer samples pick h (ap accepted e)))
 
   -- one that is carried out
-  module _ (e : refuses_two ≡ Nothing) {r : Steps} {older₁ newer₁ samples₁ : List ℤ} {refusal : Refusal} (third₁ : List ℤ)
-      (turn : r.turn ≡ turn_after 3 r.done)
+  module _ (e : refuses_two ≡ Ok tt) {r : Steps} {older₁ newer₁ samples₁ : List ℤ} {outcome : Result Unit Refusal} (third₁ : List ℤ)
+      (turn : r.turn ≡ turn_after There r.done)
       (older_kept : length older₁ ≡ length older) (newer_kept : length newer₁ ≡ length newer)
       (s : Played (play i pick h older newer samples) (length samples) r (older_of r.turn older₁ newer₁ third₁)
       (newer_of r.turn older₁ newer₁ third₁) samples₁) where
-    pub carried-out-two : refusal ≡ cond (ltb r.done (length samples₁)) NextBeyond Nothing
-        → LeftInPlace (block_in_place i older newer samples pick h)
-        (record { steps = r.done; inexact = r.inexact; refusal = refusal; exchanged = not (eqb r.turn 3) }) older₁ newer₁ samples₁
+    pub carried-out-two : outcome ≡ cond (ltb r.done (length samples₁)) (Err NextBeyond) (Ok tt)
+        → LeftInPlace refuses_two (block_in_place i older newer samples pick h) (Ok (in_turn r outcome)) older₁ newer₁ samples₁
     carried-out-two d =
         let b = sym (in_place_done i older newer samples pick h e) in
         let passes = block_passes i older newer false pick h e in
-        let two = two_slices r.turn older₁ newer₁ third₁ (subst (λ (p : ℕ). 3 ≤ p) (sym turn) (turn_many r.done)) in
-        let places : length samples₁ ≡ length samples =
-        ap length s.samples_are ∙ (stands_behind i pick h older newer samples).places_long in
-        record {
-          steps_are = s.done_is ∙ ap (λ (b : AfterInPlace). b.answer.steps) b;
-          inexact_is = s.inexact_is ∙ ap (λ (b : AfterInPlace). b.answer.inexact) b;
-          refusal_is = d ∙ ap (λ (n : ℕ). cond (ltb r.done n) NextBeyond Nothing) places ∙ sym s.refusal_is
-              ∙ ap (λ (b : AfterInPlace). b.answer.refusal) b;
-          older_is = two.0 ∙ s.older_is ∙ ap (λ (b : AfterInPlace). b.older) b;
-          newer_is = two.1 ∙ s.newer_is ∙ ap (λ (b : AfterInPlace). b.newer) b;
-          samples_are = s.samples_are ∙ ap (λ (b : AfterInPlace). b.samples) b;
-          exchanged_is = ap (λ (p : ℕ). not (eqb p 3)) turn ∙ turn_exchanged r.done
-              ∙ ap (λ (n : ℕ). eqb (n % 2) 1) (s.done_is ∙ ap (λ (b : AfterInPlace). b.answer.steps) b);
-          same_long = λ t. newer_kept ∙ passes.newer_passes.long ∙ sym passes.older_passes.long ∙ sym older_kept;
-        }
+        let two = ap of_two turn ∙ two_after There r.done in
+        let steps = s.done_is ∙ ap (λ (b : AfterInPlace). b.answer.steps) b in (
+          e,
+          record {
+            answer_is = answered i older newer samples pick h s d ∙ ap (λ (b : AfterInPlace). b.answer) b;
+            older_is = two_older r.turn older₁ newer₁ [] third₁ two ∙ s.older_is ∙ ap (λ (b : AfterInPlace). b.older) b;
+            newer_is = two_newer r.turn older₁ newer₁ [] third₁ two ∙ s.newer_is ∙ ap (λ (b : AfterInPlace). b.newer) b;
+            samples_are = s.samples_are ∙ ap (λ (b : AfterInPlace). b.samples) b;
+            newer_long = newer_kept ∙ passes.newer_passes.long ∙ sym passes.older_passes.long ∙ sym older_kept;
+          },
+          turn ∙ turn_two r.done ∙ ap (λ (n : ℕ). turn_of_two (n % 2)) steps,
+        )
 
   -- either, by what refuses it
-  pub left_in_place : {t : InTurn} {third older₁ newer₁ third₁ samples₁ : List ℤ}
+  pub left_in_place : {t : Result InTurn Refusal} {third older₁ newer₁ third₁ samples₁ : List ℤ}
       → length older₁ ≡ length older → length newer₁ ≡ length newer
-      → LeftFrom 3 refuses_two (play i pick h older newer samples) older newer third samples t older₁ newer₁ third₁ samples₁
-      → LeftInPlace (block_in_place i older newer samples pick h)
-      (record { steps = t.steps; inexact = t.inexact; refusal = t.refusal; exchanged = not (eqb t.turn 3) }) older₁ newer₁ samples₁
-  left_in_place a b (refused x is f) = turned_down_two is f
+      → LeftFrom There refuses_two (play i pick h older newer samples) older newer third samples t older₁ newer₁ third₁ samples₁
+      → LeftInPlace refuses_two (block_in_place i older newer samples pick h) t older₁ newer₁ samples₁
+  left_in_place a b (refused x is) = turned_down_two is
   left_in_place a b (carried s x older₁ newer₁ third₁ samples₁ none turn p is) = carried-out-two none third₁ turn a b p is

@@ -1,4 +1,5 @@
 -- A list that is filled, and runs that fill it: how they begin, grow and end.
+use Rattle.std.proofs.Common.{Option, Some, None}
 use mathlib.Core.Path.{◌≡◌, refl, sym, ap, ◌∙◌, subst}
 use mathlib.Core.Bool.{Bool, true, false, cond, not, ◌&&◌, true≢false}
 use mathlib.Core.List.{List}
@@ -13,9 +14,8 @@ use lib.ListN.{length, set, length-set}
 use lib.Seq.{get_or-set_same, get_or-set_other}
 use Rattle.scheme.specs.Lists.{point}
 use Rattle.scheme.specs.Instruments.{beyond}
-use Rattle.steps.specs.declared.progress.Progress.{Progress}
 use Rattle.stretches.specs.declared.Stretch.{Stretch}
-use Rattle.steps.specs.Run.{Next, Filled, NoneBeyond, OneBeyond, Tested, Counted, Ran, Placed}
+use Rattle.steps.specs.Run.{Next, Filled, NoneBeyond, OneBeyond, Tested, Counted, Ran, Placed, all_within, inexact_of}
 use Rattle.steps.proofs.CountLaws.{counted_none, counted_one, counted_append, counted_most, counted_same}
 
 -- k between from and from + 1 is from
@@ -84,10 +84,6 @@ module _ (v : ℕ → ℤ) (write : Bool) (base : ℕ) where
 
 -- ---- runs
 
--- every value within the ceiling, n of those written inexact
-abbrev pub passed : ℕ → Progress
-passed n = record { within = true; inexact = n }
-
 low_there : (v : ℕ → ℤ) (at : ℕ) → beyond (v at) ≡ false → NoneBeyond v at (at + 1)
 low_there v at b k p q = subst (λ (k : ℕ). beyond (v k) ≡ false) (sym (one_place at k p q)) b
 
@@ -102,15 +98,15 @@ module _ {v : ℕ → Next} {write : Bool} {base : ℕ} where
   -- all of the points
   pub ran_all : {out₀ out : List ℤ} {a b n : ℕ} → Filled (value_of v) write base out₀ out a b → NoneBeyond (value_of v) a b
       → Counted (test_of write v) a b n
-      → Ran v write base out₀ out a b (passed n)
+      → Ran v write base out₀ out a b (Some n)
   ran_all f low c = record { long = f.long; filled = λ t. f; low = λ t. low; counted = λ t. c; stopped = λ t. absurd (true≢false t) }
 
   -- none of them
-  pub ran_none : (out : List ℤ) (a : ℕ) → Ran v write base out out a a (passed 0)
+  pub ran_none : (out : List ℤ) (a : ℕ) → Ran v write base out out a a (Some 0)
   ran_none out a = ran_all (filled_none (value_of v) write base out a) (λ k p q. absurd (omega arith)) (counted_none a)
 
   -- one lies beyond the ceiling
-  pub ran_not : {out₀ out : List ℤ} {a b : ℕ} {r : Progress} → length out ≡ length out₀ → OneBeyond (value_of v) a b → r.within ≡ false
+  pub ran_not : {out₀ out : List ℤ} {a b : ℕ} {r : Option ℕ} → length out ≡ length out₀ → OneBeyond (value_of v) a b → all_within r ≡ false
       → Ran v write base out₀ out a b r
   ran_not l o e = record {
     long = l;
@@ -122,29 +118,30 @@ module _ {v : ℕ → Next} {write : Bool} {base : ℕ} where
 
   -- one point: beyond the ceiling, written, or tested alone
   module _ (out : List ℤ) (at : ℕ) where
-    pub point-beyond : beyond (v at).value ≡ true → Ran v write base out out at (at + 1) (record { within = false; inexact = 0 })
+    pub point-beyond : beyond (v at).value ≡ true → Ran v write base out out at (at + 1) None
     point-beyond b = ran_not refl (record { at = at; first = omega arith; last = omega arith; beyond_there = b }) refl
 
     pub point_written : (x : ℤ) (n : ℕ) → write ≡ true → base ≤ at → at < base + length out → x ≡ (v at).value → n ≡ cond (v at).inexact 1 0
-        → beyond (v at).value ≡ false → Ran v write base out (set out (at - base) x) at (at + 1) (passed n)
+        → beyond (v at).value ≡ false → Ran v write base out (set out (at - base) x) at (at + 1) (Some n)
     point_written x n w low high e c b =
         ran_all (filled_one (value_of v) write base out at x w low high e) (low_there (value_of v) at b)
         (counted_one at n (c ∙ ap (λ (t : Bool). cond (t && (v at).inexact) 1 0) (sym w)))
 
-    pub point_tested : write ≡ false → beyond (v at).value ≡ false → Ran v write base out out at (at + 1) (passed 0)
+    pub point_tested : write ≡ false → beyond (v at).value ≡ false → Ran v write base out out at (at + 1) (Some 0)
     point_tested w b = ran_all (filled_not (value_of v) write base out at (at + 1) w) (low_there (value_of v) at b)
         (counted_one at 0 (ap (λ (t : Bool). cond (t && (v at).inexact) 1 0) (sym w)))
 
   -- what was answered, by the test that was made of it
-  pub ran_passed : {out₀ out : List ℤ} {a b : ℕ} {r : Progress} → r.within ≡ true → Ran v write base out₀ out a b r
-      → Ran v write base out₀ out a b (passed r.inexact)
-  ran_passed {out₀} {out} {a} {b} {r} e q = coe 0 1 (j. Ran v write base out₀ out a b (record { within = e j; inexact = r.inexact })) q
+  pub ran_passed : {out₀ out : List ℤ} {a b : ℕ} {r : Option ℕ} → all_within r ≡ true → Ran v write base out₀ out a b r
+      → Ran v write base out₀ out a b (Some (inexact_of r))
+  ran_passed {r = Some n} e q = q
+  ran_passed {r = None} e q = absurd (true≢false (sym e))
 
   module _ {out₀ out₁ out₂ : List ℤ} {a b c m : ℕ} (above : base ≤ a) (l : a ≤ b) (h : b ≤ c)
-      (p : Ran v write base out₀ out₁ a b (passed m))
+      (p : Ran v write base out₀ out₁ a b (Some m))
     where
       -- one run after the other
-      pub ran_append : {n : ℕ} → Ran v write base out₁ out₂ b c (passed n) → Ran v write base out₀ out₂ a c (passed (m + n))
+      pub ran_append : {n : ℕ} → Ran v write base out₁ out₂ b c (Some n) → Ran v write base out₀ out₂ a c (Some (m + n))
       ran_append q = record {
         long = q.long ∙ p.long;
         filled = λ t. filled_append (value_of v) write base above l h (p.filled refl) (q.filled refl);
@@ -154,7 +151,7 @@ module _ {v : ℕ → Next} {write : Bool} {base : ℕ} where
       }
 
       -- the other one stopped
-      pub ran_stops : {d : ℕ} {r : Progress} → c ≤ d → Ran v write base out₁ out₂ b c r → r.within ≡ false
+      pub ran_stops : {d : ℕ} {r : Option ℕ} → c ≤ d → Ran v write base out₁ out₂ b c r → all_within r ≡ false
           → Ran v write base out₀ out₂ a d r
       ran_stops m q e =
           let o = q.stopped e in
@@ -162,7 +159,7 @@ module _ {v : ℕ → Next} {write : Bool} {base : ℕ} where
           (record { at = o.at; first = omega (arith, o.first); last = omega (arith, o.last); beyond_there = o.beyond_there }) e
 
 -- the same run, by other words for what is made of its points
-pub ran_same : {v w : ℕ → Next} {write : Bool} {base : ℕ} {out₀ out : List ℤ} {a b : ℕ} {r : Progress} → a ≤ b
+pub ran_same : {v w : ℕ → Next} {write : Bool} {base : ℕ} {out₀ out : List ℤ} {a b : ℕ} {r : Option ℕ} → a ≤ b
     → ((k : ℕ) → a ≤ k → k < b → v k ≡ w k)
     → Ran v write base out₀ out a b r → Ran w write base out₀ out a b r
 ran_same {write = write} l same p = record {
@@ -189,7 +186,7 @@ placed_after {s} p e = subst (Placed s) (sym e) p
 -- ---- a loop over a run: the points from..at are done, n of them inexact
 
 pub record Running (v : ℕ → Next) (write : Bool) (base : ℕ) (out₀ : List ℤ) (from to : ℕ) (out : List ℤ) (at n : ℕ) : Type 0 where
-  pub ran : Ran v write base out₀ out from at (passed n)
+  pub ran : Ran v write base out₀ out from at (Some n)
   pub above : base ≤ from
   pub order : from ≤ at
   pub upto : at ≤ to
@@ -198,32 +195,32 @@ module _ {v : ℕ → Next} {write : Bool} {base : ℕ} where
   pub running_start : (out : List ℤ) (from to : ℕ) → base ≤ from → from ≤ to → Running v write base out from to out from 0
   running_start out from to above h = record { ran = ran_none out from; above = above; order = omega arith; upto = h }
 
-  module _ {out₀ out out' : List ℤ} {from to at next n : ℕ} {r : Progress} (g : Running v write base out₀ from to out at n) (h : at ≤ next)
+  module _ {out₀ out out' : List ℤ} {from to at next n : ℕ} {r : Option ℕ} (g : Running v write base out₀ from to out at n) (h : at ≤ next)
       (q : Ran v write base out out' at next r) where
     -- some points more
-    module _ (e : r.within ≡ true) where
-      more : Ran v write base out₀ out' from next (passed (n + r.inexact))
+    module _ (e : all_within r ≡ true) where
+      more : Ran v write base out₀ out' from next (Some (n + inexact_of r))
       more = ran_append g.above g.order h g.ran (ran_passed e q)
 
-      pub running_on : next ≤ to → Running v write base out₀ from to out' next (n + r.inexact)
+      pub running_on : next ≤ to → Running v write base out₀ from to out' next (n + inexact_of r)
       running_on l = record { ran = more; above = g.above; order = omega (arith, g.order); upto = l }
 
       -- no more of them are inexact than there are
-      pub running_most : n + r.inexact ≤ next
+      pub running_most : n + inexact_of r ≤ next
       running_most = counted_most (more.counted refl)
 
     -- one of them lies beyond the ceiling
-    pub running_stops : next ≤ to → r.within ≡ false → Ran v write base out₀ out' from to r
+    pub running_stops : next ≤ to → all_within r ≡ false → Ran v write base out₀ out' from to r
     running_stops l e = ran_stops g.above g.order h g.ran l q e
 
   -- at its end
   pub running_done : {out₀ out : List ℤ} {from to at n : ℕ} → Running v write base out₀ from to out at n → to ≤ at
-      → Ran v write base out₀ out from to (passed n)
+      → Ran v write base out₀ out from to (Some n)
   running_done {out₀} {out} {from} {to} {n = n} g h =
-      subst (λ (m : ℕ). Ran v write base out₀ out from m (passed n)) (omega (arith, g.upto)) g.ran
+      subst (λ (m : ℕ). Ran v write base out₀ out from m (Some n)) (omega (arith, g.upto)) g.ran
 
   -- the same run, by other words for its end
-  pub ran_ends : {out₀ out : List ℤ} {a b b' : ℕ} {r : Progress} → b ≡ b' → Ran v write base out₀ out a b r
+  pub ran_ends : {out₀ out : List ℤ} {a b b' : ℕ} {r : Option ℕ} → b ≡ b' → Ran v write base out₀ out a b r
       → Ran v write base out₀ out a b' r
   ran_ends {out₀} {out} {a} {r = r} e q = subst (λ (n : ℕ). Ran v write base out₀ out a n r) e q
 

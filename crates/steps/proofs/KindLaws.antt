@@ -15,7 +15,8 @@ use Rattle.types.specs.declared.Grid.{Grid}
 use Rattle.types.specs.declared.Instrument.{Instrument}
 use Rattle.types.specs.Numbers.{D}
 use Rattle.scheme.specs.Lists.{square}
-use Rattle.scheme.specs.Instruments.{Kind, unknown, fixedString, halfFreeString, freeString, bar, membrane, roundMembrane, plate}
+use Rattle.types.specs.declared.Kind.{Kind}
+use Rattle.types.specs.declared.Kind.TheVariants.{Unknown, StringFixed, StringFixedFree, StringFree, Bar, MembraneRectangular, MembraneRound, Plate}
 use Rattle.scheme.specs.Instruments.{kind, points, column, row, within, line_size, grid_size, size_in, stable_in, at_edge, outer_ring}
 use Rattle.scheme.specs.Instruments.{in_table, off_centre, round_edge, fixed_in, fixed, moving, free_in, free_end}
 use Rattle.scheme.proofs.Laws.Bools.{and_both, or_neither}
@@ -76,16 +77,16 @@ second_equal : (t : Bool) (a b : ℕ) → (t && eqb a b) ≡ true → a ≡ b
 second_equal t a b e = eqb-true a b (and_both t (eqb a b) e).1
 
 -- stiffness is a bar's or a plate's alone
-stiff-kind : (K : Kind) (q m : ℕ) → stable_in K q m ≡ true → (m ≡ 0) ⊎ ((K ≡ bar) ⊎ (K ≡ plate))
+stiff-kind : (K : Kind) (q m : ℕ) → stable_in K q m ≡ true → (m ≡ 0) ⊎ ((K ≡ Bar) ⊎ (K ≡ Plate))
 unfolding stable_in
-stiff-kind unknown q m e = absurd (true≢false (sym e))
-stiff-kind fixedString q m e = inl (second_equal (leb q D) m 0 e)
-stiff-kind halfFreeString q m e = inl (second_equal (leb q D) m 0 e)
-stiff-kind freeString q m e = inl (second_equal (leb q D) m 0 e)
-stiff-kind bar q m e = inr (inl refl)
-stiff-kind membrane q m e = inl (second_equal (leb (2 * q) D) m 0 e)
-stiff-kind roundMembrane q m e = inl (second_equal (leb (2 * q) D) m 0 e)
-stiff-kind plate q m e = inr (inr refl)
+stiff-kind Unknown q m e = absurd (true≢false (sym e))
+stiff-kind StringFixed q m e = inl (second_equal (leb q D) m 0 e)
+stiff-kind StringFixedFree q m e = inl (second_equal (leb q D) m 0 e)
+stiff-kind StringFree q m e = inl (second_equal (leb q D) m 0 e)
+stiff-kind Bar q m e = inr (inl refl)
+stiff-kind MembraneRectangular q m e = inl (second_equal (leb (2 * q) D) m 0 e)
+stiff-kind MembraneRound q m e = inl (second_equal (leb (2 * q) D) m 0 e)
+stiff-kind Plate q m e = inr (inr refl)
 
 module _ (c r : ℕ) where
   -- membranes and plates have three rows or more
@@ -98,15 +99,15 @@ module _ (c r : ℕ) where
   -- a moving end of a line is free
   end_free : (K : Kind) (a b : ℕ) → size_in K c r ≡ true → r ≡ 1 → fixed_in K c r a b ≡ false → Edge c a → free_in K c a ≡ true
   unfolding fixed_in free_in size_in
-  end_free unknown a b s l e o = absurd (true≢false (sym s))
-  end_free fixedString a b s l e o = absurd (off-edge c a e o)
-  end_free halfFreeString a b s l e (inl h) = absurd (eqb-false a 0 e h)
-  end_free halfFreeString a b s l e (inr h) = eq-eqb (a + 1) c h
-  end_free freeString a b s l e o = at_edge_lem c a o
-  end_free bar a b s l e o = absurd (off-edge c a e o)
-  end_free membrane a b s l e o = absurd (omega (arith, grid_rows s))
-  end_free roundMembrane a b s l e o = absurd (omega (arith, round_rows s))
-  end_free plate a b s l e o = absurd (omega (arith, grid_rows s))
+  end_free Unknown a b s l e o = absurd (true≢false (sym s))
+  end_free StringFixed a b s l e o = absurd (off-edge c a e o)
+  end_free StringFixedFree a b s l e (inl h) = absurd (eqb-false a 0 e h)
+  end_free StringFixedFree a b s l e (inr h) = eq-eqb (a + 1) c h
+  end_free StringFree a b s l e o = at_edge_lem c a o
+  end_free Bar a b s l e o = absurd (off-edge c a e o)
+  end_free MembraneRectangular a b s l e o = absurd (omega (arith, grid_rows s))
+  end_free MembraneRound a b s l e o = absurd (omega (arith, round_rows s))
+  end_free Plate a b s l e o = absurd (omega (arith, grid_rows s))
 
   line_rows : line_size c r ≡ true → r ≡ 1
   line_rows s = second_equal (within 3 1024 c) r 1 s
@@ -120,47 +121,47 @@ module _ (c r : ℕ) where
   -- where a kind has more rows than one, no end is free, and each point at the edge is fixed
   grid-held : (K : Kind) (a : ℕ) → size_in K c r ≡ true → (r ≡ 1 → ⊥) → free_in K c a ≡ false
   unfolding free_in size_in
-  grid-held unknown a s n = refl
-  grid-held fixedString a s n = refl
-  grid-held halfFreeString a s n = absurd (n (line_rows s))
-  grid-held freeString a s n = absurd (n (line_rows s))
-  grid-held bar a s n = refl
-  grid-held membrane a s n = refl
-  grid-held roundMembrane a s n = refl
-  grid-held plate a s n = refl
+  grid-held Unknown a s n = refl
+  grid-held StringFixed a s n = refl
+  grid-held StringFixedFree a s n = absurd (n (line_rows s))
+  grid-held StringFree a s n = absurd (n (line_rows s))
+  grid-held Bar a s n = refl
+  grid-held MembraneRectangular a s n = refl
+  grid-held MembraneRound a s n = refl
+  grid-held Plate a s n = refl
 
   -- "two neighbours, or four": by the rows, and by the kind
   count_in : (K : Kind) → size_in K c r ≡ true → cond (eqb r 1) 2 4 ≡ degree K
   unfolding size_in
-  count_in unknown s = absurd (true≢false (sym s))
-  count_in fixedString s = two (line_rows s)
-  count_in halfFreeString s = two (line_rows s)
-  count_in freeString s = two (line_rows s)
-  count_in bar s = two (line_rows s)
-  count_in membrane s = four (grid_rows s)
-  count_in roundMembrane s = four (round_rows s)
-  count_in plate s = four (grid_rows s)
+  count_in Unknown s = absurd (true≢false (sym s))
+  count_in StringFixed s = two (line_rows s)
+  count_in StringFixedFree s = two (line_rows s)
+  count_in StringFree s = two (line_rows s)
+  count_in Bar s = two (line_rows s)
+  count_in MembraneRectangular s = four (grid_rows s)
+  count_in MembraneRound s = four (round_rows s)
+  count_in Plate s = four (grid_rows s)
 
   off_ring : (a b : ℕ) → outer_ring c r a b ≡ false → (Edge c a → ⊥) × (Edge r b → ⊥)
   off_ring a b e = let u = or_neither (at_edge c a) (at_edge r b) e in (off-edge c a u.0, off-edge r b u.1)
 
   grid_edges : (K : Kind) (a b : ℕ) → size_in K c r ≡ true → (r ≡ 1 → ⊥) → fixed_in K c r a b ≡ false → (Edge c a → ⊥) × (Edge r b → ⊥)
   unfolding fixed_in size_in
-  grid_edges unknown a b s n e = absurd (true≢false (sym s))
-  grid_edges fixedString a b s n e = absurd (n (line_rows s))
-  grid_edges halfFreeString a b s n e = absurd (n (line_rows s))
-  grid_edges freeString a b s n e = absurd (n (line_rows s))
-  grid_edges bar a b s n e = absurd (n (line_rows s))
-  grid_edges membrane a b s n e = off_ring a b e
-  grid_edges roundMembrane a b s n e =
+  grid_edges Unknown a b s n e = absurd (true≢false (sym s))
+  grid_edges StringFixed a b s n e = absurd (n (line_rows s))
+  grid_edges StringFixedFree a b s n e = absurd (n (line_rows s))
+  grid_edges StringFree a b s n e = absurd (n (line_rows s))
+  grid_edges Bar a b s n e = absurd (n (line_rows s))
+  grid_edges MembraneRectangular a b s n e = off_ring a b e
+  grid_edges MembraneRound a b s n e =
       (round_column c a b e, subst (λ (n : ℕ). Edge n b → ⊥) (sym (second_equal (within 3 64 c) r c s)) (round_row c a b e))
-  grid_edges plate a b s n e = off_ring a b e
+  grid_edges Plate a b s n e = off_ring a b e
 
-  bar_line : (K : Kind) → K ≡ bar → size_in K c r ≡ true → r ≡ 1
+  bar_line : (K : Kind) → K ≡ Bar → size_in K c r ≡ true → r ≡ 1
   unfolding size_in
   bar_line K e s = line_rows (subst (λ (K : Kind). size_in K c r ≡ true) e s)
 
-  plate_in : (K : Kind) → K ≡ plate → size_in K c r ≡ true → (c ≤ 64) × (3 ≤ r)
+  plate_in : (K : Kind) → K ≡ Plate → size_in K c r ≡ true → (c ≤ 64) × (3 ≤ r)
   unfolding size_in
   plate_in K e s =
       let t = subst (λ (K : Kind). size_in K c r ≡ true) e s in
@@ -183,7 +184,7 @@ module _ (g : Grid) (size : in_table g ≡ true) where
   pub count-degree : count_of g ≡ degree (kind g)
   count-degree = count_in g.columns g.rows (kind g) size
 
-  pub plate_sized : kind g ≡ plate → (g.columns ≤ 64) × (3 ≤ g.rows)
+  pub plate_sized : kind g ≡ Plate → (g.columns ≤ 64) × (3 ≤ g.rows)
   plate_sized e = plate_in g.columns g.rows (kind g) e size
 
   module _ (line : g.rows ≡ 1) (k : ℕ) (m : moving g k ≡ true) where
@@ -199,7 +200,7 @@ module _ (g : Grid) (size : in_table g ≡ true) where
         (subst (Edge g.columns) (sym line-column) o)
 
     -- a bar's ends do not move
-    pub bar_inner : kind g ≡ bar → (0 < k) × (k + 1 < g.columns)
+    pub bar_inner : kind g ≡ Bar → (0 < k) × (k + 1 < g.columns)
     unfolding fixed_in
     bar_inner is_bar =
         let held = subst (λ (K : Kind). fixed_in K g.columns g.rows (column g k) (row g k) ≡ false) is_bar (moves_free g k m) in
@@ -222,23 +223,23 @@ module _ (g : Grid) (size : in_table g ≡ true) where
 
 module _ (i : Instrument) (ok : InstrumentPasses i) where
   abbrev stiffly : Type 0
-  stiffly = (i.settings.m ≡ 0) ⊎ ((kind i.grid ≡ bar) ⊎ (kind i.grid ≡ plate))
+  stiffly = (i.settings.m ≡ 0) ⊎ ((kind i.grid ≡ Bar) ⊎ (kind i.grid ≡ Plate))
 
   stiff : stiffly
   stiff = stiff-kind (kind i.grid) i.settings.q i.settings.m ok.stable
 
-  pub line-stiff : i.grid.rows ≡ 1 → (i.settings.m ≡ 0) ⊎ (kind i.grid ≡ bar)
+  pub line-stiff : i.grid.rows ≡ 1 → (i.settings.m ≡ 0) ⊎ (kind i.grid ≡ Bar)
   line-stiff line = go stiff
     where
-      go : stiffly → (i.settings.m ≡ 0) ⊎ (kind i.grid ≡ bar)
+      go : stiffly → (i.settings.m ≡ 0) ⊎ (kind i.grid ≡ Bar)
       go (inl e) = inl e
       go (inr (inl e)) = inr e
       go (inr (inr e)) = absurd (omega (arith, plate_sized i.grid ok.size e))
 
-  pub grid-stiff : (i.grid.rows ≡ 1 → ⊥) → (i.settings.m ≡ 0 → ⊥) → kind i.grid ≡ plate
+  pub grid-stiff : (i.grid.rows ≡ 1 → ⊥) → (i.settings.m ≡ 0 → ⊥) → kind i.grid ≡ Plate
   grid-stiff grid n = go stiff
     where
-      go : stiffly → kind i.grid ≡ plate
+      go : stiffly → kind i.grid ≡ Plate
       go (inl e) = absurd (n e)
       go (inr (inl e)) = absurd (grid (bar_line i.grid.columns i.grid.rows (kind i.grid) e ok.size))
       go (inr (inr e)) = e

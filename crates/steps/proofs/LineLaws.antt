@@ -1,4 +1,5 @@
 -- A stretch of a line in three parts: its first point, its inner points, its last point, as far as they are in it.
+use Rattle.std.proofs.Common.{Option, Some}
 use mathlib.Core.Path.{◌≡◌, refl, ◌∙◌, subst}
 use mathlib.Core.Bool.{false}
 use mathlib.Core.List.{List}
@@ -11,14 +12,13 @@ use Rattle.types.specs.declared.Grid.{Grid}
 use Rattle.types.specs.declared.Instrument.{Instrument}
 use Rattle.scheme.specs.Passing.{InstrumentPasses}
 use Rattle.plans.specs.declared.Plan.{Plan}
-use Rattle.steps.specs.declared.progress.Progress.{Progress}
 use Rattle.stretches.specs.declared.Stretch.{Stretch}
 use Rattle.stretches.specs.Stretches.{clamp, part_of}
 use Rattle.stretches.proofs.StretchLaws.{clamped, clamp-before, clamp-after, clamp-low, clamp_high, clamp_rises}
 use Rattle.steps.specs.Plan.{Ready}
-use Rattle.steps.specs.Run.{Advanced, Moves, Placed, OnLine, FreeEnd}
+use Rattle.steps.specs.Run.{Advanced, Moves, Placed, OnLine, FreeEnd, all_within}
 use Rattle.steps.proofs.CountLaws.{counted_most}
-use Rattle.steps.proofs.FillLaws.{passed, ran_none, ran_append, ran_stops, ran_ends}
+use Rattle.steps.proofs.FillLaws.{ran_none, ran_append, ran_stops, ran_ends}
 use Rattle.steps.proofs.KindLaws.{line_long, wide}
 use Rattle.steps.proofs.BesideLaws.{within-line, first_free, last_free}
 
@@ -109,34 +109,34 @@ module _ (s : Stretch) {p : Plan} {older newer : List ℤ} (r : Ready p s.force 
 
   module _ (placed : s.base ≤ s.from) {out₀ out₁ : List ℤ} where
     -- from the first point of the stretch
-    from_first : {b : ℕ} {r : Progress} → Advanced p s older newer out₀ out₁ (clamp s.from s.to 0) b r
+    from_first : {b : ℕ} {r : Option ℕ} → Advanced p s older newer out₀ out₁ (clamp s.from s.to 0) b r
         → Advanced p s older newer out₀ out₁ s.from b r
     from_first {b} {r} q = subst (λ (a : ℕ). Advanced p s older newer out₀ out₁ a b r) begin q
 
-    pub first_stops : {r : Progress} → Advanced p s older newer out₀ out₁ (clamp s.from s.to 0) (clamp s.from s.to 1) r
-        → r.within ≡ false → Advanced p s older newer out₀ out₁ s.from s.to r
+    pub first_stops : {r : Option ℕ} → Advanced p s older newer out₀ out₁ (clamp s.from s.to 0) (clamp s.from s.to 1) r
+        → all_within r ≡ false → Advanced p s older newer out₀ out₁ s.from s.to r
     first_stops q e =
         ran_stops placed (omega arith) before (ran_none out₀ s.from) (clamp_high s.from s.to order 1) (from_first q) e
 
-    module _ {m : ℕ} (first : Advanced p s older newer out₀ out₁ (clamp s.from s.to 0) (clamp s.from s.to 1) (passed m)) where
-      pub inner_stops : {out₂ : List ℤ} {r : Progress}
-          → Advanced p s older newer out₁ out₂ (clamp s.from s.to 1) (clamp s.from s.to (n - 1)) r → r.within ≡ false
+    module _ {m : ℕ} (first : Advanced p s older newer out₀ out₁ (clamp s.from s.to 0) (clamp s.from s.to 1) (Some m)) where
+      pub inner_stops : {out₂ : List ℤ} {r : Option ℕ}
+          → Advanced p s older newer out₁ out₂ (clamp s.from s.to 1) (clamp s.from s.to (n - 1)) r → all_within r ≡ false
           → Advanced p s older newer out₀ out₂ s.from s.to r
       inner_stops q e = ran_stops placed before inner (from_first first) (clamp_high s.from s.to order (n - 1)) q e
 
       module _ {out₂ : List ℤ} {k : ℕ}
-          (q : Advanced p s older newer out₁ out₂ (clamp s.from s.to 1) (clamp s.from s.to (n - 1)) (passed k)) where
-        two : Advanced p s older newer out₀ out₂ s.from (clamp s.from s.to (n - 1)) (passed (m + k))
+          (q : Advanced p s older newer out₁ out₂ (clamp s.from s.to 1) (clamp s.from s.to (n - 1)) (Some k)) where
+        two : Advanced p s older newer out₀ out₂ s.from (clamp s.from s.to (n - 1)) (Some (m + k))
         two = ran_append placed before inner (from_first first) q
 
-        pub last_stops : {out₃ : List ℤ} {r : Progress}
-            → Advanced p s older newer out₂ out₃ (clamp s.from s.to (n - 1)) (clamp s.from s.to n) r → r.within ≡ false
+        pub last_stops : {out₃ : List ℤ} {r : Option ℕ}
+            → Advanced p s older newer out₂ out₃ (clamp s.from s.to (n - 1)) (clamp s.from s.to n) r → all_within r ≡ false
             → Advanced p s older newer out₀ out₃ s.from s.to r
         last_stops t e = ran_stops placed to_inner to_last two (clamp_high s.from s.to order n) t e
 
         module _ {out₃ : List ℤ} {j : ℕ}
-            (t : Advanced p s older newer out₂ out₃ (clamp s.from s.to (n - 1)) (clamp s.from s.to n) (passed j)) where
-          pub all_parts : Advanced p s older newer out₀ out₃ s.from s.to (passed (m + k + j))
+            (t : Advanced p s older newer out₂ out₃ (clamp s.from s.to (n - 1)) (clamp s.from s.to n) (Some j)) where
+          pub all_parts : Advanced p s older newer out₀ out₃ s.from s.to (Some (m + k + j))
           all_parts = ran_ends end (ran_append placed to_inner to_last two t)
 
           -- no more points are inexact than there are

@@ -1,4 +1,6 @@
 -- A pass over points, whose values are put into out or into older itself: how it begins, grows and ends.
+use Rattle.std.proofs.Common.{Option, Some}
+use Rattle.std.specs.Bool.{then_some}
 use mathlib.Core.Path.{◌≡◌, refl, sym, ap, ◌∙◌, subst}
 use mathlib.Core.Bool.{Bool, true, false, cond, not, ◌&&◌, true≢false}
 use mathlib.Core.List.{List}
@@ -20,15 +22,14 @@ use Rattle.scheme.specs.Step.{inexact_at}
 use Rattle.plans.specs.declared.Plan.{Plan}
 use Rattle.stretches.specs.declared.Stretch.{Stretch}
 use Rattle.stretches.specs.Pieces.{piece, base_of}
-use Rattle.steps.specs.declared.progress.Progress.{Progress}
 use Rattle.steps.specs.Plan.{Ready}
-use Rattle.steps.specs.Run.{next_of, Filled, Tested, Stepping, Placed}
+use Rattle.steps.specs.Run.{next_of, Filled, Tested, Stepping, Placed, all_within, inexact_of}
 use Rattle.steps.specs.Pass.{target, RowRoom, Passing}
 use Rattle.steps.proofs.CountLaws.{counted_most, counted_not}
-use Rattle.steps.proofs.FillLaws.{filled_not, passed, ran_none, ran_not, ran_passed, ran_append, ran_stops, ran_same}
+use Rattle.steps.proofs.FillLaws.{filled_not, ran_all, ran_none, ran_not, ran_passed, ran_append, ran_stops, ran_same}
 
 -- what is made of a point goes by older at that point alone
-next_older : (i : Instrument) (h : Hit) (older older' newer : List ℤ) (k : ℕ) → point older k ≡ point older' k
+next_older : (i : Instrument) (h : Option Hit) (older older' newer : List ℤ) (k : ℕ) → point older k ≡ point older' k
     → next_of i h older newer k ≡ next_of i h older' newer k
 unfolding next_at inexact_at numerator
 next_older i h older older' newer k e =
@@ -42,36 +43,36 @@ next_older i h older older' newer k e =
         (force_of h k)
 
 -- from its end on older is as it was
-ahead : (i : Instrument) (h : Hit) (write inPlace : Bool) {older₀ newer out₀ older out : List ℤ} {a b n : ℕ}
-    → Passing i h write inPlace older₀ newer out₀ older out a b (passed n) → (k : ℕ) → b ≤ k → point older k ≡ point older₀ k
+ahead : (i : Instrument) (h : Option Hit) (write inPlace : Bool) {older₀ newer out₀ older out : List ℤ} {a b n : ℕ}
+    → Passing i h write inPlace older₀ newer out₀ older out a b (Some n) → (k : ℕ) → b ≤ k → point older k ≡ point older₀ k
 ahead i h write true p k l = (p.ran.filled refl).kept k (inr (inr (omega arith)))
 ahead i h write false p k l = ap (λ (xs : List ℤ). point xs k) (p.kept refl)
 
-module _ {i : Instrument} {h : Hit} {write inPlace : Bool} {newer : List ℤ} where
+module _ {i : Instrument} {h : Option Hit} {write inPlace : Bool} {newer : List ℤ} where
   -- no point yet
-  pub passing_none : (older out : List ℤ) (a : ℕ) → Passing i h write inPlace older newer out older out a a (passed 0)
+  pub passing_none : (older out : List ℤ) (a : ℕ) → Passing i h write inPlace older newer out older out a a (Some 0)
   passing_none older out a = record { ran = ran_none _ a; older_long = refl; out_long = refl; kept = λ e. refl }
 
   -- the same, by other words for its end
-  pub passing_ends : {older₀ out₀ older out : List ℤ} {a b b' : ℕ} {r : Progress} → b ≡ b'
+  pub passing_ends : {older₀ out₀ older out : List ℤ} {a b b' : ℕ} {r : Option ℕ} → b ≡ b'
       → Passing i h write inPlace older₀ newer out₀ older out a b r → Passing i h write inPlace older₀ newer out₀ older out a b' r
   passing_ends {older₀} {out₀} {older} {out} {a} {r = r} e p =
       subst (λ (n : ℕ). Passing i h write inPlace older₀ newer out₀ older out a n r) e p
 
   -- no more points are inexact than there are
-  pub passing_most : {older₀ out₀ older out : List ℤ} {a b n : ℕ} → Passing i h write inPlace older₀ newer out₀ older out a b (passed n)
+  pub passing_most : {older₀ out₀ older out : List ℤ} {a b n : ℕ} → Passing i h write inPlace older₀ newer out₀ older out a b (Some n)
       → n ≤ b
   passing_most p = counted_most (p.ran.counted refl)
 
-  module _ {older₀ out₀ older₁ out₁ older₂ out₂ : List ℤ} {a b c m : ℕ} {r : Progress} (l : a ≤ b) (u : b ≤ c)
-      (p : Passing i h write inPlace older₀ newer out₀ older₁ out₁ a b (passed m))
+  module _ {older₀ out₀ older₁ out₁ older₂ out₂ : List ℤ} {a b c m : ℕ} {r : Option ℕ} (l : a ≤ b) (u : b ≤ c)
+      (p : Passing i h write inPlace older₀ newer out₀ older₁ out₁ a b (Some m))
       (q : Passing i h write inPlace older₁ newer out₁ older₂ out₂ b c r) where
     -- the second by the levels that the first was given
     second : Stepping i h write 0 older₀ newer (target inPlace older₁ out₁) (target inPlace older₂ out₂) b c r
     second = ran_same u (λ k s t. next_older i h older₁ older₀ newer k (ahead i h write inPlace p k s)) q.ran
 
     -- one after the other
-    pub passing_append : r.within ≡ true → Passing i h write inPlace older₀ newer out₀ older₂ out₂ a c (passed (m + r.inexact))
+    pub passing_append : all_within r ≡ true → Passing i h write inPlace older₀ newer out₀ older₂ out₂ a c (Some (m + inexact_of r))
     passing_append e = record {
       ran = ran_append zero-le l u p.ran (ran_passed e second);
       older_long = q.older_long ∙ p.older_long;
@@ -80,7 +81,7 @@ module _ {i : Instrument} {h : Hit} {write inPlace : Bool} {newer : List ℤ} wh
     }
 
     -- the second stopped
-    pub passing_stops : {d : ℕ} → c ≤ d → r.within ≡ false → Passing i h write inPlace older₀ newer out₀ older₂ out₂ a d r
+    pub passing_stops : {d : ℕ} → c ≤ d → all_within r ≡ false → Passing i h write inPlace older₀ newer out₀ older₂ out₂ a d r
     passing_stops o e = record {
       ran = ran_stops zero-le l u p.ran o second e;
       older_long = q.older_long ∙ p.older_long;
@@ -103,8 +104,8 @@ piece_placed true o few h r s = record { order = o; above = omega arith; room = 
 piece_placed false o few h r s = record { order = o; above = omega arith; room = omega (arith, h, r.for_all refl) }
 
 -- and put into older, if it is written in place
-piece_passing : (i : Instrument) (h : Hit) (write inPlace : Bool) {newer older out older₁ out₁ : List ℤ} {a b base : ℕ} {r : Progress}
-    → (inPlace ≡ false → base ≡ 0) → Stepping i h write base older newer out out₁ a b r → r.within ≡ true
+piece_passing : (i : Instrument) (h : Option Hit) (write inPlace : Bool) {newer older out older₁ out₁ : List ℤ} {a b base : ℕ} {r : Option ℕ}
+    → (inPlace ≡ false → base ≡ 0) → Stepping i h write base older newer out out₁ a b r → all_within r ≡ true
     → Filled (λ k. point out₁ (k - base)) (inPlace && write) 0 older older₁ a b → ((inPlace && write) ≡ false → older₁ ≡ older)
     → Passing i h write inPlace older newer out older₁ out₁ a b r
 piece_passing i h true true z q e f o = record {
@@ -143,8 +144,8 @@ piece_passing i h write false {newer} {older} {out} {older₁} {out₁} {a} {b} 
 }
 
 -- one of its values lies beyond the ceiling
-piece_stops : (i : Instrument) (h : Hit) (write inPlace : Bool) {newer older out out₁ : List ℤ} {a b base : ℕ} {r : Progress}
-    → (inPlace ≡ false → base ≡ 0) → Stepping i h write base older newer out out₁ a b r → r.within ≡ false
+piece_stops : (i : Instrument) (h : Option Hit) (write inPlace : Bool) {newer older out out₁ : List ℤ} {a b base : ℕ} {r : Option ℕ}
+    → (inPlace ≡ false → base ≡ 0) → Stepping i h write base older newer out out₁ a b r → all_within r ≡ false
     → Passing i h write inPlace older newer out older out₁ a b r
 piece_stops i h write true z q e =
     record { ran = ran_not refl (q.stopped e) e; older_long = refl; out_long = q.long; kept = λ t. refl }
@@ -159,15 +160,15 @@ piece_stops i h write false {newer} {older} {out} {out₁} {a} {b} {r = r} z q e
 aside : (inPlace : Bool) (a : ℕ) → inPlace ≡ false → base_of inPlace a ≡ 0
 aside inPlace a f = ap (λ (t : Bool). base_of t a) f
 
-module _ (i : Instrument) (h : Hit) (write inPlace : Bool) {newer older out out₁ : List ℤ} {x : Stretch} {a b : ℕ} {r : Progress}
+module _ (i : Instrument) (h : Option Hit) (write inPlace : Bool) {newer older out out₁ : List ℤ} {x : Stretch} {a b : ℕ} {r : Option ℕ}
     (e : x ≡ record { from = a; to = b; force = pos 0; base = base_of inPlace a; write = write })
     (q : Stepping i h x.write x.base older newer out out₁ x.from x.to r)
   where
-    pub stretch_stops : r.within ≡ false → Passing i h write inPlace older newer out older out₁ a b r
+    pub stretch_stops : all_within r ≡ false → Passing i h write inPlace older newer out older out₁ a b r
     stretch_stops f = piece_stops i h write inPlace (aside inPlace a)
         (subst (λ (x : Stretch). Stepping i h x.write x.base older newer out out₁ x.from x.to r) e q) f
 
-    pub stretch_passing : r.within ≡ true → {older₁ : List ℤ}
+    pub stretch_passing : all_within r ≡ true → {older₁ : List ℤ}
         → Filled (λ k. point out₁ (k - x.base)) (inPlace && x.write) 0 older older₁ x.from x.to
         → ((inPlace && x.write) ≡ false → older₁ ≡ older) → Passing i h write inPlace older newer out older₁ out₁ a b r
     stretch_passing within {older₁} f o = piece_passing i h write inPlace (aside inPlace a)
@@ -177,8 +178,8 @@ module _ (i : Instrument) (h : Hit) (write inPlace : Bool) {newer older out out�
 
 -- ---- the levels after a pass are ready for another
 
-older_low : (i : Instrument) (h : Hit) (write inPlace : Bool) {older₀ newer out₀ older out : List ℤ} {a b n : ℕ}
-    → Passing i h write inPlace older₀ newer out₀ older out a b (passed n) → ((k : ℕ) → nat_abs (point older₀ k) ≤ ceiling)
+older_low : (i : Instrument) (h : Option Hit) (write inPlace : Bool) {older₀ newer out₀ older out : List ℤ} {a b n : ℕ}
+    → Passing i h write inPlace older₀ newer out₀ older out a b (Some n) → ((k : ℕ) → nat_abs (point older₀ k) ≤ ceiling)
     → (k : ℕ) → nat_abs (point older k) ≤ ceiling
 older_low i h write false p low k = subst (λ (xs : List ℤ). nat_abs (point xs k) ≤ ceiling) (sym (p.kept refl)) (low k)
 older_low i h false true p low k =
@@ -195,8 +196,8 @@ older_low i h true true {older₀} {newer} {older = older} {a = a} {b = b} p low
         let put = ap (point older) (sym (sub-zero k)) ∙ (p.ran.filled refl).written refl k (omega (arith, s)) t in
         ltb-false ceiling _ (ap beyond put ∙ p.ran.low refl k (omega (arith, s)) t)
 
-pub passing_ready : {p : Plan} {f : ℤ} {h : Hit} {write inPlace : Bool} {older₀ newer out₀ older out : List ℤ} {a b n : ℕ}
-    → Ready p f older₀ newer → Passing p.instrument h write inPlace older₀ newer out₀ older out a b (passed n)
+pub passing_ready : {p : Plan} {f : ℤ} {h : Option Hit} {write inPlace : Bool} {older₀ newer out₀ older out : List ℤ} {a b n : ℕ}
+    → Ready p f older₀ newer → Passing p.instrument h write inPlace older₀ newer out₀ older out a b (Some n)
     → Ready p f older newer
 passing_ready {p} {h = h} {write} {inPlace} r q = record {
   planned = r.planned;
@@ -210,18 +211,20 @@ passing_ready {p} {h = h} {write} {inPlace} r q = record {
 
 -- ---- a row that was tested alone
 
-pub tested_passing : (i : Instrument) (h : Hit) (inPlace : Bool) {write : Bool} {older newer out : List ℤ} {a b : ℕ} {r : Bool} → a ≤ b
-    → write ≡ false → Tested (next_of i h older newer) a b r
-    → Passing i h write inPlace older newer out older out a b (record { within = r; inexact = 0 })
-tested_passing i h inPlace {write} {older} {newer} {out} {a} {b} l e t = record {
-  ran = record {
-    long = refl;
-    filled = λ u. filled_not _ write 0 (target inPlace older out) a b e;
-    low = t.low;
-    counted = λ u. counted_not l (λ k s m. ap (λ (w : Bool). w && (next_of i h older newer k).inexact) e);
-    stopped = t.stopped;
-  };
-  older_long = refl;
-  out_long = refl;
-  kept = λ u. refl;
-}
+pub tested_passing : (i : Instrument) (h : Option Hit) (inPlace : Bool) {write : Bool} {older newer out : List ℤ} {a b : ℕ} (r : Bool)
+    {x : Option ℕ} → a ≤ b → write ≡ false → Tested (next_of i h older newer) a b r → x ≡ then_some r 0
+    → Passing i h write inPlace older newer out older out a b x
+tested_passing i h inPlace {write} {older} {newer} {out} {a} {b} r l e t is =
+    subst (Passing i h write inPlace older newer out older out a b) (sym is) (record {
+      ran = ran r t;
+      older_long = refl;
+      out_long = refl;
+      kept = λ u. refl;
+    })
+  where
+    ran : (r : Bool) → Tested (next_of i h older newer) a b r
+        → Stepping i h write 0 older newer (target inPlace older out) (target inPlace older out) a b (then_some r 0)
+    ran true t =
+        ran_all (filled_not _ write 0 (target inPlace older out) a b e) (t.low refl)
+        (counted_not l (λ k s m. ap (λ (w : Bool). w && (next_of i h older newer k).inexact) e))
+    ran false t = ran_not refl (t.stopped refl) refl

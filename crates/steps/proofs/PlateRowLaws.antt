@@ -1,4 +1,5 @@
 -- A step of a whole plate, row by row: the sums of two rows in turn.
+use Rattle.std.proofs.Common.{Option, Some}
 use mathlib.Core.Path.{◌≡◌, refl, sym, ap, ◌∙◌, subst}
 use mathlib.Core.Bool.{Bool, true, false, cond, not, ◌&&◌}
 use mathlib.Core.List.{List}
@@ -16,7 +17,9 @@ use Rattle.types.specs.declared.Instrument.{Instrument}
 use Rattle.types.specs.declared.Hit.{Hit}
 use Rattle.types.specs.Numbers.{ceiling}
 use Rattle.scheme.specs.Lists.{point}
-use Rattle.scheme.specs.Instruments.{Kind, plate, kind, points, in_table, moving}
+use Rattle.types.specs.declared.Kind.{Kind}
+use Rattle.types.specs.declared.Kind.TheVariants.{Plate}
+use Rattle.scheme.specs.Instruments.{kind, points, in_table, moving}
 use Rattle.scheme.proofs.Laws.Bools.{neither_or}
 use Rattle.kinds.specs.Runs.{run, run_in, inner_run, run_of}
 use Rattle.kinds.proofs.RunLaws.{run_is}
@@ -24,14 +27,12 @@ use Rattle.levels.proofs.LevelLaws.{next_row}
 use Rattle.plans.specs.declared.Plan.{Plan}
 use Rattle.stretches.specs.declared.Stretch.{Stretch}
 use Rattle.steps.specs.declared.plates.SumRows.{SumRows}
-use Rattle.steps.specs.declared.progress.Progress.{Progress}
 use Rattle.steps.specs.Plan.{AtMost, Ready, inner_sum}
-use Rattle.steps.specs.Run.{Filled, Stepping, Placed, four_beside}
+use Rattle.steps.specs.Run.{Filled, Stepping, Placed, four_beside, all_within, inexact_of}
 use Rattle.steps.specs.Steps.{Steppable}
 use Rattle.steps.specs.Pass.{target, Passable, Passing, Passed}
 use Rattle.steps.specs.Plates.{SumRow, TwoRows, InRow, moving_in}
 use Rattle.steps.proofs.KindLaws.{Edge, at_edge_lem, wide, plate_sized}
-use Rattle.steps.proofs.FillLaws.{passed}
 use Rattle.steps.proofs.PassLaws.{passing_none, passing_ready, piece_placed, stretch_stops, stretch_passing}
 use Rattle.steps.proofs.RowLaws.{RowRun, row-run, Rows, rows_start, rows_more, rows_most, rows_stop, rows_done, steppable_ready}
 use Rattle.steps.proofs.RowLaws.{run_moves, row_room, stepped-all, stepped-not}
@@ -39,7 +40,7 @@ use Rattle.steps.proofs.PlateLaws.{put_low, sum-still, sum_around, sum_low}
 
 -- ---- the rows of a plate
 
-module _ (g : Grid) (size : in_table g ≡ true) (is-plate : kind g ≡ plate) (row : ℕ) (h : row < g.rows) where
+module _ (g : Grid) (size : in_table g ≡ true) (is-plate : kind g ≡ Plate) (row : ℕ) (h : row < g.rows) where
   plate_run : run_of g row ≡ inner_run g.columns g.rows row
   unfolding run_in
   plate_run = run_is g row size h ∙ ap (λ (K : Kind). run_in K g.columns g.rows row) is-plate
@@ -101,7 +102,7 @@ turn_apart first h = inl (omega arith)
 
 -- ---- a loop over the rows: those above have their next values, n of them inexact, the sums of the row and of the one above it stand
 
-pub record PlateRows (i : Instrument) (h : Hit) (write inPlace : Bool) (older₀ newer out₀ older out sums : List ℤ)
+pub record PlateRows (i : Instrument) (h : Option Hit) (write inPlace : Bool) (older₀ newer out₀ older out sums : List ℤ)
     (other here row start n : ℕ) : Type 0 where
   pub rows : Rows i h write inPlace older₀ newer out₀ older out row start n
   pub some : 1 ≤ row
@@ -112,8 +113,8 @@ pub record PlateRows (i : Instrument) (h : Hit) (write inPlace : Bool) (older₀
   pub here_row : SumRow i.grid newer sums start here
   pub low : AtMost (4 * ceiling) (point sums)
 
-module _ {p : Plan} {h : Hit} {inPlace : Bool} {older₀ newer out₀ : List ℤ} (a : Passable p h inPlace older₀ newer out₀)
-    (is-plate : kind p.instrument.grid ≡ plate)
+module _ {p : Plan} {h : Option Hit} {inPlace : Bool} {older₀ newer out₀ : List ℤ} (a : Passable p h inPlace older₀ newer out₀)
+    (is-plate : kind p.instrument.grid ≡ Plate)
   where
     abbrev s : Steppable p h older₀ newer (target inPlace older₀ out₀)
     s = a.given
@@ -290,8 +291,8 @@ module _ {p : Plan} {h : Hit} {inPlace : Bool} {older₀ newer out₀ : List ℤ
       }
 
       -- after its last one
-      module _ {older' out' sums' : List ℤ} {x : Progress}
-          (q : Passing i h write inPlace older newer out older' out' (start + 1) (start + (g.columns - 1)) x) (e : x.within ≡ true)
+      module _ {older' out' sums' : List ℤ} {x : Option ℕ}
+          (q : Passing i h write inPlace older newer out older' out' (start + 1) (start + (g.columns - 1)) x) (e : all_within x ≡ true)
           (w : TwoRows g newer sums' r (start + (g.columns - 1))) (long : length sums' ≡ length sums) where
         below_each : (c : ℕ) → c < g.columns → point sums' (other + c) ≡ S (start + g.columns + c)
         below_each c m = go (dec_lt c (g.columns - 1))
@@ -304,7 +305,7 @@ module _ {p : Plan} {h : Hit} {inPlace : Bool} {older₀ newer out₀ : List ℤ
                 sym (right_zero (row + 1) l (start + g.columns + c) (omega (arith, a, below-start)))
 
         row_next : PlateRows i h write inPlace older₀ newer out₀ older' out' sums' here other (row + 1) (start + g.columns)
-            (n + x.inexact)
+            (n + inexact_of x)
         row_next = record {
           rows = rows_more a t.rows in_grid (run 1 (g.columns - 1)) columns_run q e;
           some = omega arith;
@@ -316,12 +317,12 @@ module _ {p : Plan} {h : Hit} {inPlace : Bool} {older₀ newer out₀ : List ℤ
           low = w.low;
         }
 
-      module _ {older' out' : List ℤ} {x : Progress}
+      module _ {older' out' : List ℤ} {x : Option ℕ}
           (q : Passing i h write inPlace older newer out older' out' (start + 1) (start + (g.columns - 1)) x) where
-        row_stops : x.within ≡ false → Passed i h write inPlace older₀ newer out₀ older' out' x
+        row_stops : all_within x ≡ false → Passed i h write inPlace older₀ newer out₀ older' out' x
         row_stops e = stepped-not a (rows_stop a t.rows in_grid (run 1 (g.columns - 1)) columns_run q e) e
 
-        row_most : x.within ≡ true → n + x.inexact ≤ points g
+        row_most : all_within x ≡ true → n + inexact_of x ≤ points g
         row_most e = rows_most a t.rows in_grid (run 1 (g.columns - 1)) columns_run q e
 
       -- its moving points, x
@@ -347,28 +348,28 @@ module _ {p : Plan} {h : Hit} {inPlace : Bool} {older₀ newer out₀ : List ℤ
         moving_sums = subst (λ (x : Stretch). TwoRows g newer sums r x.from) (sym e) two_rows
 
         -- once they are worked out
-        module _ {out' : List ℤ} {y : Progress} (q : Stepping i h x.write x.base older newer out out' x.from x.to y) where
-          pub plate_stops : y.within ≡ false → Passed i h write inPlace older₀ newer out₀ older out' y
+        module _ {out' : List ℤ} {y : Option ℕ} (q : Stepping i h x.write x.base older newer out out' x.from x.to y) where
+          pub plate_stops : all_within y ≡ false → Passed i h write inPlace older₀ newer out₀ older out' y
           plate_stops f = row_stops (stretch_stops i h write inPlace e q f) f
 
           -- and put in their places
-          module _ (within : y.within ≡ true) {older' : List ℤ}
+          module _ (within : all_within y ≡ true) {older' : List ℤ}
               (f : Filled (λ k. point out' (k - x.base)) (inPlace && x.write) 0 older older' x.from x.to)
               (o : (inPlace && x.write) ≡ false → older' ≡ older) where
             left : Passing i h write inPlace older newer out older' out' (start + 1) (start + (g.columns - 1)) y
             left = stretch_passing i h write inPlace e q within f o
 
-            pub plate_most : n + y.inexact ≤ points g
+            pub plate_most : n + inexact_of y ≤ points g
             plate_most = row_most left within
 
             pub plate_next : {sums' : List ℤ} → TwoRows g newer sums' r x.to → length sums' ≡ length sums
-                → PlateRows i h write inPlace older₀ newer out₀ older' out' sums' here other (row + 1) (start + g.columns) (n + y.inexact)
+                → PlateRows i h write inPlace older₀ newer out₀ older' out' sums' here other (row + 1) (start + g.columns) (n + inexact_of y)
             plate_next {sums'} w long = row_next left within (subst (λ (x : Stretch). TwoRows g newer sums' r x.to) e w) long
 
     -- after the last of them
     pub plate_done : {write : Bool} {older out sums : List ℤ} {other here row start n : ℕ}
         → PlateRows i h write inPlace older₀ newer out₀ older out sums other here row start n → g.rows ≤ row + 1
-        → Passed i h write inPlace older₀ newer out₀ older out (passed n)
+        → Passed i h write inPlace older₀ newer out₀ older out (Some n)
     plate_done {row = row} t m =
         let last : row + 1 ≡ g.rows = omega (arith, t.upto) in
         stepped-all a (rows_done a (ring_more t.rows (omega (arith, t.upto)) (inr last)) m)

@@ -1,4 +1,5 @@
 -- A step of a whole level, row by row.
+use Rattle.std.proofs.Common.{Option, Some}
 use mathlib.Core.Path.{◌≡◌, refl, sym, ap, ◌∙◌, subst}
 use mathlib.Core.Bool.{Bool, true, false, not, ◌&&◌, and-false, true≢false}
 use mathlib.Core.List.{List}
@@ -28,14 +29,13 @@ use Rattle.edges.specs.Edges.{edges_of}
 use Rattle.edges.proofs.EdgeLaws.{first_is, end_is}
 use Rattle.levels.proofs.LevelLaws.{next_row, row_inside}
 use Rattle.plans.specs.declared.Plan.{Plan}
-use Rattle.steps.specs.declared.progress.Progress.{Progress}
 use Rattle.steps.specs.Plan.{Ready}
-use Rattle.steps.specs.Run.{Next, next_of, Ran, Counted, Moves}
+use Rattle.steps.specs.Run.{Next, next_of, Ran, Counted, Moves, all_within, inexact_of}
 use Rattle.steps.specs.Edges.{EdgesOf}
 use Rattle.steps.specs.Steps.{Steppable}
 use Rattle.steps.specs.Pass.{target, Passable, Passing, Passed}
 use Rattle.steps.proofs.CountLaws.{counted_not, counted_all}
-use Rattle.steps.proofs.FillLaws.{filled_there, passed, ran_all, ran_append}
+use Rattle.steps.proofs.FillLaws.{filled_there, ran_all, ran_append}
 use Rattle.steps.proofs.PassLaws.{passing_none, passing_most, passing_append, passing_stops}
 
 -- ---- the moving points that are kept
@@ -83,17 +83,17 @@ module _ (g : Grid) (b : ℕ) (size : in_table g ≡ true) (h : b < g.rows) wher
 
 -- ---- a loop over the rows: the points before start have their next values, n of them inexact
 
-pub record Rows (i : Instrument) (h : Hit) (write inPlace : Bool) (older₀ newer out₀ older out : List ℤ) (row start n : ℕ) : Type 0 where
+pub record Rows (i : Instrument) (h : Option Hit) (write inPlace : Bool) (older₀ newer out₀ older out : List ℤ) (row start n : ℕ) : Type 0 where
   pub start_is : start ≡ row * i.grid.columns
   pub upto : row ≤ i.grid.rows
-  pub done : Passing i h write inPlace older₀ newer out₀ older out 0 start (passed n)
+  pub done : Passing i h write inPlace older₀ newer out₀ older out 0 start (Some n)
 
-pub rows_start : {i : Instrument} {h : Hit} {write inPlace : Bool} {newer : List ℤ} (older out : List ℤ)
+pub rows_start : {i : Instrument} {h : Option Hit} {write inPlace : Bool} {newer : List ℤ} (older out : List ℤ)
     → Rows i h write inPlace older newer out older out 0 0 0
 rows_start older out = record { start_is = omega arith; upto = zero-le; done = passing_none older out 0 }
 
 -- the row's start may be written otherwise
-pub rows_at : {i : Instrument} {h : Hit} {write inPlace : Bool} {older₀ newer out₀ older out : List ℤ} {row start start' n : ℕ}
+pub rows_at : {i : Instrument} {h : Option Hit} {write inPlace : Bool} {older₀ newer out₀ older out : List ℤ} {row start start' n : ℕ}
     → start ≡ start' → Rows i h write inPlace older₀ newer out₀ older out row start n
     → Rows i h write inPlace older₀ newer out₀ older out row start' n
 rows_at {i} {h} {write} {inPlace} {older₀} {newer} {out₀} {older} {out} {row} {n = n} e l =
@@ -101,7 +101,7 @@ rows_at {i} {h} {write} {inPlace} {older₀} {newer} {out₀} {older} {out} {row
 
 -- ---- what a step is given
 
-module _ {p : Plan} {h : Hit} {older₀ newer room : List ℤ} (s : Steppable p h older₀ newer room) where
+module _ {p : Plan} {h : Option Hit} {older₀ newer room : List ℤ} (s : Steppable p h older₀ newer room) where
   pub steppable_ready : Ready p (pos 0) older₀ newer
   steppable_ready = record {
     planned = s.planned;
@@ -113,7 +113,7 @@ module _ {p : Plan} {h : Hit} {older₀ newer room : List ℤ} (s : Steppable p 
     f_low = zero-le;
   }
 
-module _ {p : Plan} {h : Hit} {inPlace : Bool} {older₀ newer out₀ : List ℤ} (a : Passable p h inPlace older₀ newer out₀) where
+module _ {p : Plan} {h : Option Hit} {inPlace : Bool} {older₀ newer out₀ : List ℤ} (a : Passable p h inPlace older₀ newer out₀) where
   abbrev s : Steppable p h older₀ newer (target inPlace older₀ out₀)
   s = a.given
 
@@ -128,9 +128,9 @@ module _ {p : Plan} {h : Hit} {inPlace : Bool} {older₀ newer out₀ : List ℤ
   v = next_of i h older₀ newer
 
   -- points from b on that do not move hold their next values, 0, and none is inexact
-  still : {write : Bool} {xs : List ℤ} {b c n : ℕ} → Ran v write 0 (target inPlace older₀ out₀) xs 0 b (passed n) → b ≤ c
+  still : {write : Bool} {xs : List ℤ} {b c n : ℕ} → Ran v write 0 (target inPlace older₀ out₀) xs 0 b (Some n) → b ≤ c
       → ((k : ℕ) → b ≤ k → k < c → moving g k ≡ false)
-      → Ran v write 0 xs xs b c (passed 0)
+      → Ran v write 0 xs xs b c (Some 0)
   still {write} {xs} {b} {c} r o all =
       ran_all
       (filled_there (λ k. (v k).value) write 0 xs b c
@@ -139,11 +139,11 @@ module _ {p : Plan} {h : Hit} {inPlace : Bool} {older₀ newer out₀ : List ℤ
       (λ k l m. ap beyond (next-still i h older₀ newer k (all k l m)))
       (counted_not o (λ k l m. ap (λ (t : Bool). write && t) (inexact_still i h older₀ newer k (all k l m)) ∙ and-false write))
 
-  and_still : {write : Bool} {older out : List ℤ} {b c n : ℕ} → Passing i h write inPlace older₀ newer out₀ older out 0 b (passed n) → b ≤ c
+  and_still : {write : Bool} {older out : List ℤ} {b c n : ℕ} → Passing i h write inPlace older₀ newer out₀ older out 0 b (Some n) → b ≤ c
       → ((k : ℕ) → b ≤ k → k < c → moving g k ≡ false)
-      → Passing i h write inPlace older₀ newer out₀ older out 0 c (passed n)
+      → Passing i h write inPlace older₀ newer out₀ older out 0 c (Some n)
   and_still {write} {older} {out} {b} {c} {n} q l all = record {
-    ran = subst (λ (m : ℕ). Ran v write 0 (target inPlace older₀ out₀) (target inPlace older out) 0 c (passed m)) (omega arith)
+    ran = subst (λ (m : ℕ). Ran v write 0 (target inPlace older₀ out₀) (target inPlace older out) 0 c (Some m)) (omega arith)
         (ran_append zero-le zero-le l q.ran (still q.ran l all));
     older_long = q.older_long;
     out_long = q.out_long;
@@ -164,21 +164,21 @@ module _ {p : Plan} {h : Hit} {inPlace : Bool} {older₀ newer out₀ : List ℤ
     pub run_moves : Moves g (start + r.from) (start + r.to)
     run_moves = record { order = omega (arith, run_here.rising); each = run_here.moves }
 
-    module _ {older' out' : List ℤ} {x : Progress}
+    module _ {older' out' : List ℤ} {x : Option ℕ}
         (q : Passing i h write inPlace older newer out older' out' (start + r.from) (start + r.to) x) where
-      as_far : Passing i h write inPlace older₀ newer out₀ older out 0 (start + r.from) (passed n)
+      as_far : Passing i h write inPlace older₀ newer out₀ older out 0 (start + r.from) (Some n)
       as_far = and_still l.done (omega arith) run_here.before
 
       -- a value of the row lies beyond the ceiling
-      pub rows_stop : x.within ≡ false → Passing i h write inPlace older₀ newer out₀ older' out' 0 (points g) x
+      pub rows_stop : all_within x ≡ false → Passing i h write inPlace older₀ newer out₀ older' out' 0 (points g) x
       rows_stop y = passing_stops zero-le run_moves.order as_far q (omega (arith, run_here.inside, row_room)) y
 
       -- one more row
-      module _ (y : x.within ≡ true) where
-        row_done : Passing i h write inPlace older₀ newer out₀ older' out' 0 (start + r.to) (passed (n + x.inexact))
+      module _ (y : all_within x ≡ true) where
+        row_done : Passing i h write inPlace older₀ newer out₀ older' out' 0 (start + r.to) (Some (n + inexact_of x))
         row_done = passing_append zero-le run_moves.order as_far q y
 
-        pub rows_more : Rows i h write inPlace older₀ newer out₀ older' out' (row + 1) (start + g.columns) (n + x.inexact)
+        pub rows_more : Rows i h write inPlace older₀ newer out₀ older' out' (row + 1) (start + g.columns) (n + inexact_of x)
         rows_more = record {
           start_is = ap (λ (n : ℕ). n + g.columns) l.start_is ∙ next_row row g.columns;
           upto = omega arith;
@@ -186,23 +186,23 @@ module _ {p : Plan} {h : Hit} {inPlace : Bool} {older₀ newer out₀ : List ℤ
         }
 
         -- no more points are inexact than there are
-        pub rows_most : n + x.inexact ≤ points g
+        pub rows_most : n + inexact_of x ≤ points g
         rows_most = omega (arith, passing_most row_done, run_here.inside, row_room)
 
   -- after the last row
   pub rows_done : {write : Bool} {older out : List ℤ} {row start n : ℕ} → Rows i h write inPlace older₀ newer out₀ older out row start n
-      → g.rows ≤ row → Passing i h write inPlace older₀ newer out₀ older out 0 (points g) (passed n)
+      → g.rows ≤ row → Passing i h write inPlace older₀ newer out₀ older out 0 (points g) (Some n)
   rows_done {write} {older} {out} {row} {n = n} l m =
       let last : row ≡ g.rows = omega (arith, l.upto) in
-      subst (λ (k : ℕ). Passing i h write inPlace older₀ newer out₀ older out 0 k (passed n))
+      subst (λ (k : ℕ). Passing i h write inPlace older₀ newer out₀ older out 0 k (Some n))
       (l.start_is ∙ ap (λ (n : ℕ). n * g.columns) last ∙ mul_comm g.rows g.columns) l.done
 
   -- ---- what a step leaves
 
   -- every point has its next value
   pub stepped-all : {write : Bool} {older out : List ℤ} {n : ℕ}
-      → Passing i h write inPlace older₀ newer out₀ older out 0 (points g) (passed n)
-      → Passed i h write inPlace older₀ newer out₀ older out (passed n)
+      → Passing i h write inPlace older₀ newer out₀ older out 0 (points g) (Some n)
+      → Passed i h write inPlace older₀ newer out₀ older out (Some n)
   unfolding next_level inexact_in
   stepped-all {write} {older} {out} {n} q =
       let ran = q.ran in
@@ -222,9 +222,9 @@ module _ {p : Plan} {h : Hit} {inPlace : Bool} {older₀ newer out₀ : List ℤ
       }
 
   -- a next value lies beyond the ceiling
-  pub stepped-not : {write : Bool} {older out : List ℤ} {x : Progress}
+  pub stepped-not : {write : Bool} {older out : List ℤ} {x : Option ℕ}
       → Passing i h write inPlace older₀ newer out₀ older out 0 (points g) x
-      → x.within ≡ false → Passed i h write inPlace older₀ newer out₀ older out x
+      → all_within x ≡ false → Passed i h write inPlace older₀ newer out₀ older out x
   unfolding some_beyond
   stepped-not q e =
       let o = q.ran.stopped e in

@@ -1,5 +1,5 @@
 -- Runs of points, the list that their values are put into, and how many of them are inexact. Vocabulary of private functions.
-use Rattle.std.specs.Prelude.{◌≡◌, Bool, true, false, cond, not, ◌&&◌, List, [], ◌∷◌, ◌⊎◌, ℕ, ◌+◌, ◌-◌, ◌≤◌, ◌<◌, ℤ, pos, ◌+ℤ◌, length}
+use Rattle.std.specs.Prelude.{Option, Some, None, ◌≡◌, Bool, true, false, cond, not, ◌&&◌, List, [], ◌∷◌, ◌⊎◌, ℕ, ◌+◌, ◌-◌, ◌≤◌, ◌<◌, ℤ, pos, ◌+ℤ◌, length}
 use Rattle.types.specs.declared.Grid.{Grid}
 use Rattle.types.specs.declared.Instrument.{Instrument}
 use Rattle.types.specs.declared.Hit.{Hit}
@@ -8,7 +8,7 @@ use Rattle.scheme.specs.Instruments.{beyond, points, at_edge, moving}
 use Rattle.scheme.specs.Step.{neighbours, numerator, round_away, divisor, next_at, is_multiple, inexact_at}
 use Rattle.plans.specs.declared.Plan.{Plan}
 use Rattle.stretches.specs.declared.Stretch.{Stretch}
-use Rattle.steps.specs.declared.progress.Progress.{Progress}
+use Rattle.steps.specs.Plan.{Neighbouring}
 
 -- what a step makes of a point: its next value, and whether its numerator is no multiple of the divisor
 pub record Next : Type 0 where
@@ -24,8 +24,18 @@ unfoldable pub next_by : Instrument → ℤ → (older newer : List ℤ) → ℕ
 next_by i f older newer k = next_over (numerator i (point newer) (point older) (λ j. f) k) (divisor i.settings)
 
 -- of point k by the definitions, with the forces of a hit
-abbrev pub next_of : Instrument → Hit → (older newer : List ℤ) → ℕ → Next
+abbrev pub next_of : Instrument → Option Hit → (older newer : List ℤ) → ℕ → Next
 next_of i h older newer k = record { value = next_at i h older newer k; inexact = inexact_at i h older newer k }
+
+-- ---- what a run answers: n, where every value lies within the ceiling and n of those written are inexact
+
+abbrev pub all_within : Option ℕ → Bool
+all_within (Some n) = true
+all_within None = false
+
+abbrev pub inexact_of : Option ℕ → ℕ
+inexact_of (Some n) = n
+inexact_of None = 0
 
 -- ---- what the loops keep
 
@@ -57,20 +67,20 @@ pub record Counted (test : ℕ → Bool) (from to n : ℕ) : Type 0 where
 
 -- what a run of the points from..to answers and leaves: every value within the ceiling and in its place, the inexact ones of those written
 -- counted; else one beyond
-pub record Ran (v : ℕ → Next) (write : Bool) (base : ℕ) (out₀ out : List ℤ) (from to : ℕ) (r : Progress) : Type 0 where
+pub record Ran (v : ℕ → Next) (write : Bool) (base : ℕ) (out₀ out : List ℤ) (from to : ℕ) (r : Option ℕ) : Type 0 where
   pub long : length out ≡ length out₀
-  pub filled : r.within ≡ true → Filled (λ k. (v k).value) write base out₀ out from to
-  pub low : r.within ≡ true → NoneBeyond (λ k. (v k).value) from to
-  pub counted : r.within ≡ true → Counted (λ k. write && (v k).inexact) from to r.inexact
-  pub stopped : r.within ≡ false → OneBeyond (λ k. (v k).value) from to
+  pub filled : all_within r ≡ true → Filled (λ k. (v k).value) write base out₀ out from to
+  pub low : all_within r ≡ true → NoneBeyond (λ k. (v k).value) from to
+  pub counted : all_within r ≡ true → Counted (λ k. write && (v k).inexact) from to (inexact_of r)
+  pub stopped : all_within r ≡ false → OneBeyond (λ k. (v k).value) from to
 
 -- the same of points of a stretch
-abbrev pub Advanced : Plan → Stretch → (older newer out₀ out : List ℤ) → (from to : ℕ) → Progress → Type 0
+abbrev pub Advanced : Plan → Stretch → (older newer out₀ out : List ℤ) → (from to : ℕ) → Option ℕ → Type 0
 Advanced p s older newer out₀ out from to r =
     Ran (next_by p.instrument s.force older newer) s.write s.base out₀ out from to r
 
 -- the same of points with the forces of a hit
-abbrev pub Stepping : Instrument → Hit → (write : Bool) (base : ℕ) (older newer out₀ out : List ℤ) → (from to : ℕ) → Progress → Type 0
+abbrev pub Stepping : Instrument → Option Hit → (write : Bool) (base : ℕ) (older newer out₀ out : List ℤ) → (from to : ℕ) → Option ℕ → Type 0
 Stepping i h write base older newer out₀ out from to r = Ran (next_of i h older newer) write base out₀ out from to r
 
 -- ---- where a run lies
@@ -100,6 +110,11 @@ pub record FreeEnd (i : Instrument) (near from to : ℕ) : Type 0 where
   pub there : from < to → moving i.grid from ≡ true
   pub twice : from < to → neighbours i.grid from ≡ near ∷ near ∷ []
   pub soft : from < to → i.settings.m ≡ 0
+
+-- calls that give the sum of the neighbours of each of the points from..to, none of them stiff
+pub record Sums (i : Instrument) (newer : List ℤ) (pre : ℕ → Type 0) (post : ℕ → ℤ → Type 0) (from to : ℕ) : Type 0 where
+  pub callable : (k : ℕ) → from ≤ k → k < to → pre k
+  pub gives : (k : ℕ) (sum : ℤ) → from ≤ k → k < to → post k sum → Neighbouring i newer k sum (pos 0)
 
 -- ---- neighbours
 

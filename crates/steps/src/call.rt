@@ -1,6 +1,5 @@
 // The steps of a call: its checks, and its steps where nothing refuses them.
 ghost use Rattle.std.specs.Prelude.{◌≡◌, false, length};
-ghost use Rattle.types.specs.declared.Refusal.TheVariants.{Nothing};
 ghost use Rattle.scheme.specs.Refusals.{wrong_length, block_refusal};
 ghost use Rattle.scheme.specs.Calls.{block, block_in_place};
 ghost use Rattle.scheme.specs.Calls as Calls;
@@ -11,34 +10,20 @@ ghost use Rattle.steps.specs.Left.{Opens, LeftFrom, LeftInTurn, LeftInPlace};
 use crate::play::{Steps, play};
 use block_checks::block_refusal;
 use edges::row_edges;
-use instruments::is_nothing;
 use plans::make_plan;
 use slices::clear;
 use stretches::PIECE;
-use turns::ending;
-use types::{Hit, Instrument, Refusal};
+use turns::{Turn, ending};
+use types::{BlockAnswer, Hit, Instrument, Refusal};
 
-// What the steps of a call leave: whether it was carried out, the steps done, how many points were inexact in them,
-// what refused or ended them, and the turn that the slices are in.
+// What the steps of a call that is carried out tell: its answer, and the turn that the slices are in.
 #[derive(Clone, Copy)]
 pub struct InTurn {
-    pub begun: bool,
-    pub steps: usize,
-    pub inexact: u64,
-    pub refusal: Refusal,
-    pub turn: usize,
+    pub answer: BlockAnswer,
+    pub turn: Turn,
 }
 
-// The same on two levels. `exchanged` tells that each of them stands in the other's slice.
-#[derive(Clone, Copy)]
-pub struct InPlace {
-    pub steps: usize,
-    pub inexact: u64,
-    pub refusal: Refusal,
-    pub exchanged: bool,
-}
-
-// The steps of a block that 1 to 12 let pass: of three levels from turn 0, of two from turn 3.
+// The steps of a block that 1 to 12 let pass: of three levels from their first turn, of two from theirs.
 fn begin(
     i: Instrument,
     older: &mut [i64],
@@ -46,10 +31,10 @@ fn begin(
     work: &mut [i64],
     samples: &mut [i16],
     pick: usize,
-    hit: Hit,
-    first: usize,
+    hit: Option<Hit>,
+    first: Turn,
 ) -> Steps
-    requires { (block_refusal i older.old newer.old false pick hit ≡ Nothing) × Opens i.grid work.old first }
+    requires { (block_refusal i older.old newer.old false pick hit ≡ Ok tt) × Opens i.grid work.old first }
     ensures { Played (Calls.play i pick hit older.old newer.old samples.old)
         (length samples.old) result (older_of result.turn older.new newer.new work.new)
         (newer_of result.turn older.new newer.new work.new) samples.new
@@ -70,34 +55,27 @@ fn steps_from(
     work: &mut [i64],
     samples: &mut [i16],
     pick: usize,
-    hit: Hit,
+    hit: Option<Hit>,
     wrong: bool,
-    first: usize,
-) -> InTurn
-    requires { (block_refusal i older.old newer.old wrong pick hit ≡ Nothing) → Opens i.grid work.old first }
+    first: Turn,
+) -> Result<InTurn, Refusal>
+    requires { (block_refusal i older.old newer.old wrong pick hit ≡ Ok tt) → Opens i.grid work.old first }
     ensures { LeftFrom first (block_refusal i older.old newer.old wrong pick hit)
         (Calls.play i pick hit older.old newer.old samples.old)
         older.old newer.old work.old samples.old
         result older.new newer.new work.new samples.new }
 {
-    let refusal = block_refusal(i, older, newer, wrong, pick, hit);
-    if !is_nothing(refusal) {
-        return InTurn {
-            begun: false,
-            steps: 0,
-            inexact: 0,
-            refusal,
-            turn: first,
-        };
-    }
+    block_refusal(i, older, newer, wrong, pick, hit)?;
     let steps = begin(i, older, newer, work, samples, pick, hit, first);
-    InTurn {
-        begun: true,
+    let answer = BlockAnswer {
         steps: steps.done,
         inexact: steps.inexact,
-        refusal: ending(steps.done, samples.len()),
+        outcome: ending(steps.done, samples.len()),
+    };
+    Ok(InTurn {
+        answer,
         turn: steps.turn,
-    }
+    })
 }
 
 // As many steps as samples has places, the hit in the first, each level left in the slice that the turn tells; or what refuses them.
@@ -109,15 +87,25 @@ pub fn steps_in_turn(
     work: &mut [i64],
     samples: &mut [i16],
     pick: usize,
-    hit: Hit,
-) -> InTurn
+    hit: Option<Hit>,
+) -> Result<InTurn, Refusal>
     ensures { LeftInTurn
         (block_refusal i older.old newer.old (wrong_length i.grid (length work.old)) pick hit)
         (block i older.old newer.old work.old samples.old pick hit)
         result older.new newer.new work.new samples.new }
 {
     let wrong = work.len() != older.len();
-    steps_from(i, older, newer, work, samples, pick, hit, wrong, 0)
+    steps_from(
+        i,
+        older,
+        newer,
+        work,
+        samples,
+        pick,
+        hit,
+        wrong,
+        Turn::First,
+    )
 }
 
 // The same on two levels: no third one is lent.
@@ -128,18 +116,22 @@ pub fn steps_in_place(
     newer: &mut [i64],
     samples: &mut [i16],
     pick: usize,
-    hit: Hit,
-) -> InPlace
-    ensures { LeftInPlace (block_in_place i older.old newer.old samples.old pick hit)
+    hit: Option<Hit>,
+) -> Result<InTurn, Refusal>
+    ensures { LeftInPlace (block_refusal i older.old newer.old false pick hit)
+        (block_in_place i older.old newer.old samples.old pick hit)
         result older.new newer.new samples.new }
 {
     let mut piece = [0i64; PIECE];
-    let left = steps_from(i, older, newer, &mut piece, samples, pick, hit, false, 3);
-    let refusal = left.refusal;
-    InPlace {
-        steps: left.steps,
-        inexact: left.inexact,
-        refusal,
-        exchanged: left.turn != 3,
-    }
+    steps_from(
+        i,
+        older,
+        newer,
+        &mut piece,
+        samples,
+        pick,
+        hit,
+        false,
+        Turn::There,
+    )
 }

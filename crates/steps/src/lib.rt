@@ -9,8 +9,7 @@ mod pieces;
 mod plates;
 mod play;
 mod points;
-mod progress;
 mod step;
 mod within;
 
-pub use call::{InPlace, InTurn, steps_in_place, steps_in_turn};
+pub use call::{InTurn, steps_in_place, steps_in_turn};

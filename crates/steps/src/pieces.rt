@@ -6,19 +6,13 @@ ghost use Rattle.steps.specs.Run.{Filled, Placed};
 use stretches::Stretch;
 
 // The values of a piece, that of point k at place k − base of xs, put into ys, if they are written in place.
-pub(crate) fn put_piece(xs: &[i64], s: Stretch, ys: &mut [i64], in_place: bool)
+pub(crate) fn put_piece<const IN_PLACE: bool>(xs: &[i64], s: Stretch, ys: &mut [i64])
     requires { Placed s (length xs.now) × (s.to ≤ length ys.old) }
-    ensures { Filled (λ k. point xs.now (k - s.base)) (in_place && s.write) 0 ys.old ys.new
+    ensures { Filled (λ k. point xs.now (k - s.base)) (IN_PLACE && s.write) 0 ys.old ys.new
         s.from s.to
-        × ((in_place && s.write) ≡ false → ys.new ≡ ys.old) }
+        × ((IN_PLACE && s.write) ≡ false → ys.new ≡ ys.old) }
 {
-    let wanted = in_place & s.write;
-    if !wanted {
-        return;
-    }
-    let mut at = s.from;
-    while at < s.to {
-        ys[at] = xs[at - s.base];
-        at += 1;
+    if IN_PLACE && s.write {
+        ys[s.from..s.to].copy_from_slice(&xs[s.from - s.base..s.to - s.base]);
     }
 }

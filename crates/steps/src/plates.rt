@@ -1,12 +1,12 @@
 // Plates with stiffness. The sum of each point's neighbours is worked out once, a row ahead, and kept from row to row.
 ghost use Rattle.std.specs.Prelude.{◌≡◌, true, false, cond, ◌+◌, ◌-◌, ◌≤◌, ◌<◌, pos, length};
-ghost use Rattle.types.specs.declared.Hit.TheVariants.{Absent};
 ghost use Rattle.types.specs.Numbers.{ceiling};
 ghost use Rattle.scheme.specs.Lists.{point};
-ghost use Rattle.scheme.specs.Instruments.{plate, kind};
+ghost use Rattle.types.specs.declared.Kind.TheVariants.{Plate};
+ghost use Rattle.scheme.specs.Instruments.{kind};
 ghost use Rattle.scheme.specs.Refusals.{too_strong};
 ghost use Rattle.steps.specs.Plan.{AtMost, Ready};
-ghost use Rattle.steps.specs.Run.{Filled, Advanced, Stepping, Placed, four_beside};
+ghost use Rattle.steps.specs.Run.{all_within, Filled, Advanced, Stepping, Placed, four_beside};
 ghost use Rattle.steps.specs.Pass.{Passable, Passed};
 ghost use Rattle.steps.specs.Plates.{TwoRows, InRow, Readable, second_at, moving_in};
 
@@ -14,9 +14,8 @@ use crate::arithmetic::stiffness;
 use crate::neighbours::sum_around;
 use crate::pieces::put_piece;
 use crate::points::next_point;
-use crate::progress::Progress;
 use plans::Plan;
-use stretches::{Stretch, as_written, is_hit_in, stretch_at};
+use stretches::{Stretch, is_hit_in};
 use types::Hit;
 
 // Where the sums of two rows stand: of column c of the row that begins at point `start` at place here + c; at other + c that of the row
@@ -37,10 +36,8 @@ fn put_first(xs: &[i64], columns: usize, place: usize, sums: &mut [i64])
         sums.new (place + 1) (place + (columns - 1)) }
 {
     let last = columns - 1;
-    let mut c = 1;
-    while c < last {
+    for c in 1..last {
         sums[place + c] = sum_around(xs, columns + c, columns);
-        c += 1;
     }
 }
 
@@ -75,7 +72,7 @@ fn plate_point(
     s: Stretch,
     sums: &mut [i64],
     out: &mut [i64],
-) -> Progress
+) -> Option<u64>
     requires ready { Ready plan s.force older.now newer.now × Placed s (length out.old) × (s.from ≤ at) × (at < s.to) }
     requires two_rows { TwoRows plan.instrument.grid newer.now sums.old rows at
         × InRow plan.instrument.grid rows s.from s.to }
@@ -100,117 +97,100 @@ fn plate_run(
     s: Stretch,
     sums: &mut [i64],
     out: &mut [i64],
-) -> Progress
+) -> Option<u64>
     requires ready { Ready plan s.force older.now newer.now × Placed s (length out.old) }
     requires two_rows { TwoRows plan.instrument.grid newer.now sums.old rows s.from
         × InRow plan.instrument.grid rows s.from s.to }
     ensures { Advanced plan s older.now newer.now out.old out.new s.from s.to result
-        × (result.within ≡ true → TwoRows plan.instrument.grid newer.now sums.new rows s.to) }
+        × (all_within result ≡ true → TwoRows plan.instrument.grid newer.now sums.new rows s.to) }
 {
     let mut inexact = 0;
-    let mut at = s.from;
-    while at < s.to {
-        let p = plate_point(plan, older, newer, rows, at, s, sums, out);
-        if !p.within {
-            return p;
-        }
-        inexact += p.inexact;
-        at += 1;
+    for at in s.from..s.to {
+        inexact += plate_point(plan, older, newer, rows, at, s, sums, out)?;
     }
-    Progress {
-        within: true,
-        inexact,
-    }
+    Some(inexact)
 }
 
-// The same by one of two loops, each with `write` a constant.
-fn plate_row(
-    plan: Plan,
-    older: &[i64],
-    newer: &[i64],
-    rows: SumRows,
-    s: Stretch,
-    sums: &mut [i64],
-    out: &mut [i64],
-) -> Progress
-    requires ready { Ready plan s.force older.now newer.now × Placed s (length out.old) }
-    requires two_rows { TwoRows plan.instrument.grid newer.now sums.old rows s.from
-        × InRow plan.instrument.grid rows s.from s.to }
-    ensures { Advanced plan s older.now newer.now out.old out.new s.from s.to result
-        × (result.within ≡ true → TwoRows plan.instrument.grid newer.now sums.new rows s.to) }
-{
-    if s.write {
-        return plate_run(plan, older, newer, rows, as_written(s, true), sums, out);
-    }
-    plate_run(plan, older, newer, rows, as_written(s, false), sums, out)
-}
-
-// The moving points of a row, in a step with a hit: point by point where the hit is among them.
+// The moving points of a row that the hit is among, point by point.
 fn struck_row(
     plan: Plan,
     older: &[i64],
     newer: &[i64],
     rows: SumRows,
     row: Stretch,
-    hit: Hit,
+    hit: Option<Hit>,
     sums: &mut [i64],
     out: &mut [i64],
-) -> Progress
-    requires ready { Ready plan row.force older.now newer.now × Placed row (length out.old) × (too_strong hit ≡ false) }
+) -> Option<u64>
+    requires ready { Ready plan (pos 0) older.now newer.now × Placed row (length out.old) × (too_strong hit ≡ false) }
+    requires two_rows { TwoRows plan.instrument.grid newer.now sums.old rows row.from
+        × InRow plan.instrument.grid rows row.from row.to }
+    ensures { Stepping plan.instrument hit row.write row.base older.now newer.now
+        out.old out.new row.from row.to result
+        × (all_within result ≡ true → TwoRows plan.instrument.grid newer.now sums.new rows row.to) }
+{
+    let mut inexact = 0;
+    for at in row.from..row.to {
+        let s = row.stretch_at(hit, at);
+        inexact += plate_point(plan, older, newer, rows, at, s, sums, out)?;
+    }
+    Some(inexact)
+}
+
+// The moving points of a row, where the hit is not among them by one of two loops, each with `write` a constant.
+fn plate_row(
+    plan: Plan,
+    older: &[i64],
+    newer: &[i64],
+    rows: SumRows,
+    row: Stretch,
+    hit: Option<Hit>,
+    sums: &mut [i64],
+    out: &mut [i64],
+) -> Option<u64>
+    requires ready { Ready plan (pos 0) older.now newer.now × Placed row (length out.old) × (too_strong hit ≡ false) }
     requires force_value { row.force ≡ pos 0 }
     requires two_rows { TwoRows plan.instrument.grid newer.now sums.old rows row.from
         × InRow plan.instrument.grid rows row.from row.to }
     ensures { Stepping plan.instrument hit row.write row.base older.now newer.now
         out.old out.new row.from row.to result
-        × (result.within ≡ true → TwoRows plan.instrument.grid newer.now sums.new rows row.to) }
+        × (all_within result ≡ true → TwoRows plan.instrument.grid newer.now sums.new rows row.to) }
 {
-    if !is_hit_in(hit, row.from, row.to) {
-        return plate_run(plan, older, newer, rows, row, sums, out);
+    if is_hit_in(hit, row.from, row.to) {
+        return struck_row(plan, older, newer, rows, row, hit, sums, out);
     }
-    let mut inexact = 0;
-    let mut at = row.from;
-    while at < row.to {
-        let s = stretch_at(row, hit, at);
-        let p = plate_point(plan, older, newer, rows, at, s, sums, out);
-        if !p.within {
-            return p;
-        }
-        inexact += p.inexact;
-        at += 1;
+    if row.write {
+        return plate_run(plan, older, newer, rows, row.as_written(true), sums, out);
     }
-    Progress {
-        within: true,
-        inexact,
-    }
+    plate_run(plan, older, newer, rows, row.as_written(false), sums, out)
 }
 
 // The moving points of the row that begins at point `start`: all but its ends.
-fn moving_in(start: usize, columns: usize, write: bool, in_place: bool) -> Stretch
+fn moving_in<const WRITE: bool, const IN_PLACE: bool>(start: usize, columns: usize) -> Stretch
     requires { (3 ≤ columns) × (start + columns ≤ 4096) }
-    ensures { result ≡ moving_in start columns write in_place }
+    ensures { result ≡ moving_in start columns WRITE IN_PLACE }
 {
     let from = start + 1;
-    let base = if in_place { from } else { 0 };
+    let base = if IN_PLACE { from } else { 0 };
     Stretch {
         from,
         to: start + (columns - 1),
         force: 0,
         base,
-        write,
+        write: WRITE,
     }
 }
 
-// Every moving point of a plate, in a step without a hit. After a row the two places of the sums are exchanged.
-pub(crate) fn plate_level(
+// Every moving point of a plate. After a row the two places of the sums are exchanged.
+pub(crate) fn plate_level<const WRITE: bool, const IN_PLACE: bool>(
     plan: Plan,
     older: &mut [i64],
     newer: &[i64],
     out: &mut [i64],
-    write: bool,
-    in_place: bool,
-) -> Progress
-    requires { Passable plan Absent in_place older.old newer.now out.old × (kind plan.instrument.grid ≡ plate) }
-    ensures { Passed plan.instrument Absent write in_place older.old newer.now out.old
+    hit: Option<Hit>,
+) -> Option<u64>
+    requires { Passable plan hit IN_PLACE older.old newer.now out.old × (kind plan.instrument.grid ≡ Plate) }
+    ensures { Passed plan.instrument hit WRITE IN_PLACE older.old newer.now out.old
         older.new out.new result }
 {
     let columns = plan.instrument.grid.columns;
@@ -220,79 +200,20 @@ pub(crate) fn plate_level(
     let mut inexact = 0;
     let mut other = 0;
     let mut here = 64;
-    let mut row = 1;
     let mut start = columns;
-    while row < ring {
+    for row in 1..ring {
         let rows = SumRows {
             start,
             here,
             other,
             last: row + 1 == ring,
         };
-        let moving = moving_in(start, columns, write, in_place);
-        let p = plate_row(plan, older, newer, rows, moving, &mut sums, out);
-        if !p.within {
-            return p;
-        }
-        put_piece(out, moving, older, in_place);
-        inexact += p.inexact;
-        let free = other;
-        other = here;
-        here = free;
-        row += 1;
+        let moving = moving_in::<WRITE, IN_PLACE>(start, columns);
+        let n = plate_row(plan, older, newer, rows, moving, hit, &mut sums, out)?;
+        put_piece::<IN_PLACE>(out, moving, older);
+        inexact += n;
+        (here, other) = (other, here);
         start += columns;
     }
-    Progress {
-        within: true,
-        inexact,
-    }
-}
-
-// The same in a step with a hit: a loop of its own, so that the other steps have no force to look for.
-pub(crate) fn struck_level(
-    plan: Plan,
-    older: &mut [i64],
-    newer: &[i64],
-    out: &mut [i64],
-    hit: Hit,
-    write: bool,
-    in_place: bool,
-) -> Progress
-    requires { Passable plan hit in_place older.old newer.now out.old × (kind plan.instrument.grid ≡ plate) }
-    ensures { Passed plan.instrument hit write in_place older.old newer.now out.old
-        older.new out.new result }
-{
-    let columns = plan.instrument.grid.columns;
-    let ring = plan.instrument.grid.rows - 1;
-    let mut sums = [0i64; 128];
-    put_first(newer, columns, 64, &mut sums);
-    let mut inexact = 0;
-    let mut other = 0;
-    let mut here = 64;
-    let mut row = 1;
-    let mut start = columns;
-    while row < ring {
-        let rows = SumRows {
-            start,
-            here,
-            other,
-            last: row + 1 == ring,
-        };
-        let moving = moving_in(start, columns, write, in_place);
-        let p = struck_row(plan, older, newer, rows, moving, hit, &mut sums, out);
-        if !p.within {
-            return p;
-        }
-        put_piece(out, moving, older, in_place);
-        inexact += p.inexact;
-        let spare = other;
-        other = here;
-        here = spare;
-        row += 1;
-        start += columns;
-    }
-    Progress {
-        within: true,
-        inexact,
-    }
+    Some(inexact)
 }

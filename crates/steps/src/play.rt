@@ -1,5 +1,5 @@
 // The steps of a block.
-ghost use Rattle.std.specs.Prelude.{◌≡◌, ◌<◌, length, set};
+ghost use Rattle.std.specs.Prelude.{◌≡◌, ◌<◌, length};
 ghost use Rattle.scheme.specs.Instruments.{points};
 ghost use Rattle.scheme.specs.Calls as Calls;
 ghost use Rattle.steps.specs.Edges.{EdgesOf};
@@ -9,23 +9,15 @@ ghost use Rattle.steps.specs.Steps.{Begins, Played};
 use crate::step::{sample_in_turn, step_in_turn};
 use counts::capped_sum;
 use plans::Plan;
-use turns::{hit_after, next_turn};
+use turns::{Turn, hit_after};
 use types::Hit;
-
-// A sample in its place.
-fn put_sample(samples: &mut [i16], place: usize, v: i16)
-    requires { place < length samples.old }
-    ensures { samples.new ≡ set samples.old place v }
-{
-    samples[place] = v;
-}
 
 // How many steps were done, how many points were inexact in them, and the turn that the slices are in.
 #[derive(Clone, Copy)]
 pub(crate) struct Steps {
     pub(crate) done: usize,
     pub(crate) inexact: u64,
-    pub(crate) turn: usize,
+    pub(crate) turn: Turn,
 }
 
 // A step for each place of samples, until the next would put a point beyond the ceiling. The slices begin in turn `first`.
@@ -37,8 +29,8 @@ pub(crate) fn play(
     work: &mut [i64],
     samples: &mut [i16],
     pick: usize,
-    hit: Hit,
-    first: usize,
+    hit: Option<Hit>,
+    first: Turn,
 ) -> Steps
     requires begins { Begins first plan hit older.old newer.old work.old × (pick < points plan.instrument.grid) }
     requires edges_of { EdgesOf plan.instrument.grid edges.now }
@@ -51,25 +43,21 @@ pub(crate) fn play(
 {
     let mut inexact = 0;
     let mut turn = first;
-    let mut j = 0;
-    while j < samples.len() {
+    for (j, place) in samples.iter_mut().enumerate() {
         let h = hit_after(hit, j);
-        let p = step_in_turn(plan, edges, older, newer, work, h, turn);
-        if !p.within {
+        let Some(n) = step_in_turn(plan, edges, older, newer, work, h, turn) else {
             return Steps {
                 done: j,
                 inexact,
                 turn,
             };
-        }
-        inexact = capped_sum(inexact, p.inexact);
-        let v = sample_in_turn(older, newer, work, pick, turn);
-        put_sample(samples, j, v);
-        turn = next_turn(turn);
-        j += 1;
+        };
+        inexact = capped_sum(inexact, n);
+        *place = sample_in_turn(older, newer, work, pick, turn);
+        turn = turn.next();
     }
     Steps {
-        done: j,
+        done: samples.len(),
         inexact,
         turn,
     }

@@ -2,16 +2,16 @@
 // At the first that lies beyond the ceiling each function stops.
 ghost use Rattle.std.specs.Prelude.{◌≡◌, ◌+◌, ◌-◌, ◌≤◌, ◌<◌, length};
 ghost use Rattle.steps.specs.Plan.{Ready, SoftGrid, Neighbouring};
-ghost use Rattle.scheme.specs.Instruments.{bar, kind};
+ghost use Rattle.types.specs.declared.Kind.TheVariants.{Bar};
+ghost use Rattle.scheme.specs.Instruments.{kind};
 ghost use Rattle.scheme.specs.Step.{divisor};
-ghost use Rattle.steps.specs.Run.{next_over, next_by, Advanced, Placed, Moves, OnLine, FreeEnd};
+ghost use Rattle.steps.specs.Run.{next_over, next_by, Advanced, Placed, Moves, Sums, OnLine, FreeEnd};
 
 use crate::arithmetic::{is_below_limit, numerator, stiffness};
 use crate::neighbours::{sum_around, sum_at, sum_beside};
-use crate::progress::Progress;
 use plans::Plan;
 use rounding::round_by;
-use stretches::{Stretch, part};
+use stretches::Stretch;
 
 // The numerator at a point: sum is that of its neighbours, stiff is m·B.
 pub(crate) fn numerator_at(
@@ -40,7 +40,7 @@ pub(crate) fn next_point(
     stiff: i64,
     s: Stretch,
     out: &mut [i64],
-) -> Progress
+) -> Option<u64>
     requires ready { Ready plan s.force older.now newer.now × Neighbouring plan.instrument newer.now at sum stiff }
     requires placed { Placed s (length out.old) × (s.from ≤ at) × (at < s.to) }
     ensures { Advanced plan s older.now newer.now out.old out.new at (at + 1) result }
@@ -48,86 +48,69 @@ pub(crate) fn next_point(
     let n = numerator_at(plan, older, newer, at, sum, stiff, s.force);
     let beyond = !is_below_limit(plan, n);
     if beyond {
-        return Progress {
-            within: false,
-            inexact: 0,
-        };
+        return None;
     }
     if !s.write {
-        return Progress {
-            within: true,
-            inexact: 0,
-        };
+        return Some(0);
     }
     let rounded = round_by(n, plan.divisor, plan.half);
-    let whole = rounded.whole;
-    out[at - s.base] = whole;
-    let inexact = if rounded.remainder == 0 { 0 } else { 1 };
-    Progress {
-        within: true,
-        inexact,
-    }
+    out[at - s.base] = rounded.whole;
+    Some(if rounded.remainder == 0 { 0 } else { 1 })
 }
 
-// Inner points of a line, without stiffness.
-fn line_run(plan: Plan, older: &[i64], newer: &[i64], s: Stretch, out: &mut [i64]) -> Progress
+// Moving points without stiffness: `sum` gives the sum of a point's neighbours.
+fn soft_run<F: Fn(usize) -> i64 + Drop>(
+    plan: Plan,
+    older: &[i64],
+    newer: &[i64],
+    sum: F,
+    s: Stretch,
+    out: &mut [i64],
+) -> Option<u64>
     requires ready { Ready plan s.force older.now newer.now × Placed s (length out.old) }
-    requires on_line { OnLine plan.instrument.grid s.from s.to × (plan.instrument.settings.m ≡ 0) }
+    requires sums { Sums plan.instrument newer.now (F.pre sum) (F.post sum) s.from s.to }
     ensures { Advanced plan s older.now newer.now out.old out.new s.from s.to result }
 {
     let mut inexact = 0;
-    let mut at = s.from;
-    while at < s.to {
-        let sum = sum_beside(newer, at);
-        let p = next_point(plan, older, newer, at, sum, 0, s, out);
-        if !p.within {
-            return p;
-        }
-        inexact += p.inexact;
-        at += 1;
+    for at in s.from..s.to {
+        inexact += next_point(plan, older, newer, at, sum(at), 0, s, out)?;
     }
-    Progress {
-        within: true,
-        inexact,
-    }
+    Some(inexact)
 }
 
 // Points of a bar: the sums of the neighbours before, here and after, each worked out once.
-fn bar_run(plan: Plan, older: &[i64], newer: &[i64], s: Stretch, out: &mut [i64]) -> Progress
+fn bar_run(plan: Plan, older: &[i64], newer: &[i64], s: Stretch, out: &mut [i64]) -> Option<u64>
     requires ready { Ready plan s.force older.now newer.now × Placed s (length out.old) }
-    requires on_line { OnLine plan.instrument.grid s.from s.to × (kind plan.instrument.grid ≡ bar) }
+    requires on_line { OnLine plan.instrument.grid s.from s.to × (kind plan.instrument.grid ≡ Bar) }
     ensures { Advanced plan s older.now newer.now out.old out.new s.from s.to result }
 {
     let mut inexact = 0;
-    let mut at = s.from;
-    let mut left = sum_at(newer, at - 1);
-    let mut here = sum_at(newer, at);
-    while at < s.to {
+    let mut left = sum_at(newer, s.from - 1);
+    let mut here = sum_at(newer, s.from);
+    for at in s.from..s.to {
         let right = sum_at(newer, at + 1);
         let stiff = stiffness(plan, left + right, here, newer[at]);
-        let p = next_point(plan, older, newer, at, here, stiff, s, out);
-        if !p.within {
-            return p;
-        }
-        inexact += p.inexact;
+        inexact += next_point(plan, older, newer, at, here, stiff, s, out)?;
         left = here;
         here = right;
-        at += 1;
     }
-    Progress {
-        within: true,
-        inexact,
-    }
+    Some(inexact)
 }
 
 // Inner points of a line. Of lines only a bar is stiff.
-fn inner_points(plan: Plan, older: &[i64], newer: &[i64], s: Stretch, out: &mut [i64]) -> Progress
+fn inner_points(
+    plan: Plan,
+    older: &[i64],
+    newer: &[i64],
+    s: Stretch,
+    out: &mut [i64],
+) -> Option<u64>
     requires ready { Ready plan s.force older.now newer.now × Placed s (length out.old) }
     requires on_line { OnLine plan.instrument.grid s.from s.to }
     ensures { Advanced plan s older.now newer.now out.old out.new s.from s.to result }
 {
     if plan.m == 0 {
-        return line_run(plan, older, newer, s, out);
+        return soft_run(plan, older, newer, |at| sum_beside(newer, at), s, out);
     }
     bar_run(plan, older, newer, s, out)
 }
@@ -140,69 +123,29 @@ fn free_end(
     near: usize,
     s: Stretch,
     out: &mut [i64],
-) -> Progress
+) -> Option<u64>
     requires ready { Ready plan s.force older.now newer.now × Placed s (length out.old) }
     requires free_end { FreeEnd plan.instrument near s.from s.to }
     ensures { Advanced plan s older.now newer.now out.old out.new s.from s.to result }
 {
     if s.from == s.to {
-        return Progress {
-            within: true,
-            inexact: 0,
-        };
+        return Some(0);
     }
     let x = newer[near];
     next_point(plan, older, newer, s.from, x + x, 0, s, out)
 }
 
 // Moving points of a line: its first, if it is one of them, the inner ones, its last.
-fn line_points(plan: Plan, older: &[i64], newer: &[i64], s: Stretch, out: &mut [i64]) -> Progress
+fn line_points(plan: Plan, older: &[i64], newer: &[i64], s: Stretch, out: &mut [i64]) -> Option<u64>
     requires ready { Ready plan s.force older.now newer.now × Placed s (length out.old) }
     requires one_row { (plan.instrument.grid.rows ≡ 1) × Moves plan.instrument.grid s.from s.to × (s.from < s.to) }
     ensures { Advanced plan s older.now newer.now out.old out.new s.from s.to result }
 {
     let n = newer.len();
-    let first = free_end(plan, older, newer, 1, part(s, 0, 1), out);
-    if !first.within {
-        return first;
-    }
-    let inner = inner_points(plan, older, newer, part(s, 1, n - 1), out);
-    if !inner.within {
-        return inner;
-    }
-    let last = free_end(plan, older, newer, n - 2, part(s, n - 1, n), out);
-    if !last.within {
-        return last;
-    }
-    Progress {
-        within: true,
-        inexact: first.inexact + inner.inexact + last.inexact,
-    }
-}
-
-// Moving points of a row of a grid, without stiffness.
-fn grid_run(plan: Plan, older: &[i64], newer: &[i64], s: Stretch, out: &mut [i64]) -> Progress
-    requires ready { Ready plan s.force older.now newer.now × Placed s (length out.old) }
-    requires soft_grid { (plan.instrument.grid.rows ≡ 1 → ⊥) × (plan.instrument.settings.m ≡ 0)
-        × Moves plan.instrument.grid s.from s.to }
-    ensures { Advanced plan s older.now newer.now out.old out.new s.from s.to result }
-{
-    let columns = plan.instrument.grid.columns;
-    let mut inexact = 0;
-    let mut at = s.from;
-    while at < s.to {
-        let sum = sum_around(newer, at, columns);
-        let p = next_point(plan, older, newer, at, sum, 0, s, out);
-        if !p.within {
-            return p;
-        }
-        inexact += p.inexact;
-        at += 1;
-    }
-    Progress {
-        within: true,
-        inexact,
-    }
+    let first = free_end(plan, older, newer, 1, s.part(0, 1), out)?;
+    let inner = inner_points(plan, older, newer, s.part(1, n - 1), out)?;
+    let last = free_end(plan, older, newer, n - 2, s.part(n - 1, n), out)?;
+    Some(first + inner + last)
 }
 
 // Moving points of a row. Off a line there is no stiffness.
@@ -212,7 +155,7 @@ pub(crate) fn points_run(
     newer: &[i64],
     s: Stretch,
     out: &mut [i64],
-) -> Progress
+) -> Option<u64>
     requires ready { Ready plan s.force older.now newer.now × Placed s (length out.old) }
     requires moves { Moves plan.instrument.grid s.from s.to × (s.from < s.to) × SoftGrid plan.instrument }
     ensures { Advanced plan s older.now newer.now out.old out.new s.from s.to result }
@@ -220,5 +163,13 @@ pub(crate) fn points_run(
     if plan.instrument.grid.rows == 1 {
         return line_points(plan, older, newer, s, out);
     }
-    grid_run(plan, older, newer, s, out)
+    let columns = plan.instrument.grid.columns;
+    soft_run(
+        plan,
+        older,
+        newer,
+        |at| sum_around(newer, at, columns),
+        s,
+        out,
+    )
 }

@@ -1,6 +1,5 @@
 // Slices in turn: older, newer, and the one that the next level is put into. After a step newer is older, the next level is newer.
-// The turn tells which is which: 0, 1 or 2 of three levels; 3 or 4 of two, where the next level is put into older itself and the third
-// slice has room for a piece of a row.
+// Of two levels the third slice has room for a piece of a row.
 ghost use Rattle.std.specs.Prelude.{◌≡◌, ◌≤◌, ◌<◌, length};
 ghost use Rattle.types.specs.Numbers.{ceiling};
 ghost use Rattle.scheme.specs.Lists.{point};
@@ -13,10 +12,10 @@ ghost use Rattle.steps.specs.Steps.{Steppable, SteppedInPlace, SteppedIn, Third}
 
 use crate::arithmetic::sample;
 use crate::level::next_level;
-use crate::progress::Progress;
 use plans::Plan;
 use slices::copy;
 use stretches::PIECE;
+use turns::Turn;
 use types::Hit;
 
 // A step of two levels that have no more points than a piece: the next level is worked out beside them, then copied to older.
@@ -26,18 +25,16 @@ fn small_step(
     older: &mut [i64],
     newer: &[i64],
     room: &mut [i64],
-    hit: Hit,
-) -> Progress
+    hit: Option<Hit>,
+) -> Option<u64>
     requires steppable { Steppable plan hit older.old newer.now older.old × (length room.old ≡ length older.old) }
     requires edges_of { EdgesOf plan.instrument.grid edges.now }
     ensures { SteppedInPlace plan.instrument hit older.old newer.now older.new result }
 {
     copy(older, room);
-    let p = next_level(plan, edges, older, newer, room, hit, true, false);
-    if p.within {
-        copy(room, older);
-    }
-    p
+    let inexact = next_level::<true, false>(plan, edges, older, newer, room, hit)?;
+    copy(room, older);
+    Some(inexact)
 }
 
 // A step of two levels: no point of older is written unless every next value lies within the ceiling.
@@ -47,8 +44,8 @@ fn step_in_place(
     older: &mut [i64],
     newer: &[i64],
     room: &mut [i64],
-    hit: Hit,
-) -> Progress
+    hit: Option<Hit>,
+) -> Option<u64>
     requires steppable { Steppable plan hit older.old newer.now older.old × (piece ≤ length room.old) }
     requires edges_of { EdgesOf plan.instrument.grid edges.now }
     ensures { SteppedInPlace plan.instrument hit older.old newer.now older.new result }
@@ -57,11 +54,8 @@ fn step_in_place(
     if n <= PIECE {
         return small_step(plan, edges, older, newer, &mut room[..n], hit);
     }
-    let tested = next_level(plan, edges, older, newer, room, hit, false, true);
-    if !tested.within {
-        return tested;
-    }
-    next_level(plan, edges, older, newer, room, hit, true, true)
+    next_level::<false, true>(plan, edges, older, newer, room, hit)?;
+    next_level::<true, true>(plan, edges, older, newer, room, hit)
 }
 
 // A step in the turn that the slices are in.
@@ -71,9 +65,9 @@ pub(crate) fn step_in_turn(
     older: &mut [i64],
     newer: &mut [i64],
     work: &mut [i64],
-    hit: Hit,
-    turn: usize,
-) -> Progress
+    hit: Option<Hit>,
+    turn: Turn,
+) -> Option<u64>
     requires steppable { Steppable plan hit (older_of turn older.old newer.old work.old) (newer_of turn older.old newer.old work.old)
         (out_of turn older.old newer.old work.old) }
     requires edges_of { EdgesOf plan.instrument.grid edges.now × Third turn work.old }
@@ -81,11 +75,11 @@ pub(crate) fn step_in_turn(
         older.new newer.new work.new result }
 {
     match turn {
-        0 => next_level(plan, edges, older, newer, work, hit, true, false),
-        1 => next_level(plan, edges, newer, work, older, hit, true, false),
-        2 => next_level(plan, edges, work, older, newer, hit, true, false),
-        3 => step_in_place(plan, edges, older, newer, work, hit),
-        _ => step_in_place(plan, edges, newer, older, work, hit),
+        Turn::First => next_level::<true, false>(plan, edges, older, newer, work, hit),
+        Turn::Second => next_level::<true, false>(plan, edges, newer, work, older, hit),
+        Turn::Last => next_level::<true, false>(plan, edges, work, older, newer, hit),
+        Turn::There => step_in_place(plan, edges, older, newer, work, hit),
+        Turn::Exchanged => step_in_place(plan, edges, newer, older, work, hit),
     }
 }
 
@@ -95,17 +89,16 @@ pub(crate) fn sample_in_turn(
     newer: &[i64],
     work: &[i64],
     pick: usize,
-    turn: usize,
+    turn: Turn,
 ) -> i16
     requires { (pick < length (out_of turn older.now newer.now work.now))
         × AtMost ceiling (point (out_of turn older.now newer.now work.now)) }
     ensures { result ≡ sample_of (point (out_of turn older.now newer.now work.now) pick) }
 {
-    match turn {
-        0 => sample(work[pick]),
-        1 => sample(older[pick]),
-        2 => sample(newer[pick]),
-        3 => sample(older[pick]),
-        _ => sample(newer[pick]),
-    }
+    let next = match turn {
+        Turn::First => work,
+        Turn::Second | Turn::There => older,
+        Turn::Last | Turn::Exchanged => newer,
+    };
+    sample(next[pick])
 }

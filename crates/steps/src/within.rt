@@ -4,7 +4,7 @@ ghost use Rattle.scheme.specs.Instruments.{beyond};
 ghost use Rattle.scheme.specs.Step.{next_at};
 ghost use Rattle.scheme.specs.Refusals.{too_strong};
 ghost use Rattle.steps.specs.Plan.{Ready, Neighbouring};
-ghost use Rattle.steps.specs.Run.{next_of, Tested, Moves, OnLine, FreeEnd};
+ghost use Rattle.steps.specs.Run.{next_of, Tested, Moves, Sums, FreeEnd};
 
 use crate::arithmetic::is_below_limit;
 use crate::neighbours::{sum_around, sum_beside};
@@ -14,7 +14,14 @@ use stretches::{clamped, force_at};
 use types::Hit;
 
 // One point: sum is that of its neighbours.
-fn is_point_within(plan: Plan, older: &[i64], newer: &[i64], at: usize, sum: i64, hit: Hit) -> bool
+fn is_point_within(
+    plan: Plan,
+    older: &[i64],
+    newer: &[i64],
+    at: usize,
+    sum: i64,
+    hit: Option<Hit>,
+) -> bool
     requires { Ready plan (pos 0) older.now newer.now × (too_strong hit ≡ false)
         × Neighbouring plan.instrument newer.now at sum (pos 0) }
     ensures { result ≡ not (beyond (next_at plan.instrument hit older.now newer.now at)) }
@@ -23,26 +30,24 @@ fn is_point_within(plan: Plan, older: &[i64], newer: &[i64], at: usize, sum: i64
     is_below_limit(plan, numerator_at(plan, older, newer, at, sum, 0, force))
 }
 
-// Inner points of a line.
-fn is_line_within(
+// Moving points, none of them stiff: `sum` gives the sum of a point's neighbours.
+fn is_run_within<F: Fn(usize) -> i64 + Drop>(
     plan: Plan,
     older: &[i64],
     newer: &[i64],
+    sum: F,
     from: usize,
     to: usize,
-    hit: Hit,
+    hit: Option<Hit>,
 ) -> bool
     requires ready { Ready plan (pos 0) older.now newer.now × (too_strong hit ≡ false) × (from ≤ to) }
-    requires on_line { OnLine plan.instrument.grid from to × (plan.instrument.settings.m ≡ 0) }
+    requires sums { Sums plan.instrument newer.now (F.pre sum) (F.post sum) from to }
     ensures { Tested (next_of plan.instrument hit older.now newer.now) from to result }
 {
-    let mut at = from;
-    while at < to {
-        let sum = sum_beside(newer, at);
-        if !is_point_within(plan, older, newer, at, sum, hit) {
+    for at in from..to {
+        if !is_point_within(plan, older, newer, at, sum(at), hit) {
             return false;
         }
-        at += 1;
     }
     true
 }
@@ -55,7 +60,7 @@ fn is_end_within(
     near: usize,
     from: usize,
     to: usize,
-    hit: Hit,
+    hit: Option<Hit>,
 ) -> bool
     requires ready { Ready plan (pos 0) older.now newer.now × (too_strong hit ≡ false) × (from ≤ to) }
     requires free_end { FreeEnd plan.instrument near from to }
@@ -75,7 +80,7 @@ fn is_string_within(
     newer: &[i64],
     from: usize,
     to: usize,
-    hit: Hit,
+    hit: Option<Hit>,
 ) -> bool
     requires ready { Ready plan (pos 0) older.now newer.now × (too_strong hit ≡ false) × (plan.instrument.settings.m ≡ 0) }
     requires one_row { (plan.instrument.grid.rows ≡ 1) × Moves plan.instrument.grid from to × (from < to) }
@@ -87,35 +92,18 @@ fn is_string_within(
     if !is_end_within(plan, older, newer, 1, from, first, hit) {
         return false;
     }
-    if !is_line_within(plan, older, newer, first, last, hit) {
+    if !is_run_within(
+        plan,
+        older,
+        newer,
+        |at| sum_beside(newer, at),
+        first,
+        last,
+        hit,
+    ) {
         return false;
     }
     is_end_within(plan, older, newer, n - 2, last, to, hit)
-}
-
-// Moving points of a row of a grid.
-fn is_grid_within(
-    plan: Plan,
-    older: &[i64],
-    newer: &[i64],
-    from: usize,
-    to: usize,
-    hit: Hit,
-) -> bool
-    requires ready { Ready plan (pos 0) older.now newer.now × (too_strong hit ≡ false) × (plan.instrument.settings.m ≡ 0) }
-    requires soft_grid { (plan.instrument.grid.rows ≡ 1 → ⊥) × Moves plan.instrument.grid from to }
-    ensures { Tested (next_of plan.instrument hit older.now newer.now) from to result }
-{
-    let columns = plan.instrument.grid.columns;
-    let mut at = from;
-    while at < to {
-        let sum = sum_around(newer, at, columns);
-        if !is_point_within(plan, older, newer, at, sum, hit) {
-            return false;
-        }
-        at += 1;
-    }
-    true
 }
 
 // Moving points of a row.
@@ -125,14 +113,23 @@ pub(crate) fn is_row_within(
     newer: &[i64],
     from: usize,
     to: usize,
-    hit: Hit,
+    hit: Option<Hit>,
 ) -> bool
     requires ready { Ready plan (pos 0) older.now newer.now × (too_strong hit ≡ false) × (plan.instrument.settings.m ≡ 0) }
     requires moves { Moves plan.instrument.grid from to }
     ensures { Tested (next_of plan.instrument hit older.now newer.now) from to result }
 {
     if plan.instrument.grid.rows != 1 {
-        return is_grid_within(plan, older, newer, from, to, hit);
+        let columns = plan.instrument.grid.columns;
+        return is_run_within(
+            plan,
+            older,
+            newer,
+            |at| sum_around(newer, at, columns),
+            from,
+            to,
+            hit,
+        );
     }
     if from == to {
         return true;

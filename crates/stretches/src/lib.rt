@@ -19,93 +19,81 @@ pub struct Stretch {
 }
 
 // k, or the end of from..to that is nearer to it. Ruled out: the first end not looked at; the last end not looked at.
+#[tactic(auto, using(crate::proofs::StretchLaws::clamp_is))]
 pub fn clamped(from: usize, to: usize, k: usize) -> usize
     ensures { result ≡ clamp from to k }
 {
-    let a = if from < k { k } else { from };
-    if a < to { a } else { to }
-}
-
-// What lies of a stretch in a..e. Ruled out: all its points after a; every part written.
-pub fn part(s: Stretch, a: usize, e: usize) -> Stretch
-    ensures { result ≡ part_of s a e }
-{
-    let from = clamped(s.from, s.to, a);
-    let to = clamped(s.from, s.to, e);
-    Stretch {
-        from,
-        to,
-        force: s.force,
-        base: s.base,
-        write: s.write,
-    }
-}
-
-// s, with its `write` as the caller's constant. Ruled out: its own `write` kept; no point of it left.
-pub fn as_written(s: Stretch, wanted: bool) -> Stretch
-    ensures { result ≡ with_write s wanted }
-{
-    Stretch {
-        from: s.from,
-        to: s.to,
-        force: s.force,
-        base: s.base,
-        write: wanted,
-    }
+    k.max(from).min(to)
 }
 
 // The force of a hit on a point. Ruled out: the force on every point; the force on none.
-pub fn force_at(hit: Hit, at: usize) -> i64
+pub fn force_at(hit: Option<Hit>, at: usize) -> i64
     ensures { result ≡ force_of hit at }
 {
-    let Hit::At { point, force } = hit else {
+    let Some(hit) = hit else {
         return 0;
     };
-    if at == point { force } else { 0 }
+    if at == hit.point { hit.force } else { 0 }
 }
 
 // The end of the stretch at a, of points as far as e: the hit's point is a stretch of its own.
-fn stretch_end(hit: Hit, a: usize, e: usize) -> usize
+#[tactic(auto, using(crate::proofs::StretchLaws::end_row, crate::proofs::StretchLaws::end_after, crate::proofs::StretchLaws::end_here))]
+fn stretch_end(hit: Option<Hit>, a: usize, e: usize) -> usize
     ensures { result ≡ end_of hit a e }
 {
-    let Hit::At { point, force: _ } = hit else {
+    let Some(hit) = hit else {
         return e;
     };
-    if point < a {
+    if hit.point < a {
         return e;
     }
-    if point == a {
-        if a < e {
-            return a + 1;
-        }
-        return e;
-    }
-    clamped(a, e, point)
-}
-
-// The stretch at `at`, of the points of a row. Ruled out: the hit's point with those after it; the hit's point with those before it.
-pub fn stretch_at(row: Stretch, hit: Hit, at: usize) -> Stretch
-    ensures { result ≡ stretch_at row hit at }
-{
-    let to = stretch_end(hit, at, row.to);
-    let force = force_at(hit, at);
-    Stretch {
-        from: at,
-        to,
-        force,
-        base: row.base,
-        write: row.write,
-    }
+    clamped(a.saturating_add(1), e, hit.point)
 }
 
 // Whether a hit is at one of the points from..to. Ruled out: the point `to` counted in; the point `from` left out.
-pub fn is_hit_in(hit: Hit, from: usize, to: usize) -> bool
+#[tactic(auto, using(crate::proofs::StretchLaws::hit_here), unfolding(crate::specs::Stretches::hit_in))]
+pub fn is_hit_in(hit: Option<Hit>, from: usize, to: usize) -> bool
     ensures { result ≡ hit_in hit from to }
 {
-    let Hit::At { point, force: _ } = hit else {
+    let Some(hit) = hit else {
         return false;
     };
-    if from <= point { point < to } else { false }
+    from <= hit.point && hit.point < to
+}
+
+impl Stretch {
+    // What lies of it in a..e. Ruled out: all its points after a; every part written.
+    pub fn part(self, a: usize, e: usize) -> Stretch
+        ensures { result ≡ part_of self a e }
+    {
+        let from = clamped(self.from, self.to, a);
+        let to = clamped(self.from, self.to, e);
+        Stretch { from, to, ..self }
+    }
+
+    // It, with its `write` as the caller's constant. Ruled out: its own `write` kept; no point of it left.
+    pub fn as_written(self, wanted: bool) -> Stretch
+        ensures { result ≡ with_write self wanted }
+    {
+        Stretch {
+            write: wanted,
+            ..self
+        }
+    }
+
+    // The stretch at `at`, of its points. Ruled out: the hit's point with those after it; the hit's point with those before it.
+    pub fn stretch_at(self, hit: Option<Hit>, at: usize) -> Stretch
+        ensures { result ≡ stretch_at self hit at }
+    {
+        let to = stretch_end(hit, at, self.to);
+        let force = force_at(hit, at);
+        Stretch {
+            from: at,
+            to,
+            force,
+            ..self
+        }
+    }
 }
 
 // The most points of a piece: a row of a grid is one, a line has several.
@@ -118,13 +106,7 @@ fn piece_end(at: usize, to: usize, in_place: bool) -> usize
     if !in_place {
         return to;
     }
-    if to <= at {
-        return to;
-    }
-    if to - at < PIECE {
-        return to;
-    }
-    at + PIECE
+    to.min(at.saturating_add(PIECE))
 }
 
 // The piece at `at`, of points as far as `to`, without a force. In place its first value goes to place 0, else each to its point's place.

@@ -1,127 +1,113 @@
 -- Which slice has which level, and the turn after some steps.
 use mathlib.Core.Path.{◌≡◌, refl, ap, ◌∙◌}
-use mathlib.Core.Bool.{not}
+use mathlib.Core.Bool.{true, false}
 use mathlib.Core.List.{List}
-use Prim.Native.Nat.{ℕ, zero, suc, ◌+◌, ◌%◌, ◌≤◌, ◌<◌}
+use Prim.Native.Nat.{ℕ, zero, suc, ◌%◌}
 use native.Mathlib.Omega.{arith}
-use lib.Dec.{eqb}
 use lib.IntN.{ℤ}
-use Rattle.turns.specs.Turns.{next_turn, turn_after, older_of, newer_of, out_of}
-
--- ---- a turn that is none of 0 to 3
-
-pub later : (P : ℕ → Type 0) → ((k : ℕ) → P (suc (suc (suc (suc k))))) → (p : ℕ) → (p ≡ 0 → ⊥) → (p ≡ 1 → ⊥) → (p ≡ 2 → ⊥) → (p ≡ 3 → ⊥)
-    → P p
-later P f zero n₀ n₁ n₂ n₃ = absurd (n₀ refl)
-later P f (suc zero) n₀ n₁ n₂ n₃ = absurd (n₁ refl)
-later P f (suc (suc zero)) n₀ n₁ n₂ n₃ = absurd (n₂ refl)
-later P f (suc (suc (suc zero))) n₀ n₁ n₂ n₃ = absurd (n₃ refl)
-later P f (suc (suc (suc (suc k)))) n₀ n₁ n₂ n₃ = f k
+use Rattle.turns.specs.declared.Turn.{Turn}
+use Rattle.turns.specs.declared.Turn.TheVariants.{First, Second, Last, There, Exchanged}
+use Rattle.turns.specs.Turns.{of_two, next_turn, turn_after, turn_of_three, turn_of_two, older_of, newer_of, out_of}
 
 -- ---- which slice holds which level
 
-module _ (p : ℕ) (a b c : List ℤ) where
+module _ (t : Turn) (a b c : List ℤ) where
   pub record AtTurn (older newer out : List ℤ) : Type 0 where
-    pub older_is : older_of p a b c ≡ older
-    pub newer_is : newer_of p a b c ≡ newer
-    pub out_is : out_of p a b c ≡ out
+    pub older_is : older_of t a b c ≡ older
+    pub newer_is : newer_of t a b c ≡ newer
+    pub out_is : out_of t a b c ≡ out
 
   -- a turn that is known
-  pub turn_at : (q : ℕ) → p ≡ q → AtTurn (older_of q a b c) (newer_of q a b c) (out_of q a b c)
-  turn_at q e = record {
-    older_is = ap (λ (p : ℕ). older_of p a b c) e;
-    newer_is = ap (λ (p : ℕ). newer_of p a b c) e;
-    out_is = ap (λ (p : ℕ). out_of p a b c) e;
+  pub turn_at : (u : Turn) → t ≡ u → AtTurn (older_of u a b c) (newer_of u a b c) (out_of u a b c)
+  turn_at u e = record {
+    older_is = ap (λ (t : Turn). older_of t a b c) e;
+    newer_is = ap (λ (t : Turn). newer_of t a b c) e;
+    out_is = ap (λ (t : Turn). out_of t a b c) e;
   }
-
-  pub turn_4 : (p ≡ 0 → ⊥) → (p ≡ 1 → ⊥) → (p ≡ 2 → ⊥) → (p ≡ 3 → ⊥) → AtTurn b a b
-  turn_4 n₀ n₁ n₂ n₃ = record {
-    older_is = later (λ p. older_of p a b c ≡ b) (λ k. refl) p n₀ n₁ n₂ n₃;
-    newer_is = later (λ p. newer_of p a b c ≡ a) (λ k. refl) p n₀ n₁ n₂ n₃;
-    out_is = later (λ p. out_of p a b c ≡ b) (λ k. refl) p n₀ n₁ n₂ n₃;
-  }
-
--- of three levels, the last turn
-pub turn_2 : (p : ℕ) (a b c : List ℤ) → p < 3 → (p ≡ 0 → ⊥) → (p ≡ 1 → ⊥) → AtTurn p a b c c a b
-turn_2 p a b c l n₀ n₁ = turn_at p a b c 2 (omega (arith, n₀, n₁))
 
 -- ---- after a step the newer level is older, and the next level newer
 
-pub turned_older : (p : ℕ) (a b c : List ℤ) → older_of (next_turn p) a b c ≡ newer_of p a b c
-turned_older zero a b c = refl
-turned_older (suc zero) a b c = refl
-turned_older (suc (suc zero)) a b c = refl
-turned_older (suc (suc (suc zero))) a b c = refl
-turned_older (suc (suc (suc (suc k)))) a b c = refl
+pub turned_older : (t : Turn) (a b c : List ℤ) → older_of (next_turn t) a b c ≡ newer_of t a b c
+turned_older First a b c = refl
+turned_older Second a b c = refl
+turned_older Last a b c = refl
+turned_older There a b c = refl
+turned_older Exchanged a b c = refl
 
-pub turned_newer : (p : ℕ) (a b c : List ℤ) → newer_of (next_turn p) a b c ≡ out_of p a b c
-turned_newer zero a b c = refl
-turned_newer (suc zero) a b c = refl
-turned_newer (suc (suc zero)) a b c = refl
-turned_newer (suc (suc (suc zero))) a b c = refl
-turned_newer (suc (suc (suc (suc k)))) a b c = refl
+pub turned_newer : (t : Turn) (a b c : List ℤ) → newer_of (next_turn t) a b c ≡ out_of t a b c
+turned_newer First a b c = refl
+turned_newer Second a b c = refl
+turned_newer Last a b c = refl
+turned_newer There a b c = refl
+turned_newer Exchanged a b c = refl
 
 -- room for the level after it: of three levels older's, of two newer's
-pub turned_room : (P : List ℤ → Type 0) (p : ℕ) (a b c : List ℤ) → (p < 3 → P (older_of p a b c)) → P (newer_of p a b c)
-    → P (out_of (next_turn p) a b c)
-turned_room P zero a b c x y = x (omega arith)
-turned_room P (suc zero) a b c x y = x (omega arith)
-turned_room P (suc (suc zero)) a b c x y = x (omega arith)
-turned_room P (suc (suc (suc zero))) a b c x y = y
-turned_room P (suc (suc (suc (suc k)))) a b c x y = y
+pub turned_room : (P : List ℤ → Type 0) (t : Turn) (a b c : List ℤ) → (of_two t ≡ false → P (older_of t a b c)) → P (newer_of t a b c)
+    → P (out_of (next_turn t) a b c)
+turned_room P First a b c x y = x refl
+turned_room P Second a b c x y = x refl
+turned_room P Last a b c x y = x refl
+turned_room P There a b c x y = y
+turned_room P Exchanged a b c x y = y
+
+-- ---- of two levels the third slice holds none
+
+pub two_older : (t : Turn) (a b c d : List ℤ) → of_two t ≡ true → older_of t a b c ≡ older_of t a b d
+two_older First a b c d e = cc
+two_older Second a b c d e = cc
+two_older Last a b c d e = cc
+two_older There a b c d e = refl
+two_older Exchanged a b c d e = refl
+
+pub two_newer : (t : Turn) (a b c d : List ℤ) → of_two t ≡ true → newer_of t a b c ≡ newer_of t a b d
+two_newer First a b c d e = cc
+two_newer Second a b c d e = cc
+two_newer Last a b c d e = cc
+two_newer There a b c d e = refl
+two_newer Exchanged a b c d e = refl
 
 -- ---- the turn after n steps
 
 -- as many levels as before
-pub turn_two : (first n : ℕ) → 3 ≤ turn_after first n → 3 ≤ first
-unfolding turn_after
-turn_two first zero l = l
-turn_two first (suc n) l = turn_two first n (from (turn_after first n) l)
-  where
-    from : (p : ℕ) → 3 ≤ next_turn p → 3 ≤ p
-    from zero l = absurd (omega arith)
-    from (suc zero) l = absurd (omega arith)
-    from (suc (suc zero)) l = absurd (omega arith)
-    from (suc (suc (suc k))) l = omega arith
+two_next : (t : Turn) → of_two (next_turn t) ≡ of_two t
+two_next First = refl
+two_next Second = refl
+two_next Last = refl
+two_next There = refl
+two_next Exchanged = refl
 
-pub turn_start : (first : ℕ) → first ≡ turn_after first 0
+pub two_after : (first : Turn) (n : ℕ) → of_two (turn_after first n) ≡ of_two first
 unfolding turn_after
-turn_start first = refl
+two_after t zero = refl
+two_after t (suc n) = two_next (turn_after t n) ∙ two_after t n
 
-pub turn_next : (first n m : ℕ) → suc n ≡ m → next_turn (turn_after first n) ≡ turn_after first m
+pub turn_start : (first : Turn) → first ≡ turn_after first 0
 unfolding turn_after
-turn_next first n m e = ap (turn_after first) e
+turn_start t = refl
 
--- of three levels it is the number of steps modulo 3
-pub turn_three : (n : ℕ) → turn_after 0 n ≡ n % 3
+pub turn_next : (first : Turn) (n m : ℕ) → suc n ≡ m → next_turn (turn_after first n) ≡ turn_after first m
+unfolding turn_after
+turn_next t n m e = ap (turn_after t) e
+
+-- of three levels it goes by the number of steps modulo 3
+pub turn_three : (n : ℕ) → turn_after First n ≡ turn_of_three (n % 3)
 unfolding turn_after
 turn_three zero = refl
-turn_three (suc n) = ap next_turn (turn_three n) ∙ go (n % 3) refl
+turn_three (suc n) = ap next_turn (turn_three n) ∙ go (n % 3) (suc n % 3) refl refl
   where
-    go : (m : ℕ) → m ≡ n % 3 → next_turn m ≡ suc n % 3
-    go zero e = omega (arith, e)
-    go (suc zero) e = omega (arith, e)
-    go (suc (suc zero)) e = omega (arith, e)
-    go (suc (suc (suc k))) e = absurd (omega (arith, e))
+    go : (m k : ℕ) → m ≡ n % 3 → k ≡ suc n % 3 → next_turn (turn_of_three m) ≡ turn_of_three k
+    go zero k e f = let h : 1 ≡ k = omega (arith, e, f) in ap turn_of_three h
+    go (suc zero) k e f = let h : 2 ≡ k = omega (arith, e, f) in ap turn_of_three h
+    go (suc (suc zero)) k e f = let h : 0 ≡ k = omega (arith, e, f) in ap turn_of_three h
+    go (suc (suc (suc j))) k e f = absurd (omega (arith, e))
 
 -- of two levels each stands in the other's slice after an odd number of steps
-turn_odd : (n : ℕ) → turn_after 3 n ≡ 3 + n % 2
+pub turn_two : (n : ℕ) → turn_after There n ≡ turn_of_two (n % 2)
 unfolding turn_after
-turn_odd zero = refl
-turn_odd (suc n) = ap next_turn (turn_odd n) ∙ go (n % 2) refl
+turn_two zero = refl
+turn_two (suc n) = ap next_turn (turn_two n) ∙ go (n % 2) (suc n % 2) refl refl
   where
-    go : (m : ℕ) → m ≡ n % 2 → next_turn (3 + m) ≡ 3 + suc n % 2
-    go zero e = omega (arith, e)
-    go (suc zero) e = omega (arith, e)
-    go (suc (suc k)) e = absurd (omega (arith, e))
-
-pub turn_many : (n : ℕ) → 3 ≤ turn_after 3 n
-turn_many n = omega (arith, turn_odd n)
-
-pub turn_exchanged : (n : ℕ) → not (eqb (turn_after 3 n) 3) ≡ eqb (n % 2) 1
-turn_exchanged n = ap (λ (p : ℕ). not (eqb p 3)) (turn_odd n) ∙ go (n % 2) refl
-  where
-    go : (m : ℕ) → m ≡ n % 2 → not (eqb (3 + m) 3) ≡ eqb m 1
-    go zero e = refl
-    go (suc zero) e = refl
-    go (suc (suc k)) e = absurd (omega (arith, e))
+    go : (m k : ℕ) → m ≡ n % 2 → k ≡ suc n % 2 → next_turn (turn_of_two m) ≡ turn_of_two k
+    go zero k e f = let h : 1 ≡ k = omega (arith, e, f) in ap turn_of_two h
+    go (suc zero) k e f = let h : 0 ≡ k = omega (arith, e, f) in ap turn_of_two h
+    go (suc (suc j)) k e f = absurd (omega (arith, e))

@@ -35,5 +35,6 @@ returns-in_default c =
     let a = c.args in
     c.row_not_zero.ensures ∙
     ap (row_not_zero a.row.now)
-    (c.straight_run.ensures ∙ straight_is _ _ c.requires.0 c.requires.1 (not_round _ (λ e. c.in_default.not-MembraneRound (c.from.ensures ∙ e)))) ∙
+    (c.straight_run.ensures ∙ straight_is _ _ c.requires.0 c.requires.1
+    (not_round _ (λ e. c.in_default.not-MembraneRound (c.from.ensures ∙ e)))) ∙
     sym (row_test a.g c.requires.0 a.b c.requires.1 a.row.now c.requires.2)

@@ -1,5 +1,5 @@
 -- `carry_out` meets its contract: the run of the line's moving points, and the older level's shape copied to the newer.
-use Rattle.std.proofs.Common.{◌≡◌, sym, ap, ◌∙◌, length, refl}
+use Rattle.std.proofs.Common.{ap, ◌∙◌, length, refl, arith}
 use Rattle.scheme.proofs.Laws.Lists.{length-tabulate}
 use Rattle.pluck.proofs.CallLaws.{some, narrow, stored, stored_low, as_long, starts, ends, inside, level_is}
 use Rattle.pluck.proofs.call.carry_out.Goals as goal
@@ -20,7 +20,7 @@ pub fill-requires : goal.fill-requires
 fill-requires c = inside _ _ _ _ _ _ c.requires c.straight_run-run.result c.straight_run-run.ensures
 
 pub copy_from_slice-requires : goal.copy_from_slice-requires
-copy_from_slice-requires c = as_long _ _ _ _ _ _ c.requires ∙ sym (ap length c.fill.ensures ∙ length-tabulate _ _)
+copy_from_slice-requires c = omega (arith, as_long _ _ _ _ _ _ c.requires, ap length c.fill.ensures ∙ length-tabulate _ _)
 
 pub returns : goal.returns
 returns c =

@@ -1,5 +1,5 @@
 -- `value` meets its contract: the place is in the table, no product passes 2⁶³, and the quotient is cut toward zero.
-use Rattle.std.proofs.Common.{ℕ, ◌-◌, ◌*◌, ◌/◌, ◌≡◌, ◌≤◌, ◌<◌, ap, ◌∙◌, slice_index_or, arith, pos, ◌*ℤ◌}
+use Rattle.std.proofs.Common.{ℕ, ◌-◌, ◌*◌, ◌/◌, ◌≡◌, ◌<◌, ap, ◌∙◌, slice_index_or, arith, pos, ◌*ℤ◌}
 use lib.Signed.{quot_z}
 use Rattle.bounded.proofs.Expr.{E, at, num, ◌⊠◌, ◌÷◌, fits, is}
 use Rattle.types.specs.Numbers.{ceiling}
