@@ -3,7 +3,7 @@ ghost use Rattle.std.specs.Prelude.{◌≡◌, ◌&&◌, ◌≤◌, ◌<◌};
 ghost use Rattle.scheme.specs.Instruments.{round_edge};
 ghost use Rattle.kinds.specs.Runs.{inner_run, on_square, straight_run};
 
-use types::{Grid, Kind};
+use types::Grid;
 
 // The columns a with from ≤ a < to. A Range is not Copy, as this is and what holds it.
 #[derive(Clone, Copy)]
@@ -57,9 +57,9 @@ fn inner_run(g: Grid, row: usize) -> Run
     }
 }
 
-// A row of a grid that is not round, whatever its size.
+// A row of a grid that is not round, whatever its size: by a match over the kind's number.
 // Ruled out: the last column of kind 2 taken as fixed; the outer ring of kind 5 forgotten in its last row.
-#[tactic(auto, unfolding(crate::specs::Runs::straight_run, crate::specs::Runs::run_in))]
+#[tactic(auto, unfolding(crate::specs::Runs::straight_run, crate::specs::Runs::run_in, types::specs::Numbers::kind_of))]
 pub fn straight_run(g: Grid, row: usize) -> Run
     ensures { result ≡ straight_run g row }
 {
@@ -67,11 +67,11 @@ pub fn straight_run(g: Grid, row: usize) -> Run
     if c == 0 || g.rows <= row {
         return Run::NONE;
     }
-    match Kind::from(g.kind) {
-        Kind::StringFixed | Kind::Bar => Run { from: 1, to: c - 1 },
-        Kind::StringFixedFree => Run { from: 1, to: c },
-        Kind::StringFree => Run { from: 0, to: c },
-        Kind::MembraneRectangular | Kind::Plate => inner_run(g, row),
-        Kind::MembraneRound | Kind::Unknown => Run::NONE,
+    match g.kind {
+        Grid::STRING_FIXED | Grid::BAR => Run { from: 1, to: c - 1 },
+        Grid::STRING_FIXED_FREE => Run { from: 1, to: c },
+        Grid::STRING_FREE => Run { from: 0, to: c },
+        Grid::MEMBRANE_RECTANGULAR | Grid::PLATE => inner_run(g, row),
+        _ => Run::NONE,
     }
 }

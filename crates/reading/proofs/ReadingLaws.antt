@@ -13,9 +13,9 @@ use Rattle.scheme.specs.Refusals.{reading_refusal}
 use Rattle.scheme.proofs.Laws.Refusals.{passes_low, reading_passes}
 
 -- the pick-up is a place of the level
-pub pick_within : (g : Grid) (newer : List ℤ) (pick : ℕ) → reading_refusal g newer pick ≡ Ok tt → pick < length newer
-pick_within g newer pick e = let p = reading_passes g newer pick e in omega (arith, p.pick_in, p.newer_passes.long)
+pub in_level : (g : Grid) (newer : List ℤ) (pick : ℕ) → reading_refusal g newer pick ≡ Ok tt → pick < length newer
+in_level g newer pick e = let p = reading_passes g newer pick e in omega (arith, p.pick_in, p.newer_passes.long)
 
 -- and the point there is not beyond the ceiling
-pub point_low : (g : Grid) (newer : List ℤ) (pick : ℕ) → reading_refusal g newer pick ≡ Ok tt → nat_abs (point newer pick) ≤ ceiling
-point_low g newer pick e = passes_low g newer (reading_passes g newer pick e).newer_passes pick
+pub low : (g : Grid) (newer : List ℤ) (pick : ℕ) → reading_refusal g newer pick ≡ Ok tt → nat_abs (point newer pick) ≤ ceiling
+low g newer pick e = passes_low g newer (reading_passes g newer pick e).newer_passes pick

@@ -19,7 +19,7 @@ fn float_of(v: i64) -> f64
 
 // The reading of newer at a pick-up, or what refuses it.
 // Ruled out: the point divided by 2⁴²; a refused reading that answers a value.
-#[tactic(auto, using(crate::proofs::ReadingLaws::pick_within, crate::proofs::ReadingLaws::point_low), unfolding(scheme::specs::Calls::reading))]
+#[tactic(auto, using(crate::proofs::ReadingLaws::in_level, crate::proofs::ReadingLaws::low), unfolding(scheme::specs::Calls::reading))]
 pub fn reading(g: Grid, newer: &[i64], pick: usize) -> Result<f64, Refusal>
     ensures { result ≡ Calls.reading g newer.now pick }
 {

@@ -7,7 +7,7 @@ ghost use Rattle.kinds.specs.Runs.{in_run, round_run, row_run};
 
 use kinds::{Run, is_round_fixed, straight_run};
 use sizes::has_size;
-use types::{Grid, Kind};
+use types::Grid;
 
 // Row b of a round membrane of c columns: from its first moving column, and as far from the right.
 fn round_run(c: usize, b: usize) -> Run
@@ -24,12 +24,13 @@ fn round_run(c: usize, b: usize) -> Run
 
 // A row of a grid of any kind, whatever its size: that of a grid of the table, which is not tested for again.
 // Ruled out: kind 5 taken as the round one; the rows taken for the columns.
+#[tactic(auto, unfolding(types::specs::Numbers::kind_of))]
 pub fn row_run(g: Grid, row: usize) -> Run
     ensures { result ≡ row_run g row }
 {
-    match Kind::from(g.kind) {
-        Kind::MembraneRound if g.columns <= 64 && row < g.columns => round_run(g.columns, row),
-        Kind::MembraneRound => Run::NONE,
+    match g.kind {
+        Grid::MEMBRANE_ROUND if g.columns <= 64 && row < g.columns => round_run(g.columns, row),
+        Grid::MEMBRANE_ROUND => Run::NONE,
         _ => straight_run(g, row),
     }
 }

@@ -1,8 +1,8 @@
 -- What the steps of a block are given, where 1 to 12 let it pass, and what they leave.
-use mathlib.Core.Path.{◌≡◌, refl, sym, ap, ◌∙◌, subst}
-use mathlib.Core.Bool.{Bool, true, false, cond, true≢false}
+use mathlib.Core.Path.{◌≡◌, sym, ap, ◌∙◌, subst}
+use mathlib.Core.Bool.{Bool, false, cond, true≢false}
 use mathlib.Core.List.{List, []}
-use Prim.Native.Nat.{ℕ, zero, suc, ◌%◌, ◌≤◌, ◌<◌}
+use Prim.Native.Nat.{ℕ, ◌%◌, ◌<◌}
 use native.Mathlib.Omega.{arith}
 use lib.Dec.{ltb}
 use lib.IntN.{ℤ, pos}
@@ -111,9 +111,11 @@ module _ (i : Instrument) (older newer work samples : List ℤ) (pick : ℕ) (h 
   -- one that is refused
   pub turned_down : {x : Refusal} → refuses ≡ Err x
       → LeftInTurn refuses (block i older newer work samples pick h) (Err x) older newer work samples
-  turned_down e =
-      (e, ap (λ (r : Result Unit Refusal). block_refused r older newer work samples) (sym e)
-          ∙ sym (block_refused_lem i older newer work samples pick h (ap accepted e)))
+  turned_down e = (
+    e,
+    ap (λ (r : Result Unit Refusal). block_refused r older newer work samples) (sym e)
+        ∙ sym (block_refused_lem i older newer work samples pick h (ap accepted e)),
+  )
 
   -- one that is carried out: 13 where places are left
   module _ (e : refuses ≡ Ok tt) {r : Steps} {older₁ newer₁ work₁ samples₁ : List ℤ} {outcome : Result Unit Refusal}
@@ -159,9 +161,11 @@ module _ (i : Instrument) (older newer samples : List ℤ) (pick : ℕ) (h : Opt
   -- one that is refused
   pub turned_down_two : {x : Refusal} → refuses_two ≡ Err x
       → LeftInPlace refuses_two (block_in_place i older newer samples pick h) (Err x) older newer samples
-  turned_down_two e =
-      (e, ap (λ (r : Result Unit Refusal). without_work (block_refused r older newer [] samples)) (sym e)
-          ∙ sym (in_place_refused i older newer samples pick h (ap accepted e)))
+  turned_down_two e = (
+    e,
+    ap (λ (r : Result Unit Refusal). without_work (block_refused r older newer [] samples)) (sym e)
+        ∙ sym (in_place_refused i older newer samples pick h (ap accepted e)),
+  )
 
   -- one that is carried out
   module _ (e : refuses_two ≡ Ok tt) {r : Steps} {older₁ newer₁ samples₁ : List ℤ} {outcome : Result Unit Refusal} (third₁ : List ℤ)

@@ -4,9 +4,8 @@ use mathlib.Core.Path.{◌≡◌, refl, sym, ap, ◌∙◌, subst}
 use mathlib.Core.Bool.{Bool, true, false, cond, not, ◌&&◌, true≢false}
 use mathlib.Core.List.{List}
 use mathlib.Core.Logic.{◌⊎◌, inl, inr}
-use Prim.Native.Nat.{ℕ, ◌+◌, ◌-◌, ◌≤◌, ◌<◌, zero-le}
+use Prim.Native.Nat.{ℕ, ◌+◌, ◌-◌, ◌≤◌, ◌<◌}
 use native.Mathlib.Decide.{dec_lt}
-use native.Mathlib.Nat.{sub-zero}
 use native.Mathlib.Omega.{arith}
 use borrow.Author.Tests.{not-true, not-false}
 use lib.IntN.{ℤ, pos}
@@ -192,9 +191,6 @@ pub record Running (v : ℕ → Next) (write : Bool) (base : ℕ) (out₀ : List
   pub upto : at ≤ to
 
 module _ {v : ℕ → Next} {write : Bool} {base : ℕ} where
-  pub running_start : (out : List ℤ) (from to : ℕ) → base ≤ from → from ≤ to → Running v write base out from to out from 0
-  running_start out from to above h = record { ran = ran_none out from; above = above; order = omega arith; upto = h }
-
   module _ {out₀ out out' : List ℤ} {from to at next n : ℕ} {r : Option ℕ} (g : Running v write base out₀ from to out at n) (h : at ≤ next)
       (q : Ran v write base out out' at next r) where
     -- some points more
@@ -224,40 +220,9 @@ module _ {v : ℕ → Next} {write : Bool} {base : ℕ} where
       → Ran v write base out₀ out a b' r
   ran_ends {out₀} {out} {a} {r = r} e q = subst (λ (n : ℕ). Ran v write base out₀ out a n r) e q
 
--- ---- a loop that puts values: those of the places from..at are put
-
-pub record Putting (v : ℕ → ℤ) (xs₀ : List ℤ) (from to : ℕ) (xs : List ℤ) (at : ℕ) : Type 0 where
-  pub filled : Filled v true 0 xs₀ xs from at
-  pub order : from ≤ at
-  pub upto : at ≤ to
-
-module _ {v : ℕ → ℤ} where
-  pub putting_start : (xs : List ℤ) (from to : ℕ) → from ≤ to → Putting v xs from to xs from
-  putting_start xs from to h = record { filled = filled_none v true 0 xs from; order = omega arith; upto = h }
-
-  pub putting_on : {xs₀ xs : List ℤ} {from to at next : ℕ} → Putting v xs₀ from to xs at → next ≡ at + 1 → at < to
-      → to ≤ length xs₀ → (x : ℤ) → x ≡ v at → Putting v xs₀ from to (set xs at x) next
-  putting_on {xs₀} {xs} {from} {to} {at} {next} p more h room x e = record {
-    filled = filled_append v true 0 zero-le p.order (omega arith) p.filled
-        (coe 0 1 (j. Filled v true 0 xs (set xs (sub-zero at j) x) at (sym more j))
-        (filled_one v true 0 xs at x refl zero-le (omega (arith, p.filled.long)) e));
-    order = omega (arith, p.order);
-    upto = omega arith;
-  }
-
-  pub putting_done : {xs₀ xs : List ℤ} {from to at : ℕ} → Putting v xs₀ from to xs at → to ≤ at → Filled v true 0 xs₀ xs from to
-  putting_done {xs₀} {xs} {from} {to} p h = subst (Filled v true 0 xs₀ xs from) (omega (arith, p.upto)) p.filled
-
 -- ---- a run that tests
 
 module _ {v : ℕ → Next} where
-  -- none of the points, or no more of them
-  pub tested_none : {a b : ℕ} → a ≡ b → Tested v a b true
-  tested_none e = record { low = λ t k s h. absurd (omega arith); stopped = λ t. absurd (true≢false t) }
-
-  pub tested_ends : {a b c : ℕ} → b ≡ c → Tested v a b true → Tested v a c true
-  tested_ends {a} e p = subst (λ (n : ℕ). Tested v a n true) e p
-
   -- a point, by the test that was made of it
   pub tested_point : {a b : ℕ} (r : Bool) → a + 1 ≡ b → r ≡ not (beyond (v a).value) → Tested v a b r
   tested_point {a} {b} r e t = record {

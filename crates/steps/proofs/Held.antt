@@ -1,5 +1,5 @@
 -- A small number that the machine stored is read back.
-use mathlib.Core.Path.{◌≡◌, sym, subst}
+use mathlib.Core.Path.{◌≡◌}
 use Prim.Native.Nat.{ℕ, ◌^◌, ◌≤◌}
 use lib.Dec.{T, ltb}
 use lib.IntN.{ℤ, nat_abs}
@@ -15,8 +15,3 @@ held_below B t h = (given h t).is
 -- within the ceiling
 pub held : {z : ℤ} → nat_abs z ≤ ceiling → to_z w64 (of_z w64 z) ≡ z
 held h = held_below ceiling tt h
-
-pub low_held : (z : ℤ) → nat_abs z ≤ ceiling → nat_abs (to_z w64 (of_z w64 z)) ≤ ceiling
-low_held z h =
-    let e : to_z w64 (of_z w64 z) ≡ z = held h in
-    subst (λ (y : ℤ). nat_abs y ≤ ceiling) (sym e) h

@@ -46,6 +46,9 @@ ready_force r l = record {
   f_low = l;
 }
 
+pub forced : {p : Plan} {older newer : List ℤ} (f : ℤ) → Ready p (pos 0) older newer → nat_abs f ≤ ceiling → Ready p f older newer
+forced f r l = ready_force r l
+
 -- some of the moving points
 pub some_move : {g : Grid} {from to a b : ℕ} → Moves g from to → from ≤ a → a ≤ b → b ≤ to → Moves g a b
 some_move m l o h = record { order = o; each = λ k p q. m.each k (omega arith) (omega arith) }

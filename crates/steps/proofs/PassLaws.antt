@@ -53,12 +53,6 @@ module _ {i : Instrument} {h : Option Hit} {write inPlace : Bool} {newer : List 
   pub passing_none : (older out : List ℤ) (a : ℕ) → Passing i h write inPlace older newer out older out a a (Some 0)
   passing_none older out a = record { ran = ran_none _ a; older_long = refl; out_long = refl; kept = λ e. refl }
 
-  -- the same, by other words for its end
-  pub passing_ends : {older₀ out₀ older out : List ℤ} {a b b' : ℕ} {r : Option ℕ} → b ≡ b'
-      → Passing i h write inPlace older₀ newer out₀ older out a b r → Passing i h write inPlace older₀ newer out₀ older out a b' r
-  passing_ends {older₀} {out₀} {older} {out} {a} {r = r} e p =
-      subst (λ (n : ℕ). Passing i h write inPlace older₀ newer out₀ older out a n r) e p
-
   -- no more points are inexact than there are
   pub passing_most : {older₀ out₀ older out : List ℤ} {a b n : ℕ} → Passing i h write inPlace older₀ newer out₀ older out a b (Some n)
       → n ≤ b

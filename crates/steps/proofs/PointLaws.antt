@@ -222,9 +222,6 @@ module _ {p : Plan} {f : ℤ} {older newer : List ℤ} {k : ℕ} {sum stiff : �
   pub force_held : to_z w64 (of_z w64 f) ≡ f
   force_held = held r.f_low
 
-  pub ready_held : Ready p (to_z w64 (of_z w64 f)) older newer
-  ready_held = subst (λ (z : ℤ). Ready p z older newer) (sym force_held) r
-
   pub beside-held : Neighbouring p.instrument newer k (to_z w64 (of_z w64 sum)) (to_z w64 (of_z w64 stiff))
   beside-held =
       let u = updatable r n in

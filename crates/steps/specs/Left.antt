@@ -1,6 +1,6 @@
 -- What the steps of a call leave in slices that take turns. Vocabulary between the engine's crates: no call that a maker embeds
 -- cites it. What the calls themselves promise is `block` and `block_in_place` of crate scheme.
-use Rattle.std.specs.Prelude.{◌≡◌, cond, List, [], ℕ, ◌%◌, ◌≤◌, ltb, ℤ, pos, length, replicate, Result, Ok, Err}
+use Rattle.std.specs.Prelude.{◌≡◌, cond, List, [], ◌%◌, ◌≤◌, ltb, ℤ, pos, length, replicate, Result, Ok, Err}
 use Rattle.types.specs.declared.Refusal.{Refusal}
 use Rattle.types.specs.declared.Refusal.TheVariants.{NextBeyond}
 use Rattle.types.specs.declared.Grid.{Grid}

@@ -1,5 +1,5 @@
 -- Whole levels: what a step and the steps of a block leave in the lent slices. Vocabulary of private functions.
-use Rattle.std.specs.Prelude.{◌≡◌, Bool, true, false, cond, not, List, ◌⊎◌, ℕ, ◌≤◌, ◌<◌, ltb, ℤ, pos, length, Option, Ok, Err}
+use Rattle.std.specs.Prelude.{◌≡◌, Bool, true, false, cond, not, List, ◌⊎◌, ℕ, ◌≤◌, ltb, ℤ, pos, length, Option, Ok, Err}
 use Rattle.types.specs.declared.Grid.{Grid}
 use Rattle.types.specs.declared.Instrument.{Instrument}
 use Rattle.types.specs.declared.Hit.{Hit}

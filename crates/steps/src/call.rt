@@ -7,9 +7,9 @@ ghost use Rattle.turns.specs.Turns.{turn_after, older_of, newer_of};
 ghost use Rattle.steps.specs.Steps.{Played};
 ghost use Rattle.steps.specs.Left.{Opens, LeftFrom, LeftInTurn, LeftInPlace};
 
+use crate::layout::Layout;
 use crate::play::{Steps, play};
 use block_checks::block_refusal;
-use edges::row_edges;
 use plans::make_plan;
 use slices::clear;
 use stretches::PIECE;
@@ -23,7 +23,8 @@ pub struct InTurn {
     pub turn: Turn,
 }
 
-// The steps of a block that 1 to 12 let pass: of three levels from their first turn, of two from theirs.
+// The steps of a block that 1 to 12 let pass: of three levels from their first turn, of two from theirs. Samples, pick and hit stay
+// parameters of their own, since each clause names each of them by itself.
 fn begin(
     i: Instrument,
     older: &mut [i64],
@@ -40,11 +41,9 @@ fn begin(
         (newer_of result.turn older.new newer.new work.new) samples.new
         × (result.turn ≡ turn_after first result.done) }
 {
-    let plan = make_plan(i);
-    let mut edges = [0u16; 128];
-    row_edges(plan.instrument.grid, &mut edges);
+    let layout = Layout::new(make_plan(i));
     clear(work);
-    play(plan, &edges, older, newer, work, samples, pick, hit, first)
+    play(&layout, older, newer, work, samples, pick, hit, first)
 }
 
 // The steps of a block from turn `first`, or what refuses them: `wrong` tells that the third slice has a wrong length.

@@ -5,8 +5,9 @@ ghost use Rattle.scheme.specs.Refusals.{too_strong};
 ghost use Rattle.steps.specs.Plan.{Ready, SoftGrid};
 ghost use Rattle.steps.specs.Run.{Stepping, Placed, Moves};
 ghost use Rattle.steps.specs.Pass.{Passable, Passing, Passed, RowRoom};
-ghost use Rattle.steps.specs.Edges.{EdgesOf};
 
+use crate::basis::Basis;
+use crate::layout::Layout;
 use crate::pieces::put_piece;
 use crate::plates::plate_level;
 use crate::points::points_run;
@@ -16,17 +17,10 @@ use stretches::{Stretch, piece_at};
 use types::Hit;
 
 // The moving points of a row.
-fn row_stretches(
-    plan: Plan,
-    older: &[i64],
-    newer: &[i64],
-    row: Stretch,
-    hit: Option<Hit>,
-    out: &mut [i64],
-) -> Option<u64>
-    requires ready { Ready plan (pos 0) older.now newer.now × Placed row (length out.old) }
-    requires moves { Moves plan.instrument.grid row.from row.to × (too_strong hit ≡ false) × SoftGrid plan.instrument }
-    ensures { Stepping plan.instrument hit row.write row.base older.now newer.now
+fn row_stretches(basis: Basis, row: Stretch, hit: Option<Hit>, out: &mut [i64]) -> Option<u64>
+    requires ready { Placed row (length out.old) }
+    requires moves { Moves basis.plan.instrument.grid row.from row.to × (too_strong hit ≡ false) × SoftGrid basis.plan.instrument }
+    ensures { Stepping basis.entry.plan.instrument hit row.write row.base basis.entry.older.now basis.entry.newer.now
         out.old out.new row.from row.to result }
 {
     let mut inexact = 0;
@@ -34,7 +28,7 @@ fn row_stretches(
     // by `while`: each stretch begins where the one before it ended, which no iterator of the library says
     while at < row.to {
         let s = row.stretch_at(hit, at);
-        inexact += points_run(plan, older, newer, s, out)?;
+        inexact += points_run(basis, s, out)?;
         at = s.to;
     }
     Some(inexact)
@@ -56,14 +50,16 @@ fn row_pass<const WRITE: bool, const IN_PLACE: bool>(
         older.new out.new from to result }
 {
     if !WRITE && plan.m == 0 {
-        return is_row_within(plan, older, newer, from, to, hit).then_some(0);
+        let basis = Basis { plan, older, newer };
+        return is_row_within(basis, from, to, hit).then_some(0);
     }
     let mut inexact = 0;
     let mut at = from;
     // by `while`: each piece begins where the one before it ended
     while at < to {
         let piece = piece_at(at, to, WRITE, IN_PLACE);
-        let n = row_stretches(plan, older, newer, piece, hit, out)?;
+        let basis = Basis { plan, older, newer };
+        let n = row_stretches(basis, piece, hit, out)?;
         put_piece::<IN_PLACE>(out, piece, older);
         inexact += n;
         at = piece.to;
@@ -71,25 +67,24 @@ fn row_pass<const WRITE: bool, const IN_PLACE: bool>(
     Some(inexact)
 }
 
-// Every moving point: edges has the moving points of each row. Off a line there is no stiffness.
+// Every moving point, row by row. Off a line there is no stiffness.
 fn level_run<const WRITE: bool, const IN_PLACE: bool>(
-    plan: Plan,
-    edges: &[u16; 128],
+    layout: &Layout,
     older: &mut [i64],
     newer: &[i64],
     out: &mut [i64],
     hit: Option<Hit>,
 ) -> Option<u64>
-    requires passable { Passable plan hit IN_PLACE older.old newer.now out.old }
-    requires edges_of { EdgesOf plan.instrument.grid edges.now × SoftGrid plan.instrument }
-    ensures { Passed plan.instrument hit WRITE IN_PLACE older.old newer.now out.old
+    requires passable { Passable layout.now.plan hit IN_PLACE older.old newer.now out.old }
+    requires soft { SoftGrid layout.now.plan.instrument }
+    ensures { Passed layout.now.plan.instrument hit WRITE IN_PLACE older.old newer.now out.old
         older.new out.new result }
 {
-    let rows = plan.instrument.grid.rows;
+    let plan = layout.plan;
     let mut inexact = 0;
-    for row in 0..rows {
-        let from = edges[row] as usize;
-        let to = edges[64 + row] as usize;
+    for row in 0..plan.instrument.grid.rows {
+        let from = layout.edges[row] as usize;
+        let to = layout.edges[64 + row] as usize;
         inexact += row_pass::<WRITE, IN_PLACE>(plan, older, newer, from, to, hit, out)?;
     }
     Some(inexact)
@@ -97,20 +92,22 @@ fn level_run<const WRITE: bool, const IN_PLACE: bool>(
 
 // The next level, worked out beside the two, tested in place or written in place. Off a line only a plate is stiff.
 pub(crate) fn next_level<const WRITE: bool, const IN_PLACE: bool>(
-    plan: Plan,
-    edges: &[u16; 128],
+    layout: &Layout,
     older: &mut [i64],
     newer: &[i64],
     out: &mut [i64],
     hit: Option<Hit>,
 ) -> Option<u64>
-    requires passable { Passable plan hit IN_PLACE older.old newer.now out.old }
-    requires edges_of { EdgesOf plan.instrument.grid edges.now }
-    ensures { Passed plan.instrument hit WRITE IN_PLACE older.old newer.now out.old
+    requires { Passable layout.now.plan hit IN_PLACE older.old newer.now out.old }
+    ensures { Passed layout.now.plan.instrument hit WRITE IN_PLACE older.old newer.now out.old
         older.new out.new result }
 {
+    let plan = layout.plan;
     if plan.m != 0 && plan.instrument.grid.rows != 1 {
-        return plate_level::<WRITE, IN_PLACE>(plan, older, newer, out, hit);
+        if hit.is_none() {
+            return plate_level::<WRITE, IN_PLACE, false>(plan, older, newer, out, hit);
+        }
+        return plate_level::<WRITE, IN_PLACE, true>(plan, older, newer, out, hit);
     }
-    level_run::<WRITE, IN_PLACE>(plan, edges, older, newer, out, hit)
+    level_run::<WRITE, IN_PLACE>(layout, older, newer, out, hit)
 }

@@ -2,7 +2,9 @@
 #![tactic(auto)]
 
 mod arithmetic;
+mod basis;
 mod call;
+mod layout;
 mod level;
 mod neighbours;
 mod pieces;

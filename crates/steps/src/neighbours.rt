@@ -26,10 +26,7 @@ pub(crate) fn sum_at(xs: &[i64], k: usize) -> i64
     requires { (k < length xs.now) × AtMost ceiling (point xs.now) }
     ensures { result ≡ bar_sum xs.now k }
 {
-    if k == 0 {
-        return 0;
-    }
-    if k == xs.len() - 1 {
+    if k == 0 || k == xs.len() - 1 {
         return 0;
     }
     sum_beside(xs, k)

@@ -1,5 +1,5 @@
 // Plates with stiffness. The sum of each point's neighbours is worked out once, a row ahead, and kept from row to row.
-ghost use Rattle.std.specs.Prelude.{◌≡◌, true, false, cond, ◌+◌, ◌-◌, ◌≤◌, ◌<◌, pos, length};
+ghost use Rattle.std.specs.Prelude.{nat_abs, ◌≡◌, true, false, cond, ◌+◌, ◌-◌, ◌≤◌, ◌<◌, pos, length};
 ghost use Rattle.types.specs.Numbers.{ceiling};
 ghost use Rattle.scheme.specs.Lists.{point};
 ghost use Rattle.types.specs.declared.Kind.TheVariants.{Plate};
@@ -11,6 +11,7 @@ ghost use Rattle.steps.specs.Pass.{Passable, Passed};
 ghost use Rattle.steps.specs.Plates.{TwoRows, InRow, Readable, second_at, moving_in};
 
 use crate::arithmetic::stiffness;
+use crate::basis::Basis;
 use crate::neighbours::sum_around;
 use crate::pieces::put_piece;
 use crate::points::next_point;
@@ -19,7 +20,8 @@ use stretches::{Stretch, is_hit_in};
 use types::Hit;
 
 // Where the sums of two rows stand: of column c of the row that begins at point `start` at place here + c; at other + c that of the row
-// above it until column c is done, then that of the row below it. `last` tells that the row below is the ring's.
+// above it until column c is done, then that of the row below it. `last` tells that the row below is the ring's. Both rows lie in one array
+// and are exchanged by their places, so that no sum is moved.
 #[derive(Clone, Copy)]
 pub(crate) struct SumRows {
     pub(crate) start: usize,
@@ -64,105 +66,104 @@ fn second_at(sums: &[i64], rows: SumRows, c: usize, below: i64) -> i64
 
 // A point of a row. Once it is done, the sum below it stands for the one above it.
 fn plate_point(
-    plan: Plan,
-    older: &[i64],
-    newer: &[i64],
+    basis: Basis,
     rows: SumRows,
     at: usize,
     s: Stretch,
     sums: &mut [i64],
     out: &mut [i64],
 ) -> Option<u64>
-    requires ready { Ready plan s.force older.now newer.now × Placed s (length out.old) × (s.from ≤ at) × (at < s.to) }
-    requires two_rows { TwoRows plan.instrument.grid newer.now sums.old rows at
-        × InRow plan.instrument.grid rows s.from s.to }
-    ensures { Advanced plan s older.now newer.now out.old out.new at (at + 1) result
-        × TwoRows plan.instrument.grid newer.now sums.new rows (at + 1) }
+    requires ready { (nat_abs s.force ≤ ceiling) × Placed s (length out.old) × (s.from ≤ at) × (at < s.to) }
+    requires two_rows { TwoRows basis.plan.instrument.grid basis.newer.now sums.old rows at
+        × InRow basis.plan.instrument.grid rows s.from s.to }
+    ensures { Advanced basis.entry.plan s basis.entry.older.now basis.entry.newer.now out.old out.new at (at + 1) result
+        × TwoRows basis.entry.plan.instrument.grid basis.entry.newer.now sums.new rows (at + 1) }
 {
     let c = at - rows.start;
-    let below = sum_below(newer, at, plan.instrument.grid.columns, rows.last);
+    let below = sum_below(
+        basis.newer,
+        at,
+        basis.plan.instrument.grid.columns,
+        rows.last,
+    );
     let second = second_at(sums, rows, c, below);
     let sum = sums[rows.here + c];
     sums[rows.other + c] = below;
-    let stiff = stiffness(plan, second, sum, newer[at]);
-    next_point(plan, older, newer, at, sum, stiff, s, out)
+    let stiff = stiffness(basis.plan, second, sum, basis.newer[at]);
+    next_point(basis, at, sum, stiff, s, out)
 }
 
 // Points of a row, one force on all of them.
 fn plate_run(
-    plan: Plan,
-    older: &[i64],
-    newer: &[i64],
+    basis: Basis,
     rows: SumRows,
     s: Stretch,
     sums: &mut [i64],
     out: &mut [i64],
 ) -> Option<u64>
-    requires ready { Ready plan s.force older.now newer.now × Placed s (length out.old) }
-    requires two_rows { TwoRows plan.instrument.grid newer.now sums.old rows s.from
-        × InRow plan.instrument.grid rows s.from s.to }
-    ensures { Advanced plan s older.now newer.now out.old out.new s.from s.to result
-        × (all_within result ≡ true → TwoRows plan.instrument.grid newer.now sums.new rows s.to) }
+    requires ready { (nat_abs s.force ≤ ceiling) × Placed s (length out.old) }
+    requires two_rows { TwoRows basis.plan.instrument.grid basis.newer.now sums.old rows s.from
+        × InRow basis.plan.instrument.grid rows s.from s.to }
+    ensures { Advanced basis.entry.plan s basis.entry.older.now basis.entry.newer.now out.old out.new s.from s.to result
+        × (all_within result ≡ true → TwoRows basis.entry.plan.instrument.grid basis.entry.newer.now sums.new rows s.to) }
 {
     let mut inexact = 0;
     for at in s.from..s.to {
-        inexact += plate_point(plan, older, newer, rows, at, s, sums, out)?;
+        inexact += plate_point(basis, rows, at, s, sums, out)?;
     }
     Some(inexact)
 }
 
 // The moving points of a row that the hit is among, point by point.
 fn struck_row(
-    plan: Plan,
-    older: &[i64],
-    newer: &[i64],
+    basis: Basis,
     rows: SumRows,
     row: Stretch,
     hit: Option<Hit>,
     sums: &mut [i64],
     out: &mut [i64],
 ) -> Option<u64>
-    requires ready { Ready plan (pos 0) older.now newer.now × Placed row (length out.old) × (too_strong hit ≡ false) }
-    requires two_rows { TwoRows plan.instrument.grid newer.now sums.old rows row.from
-        × InRow plan.instrument.grid rows row.from row.to }
-    ensures { Stepping plan.instrument hit row.write row.base older.now newer.now
+    requires ready { Placed row (length out.old) × (too_strong hit ≡ false) }
+    requires two_rows { TwoRows basis.plan.instrument.grid basis.newer.now sums.old rows row.from
+        × InRow basis.plan.instrument.grid rows row.from row.to }
+    ensures { Stepping basis.entry.plan.instrument hit row.write row.base basis.entry.older.now basis.entry.newer.now
         out.old out.new row.from row.to result
-        × (all_within result ≡ true → TwoRows plan.instrument.grid newer.now sums.new rows row.to) }
+        × (all_within result ≡ true → TwoRows basis.entry.plan.instrument.grid basis.entry.newer.now sums.new rows row.to) }
 {
     let mut inexact = 0;
     for at in row.from..row.to {
         let s = row.stretch_at(hit, at);
-        inexact += plate_point(plan, older, newer, rows, at, s, sums, out)?;
+        inexact += plate_point(basis, rows, at, s, sums, out)?;
     }
     Some(inexact)
 }
 
-// The moving points of a row, where the hit is not among them by one of two loops, each with `write` a constant.
-fn plate_row(
-    plan: Plan,
-    older: &[i64],
-    newer: &[i64],
+// The moving points of a row, where the hit is not among them by one of two loops, each with `write` a constant. A step without a hit
+// doesn't ask for it.
+fn plate_row<const STRUCK: bool>(
+    basis: Basis,
     rows: SumRows,
     row: Stretch,
     hit: Option<Hit>,
     sums: &mut [i64],
     out: &mut [i64],
 ) -> Option<u64>
-    requires ready { Ready plan (pos 0) older.now newer.now × Placed row (length out.old) × (too_strong hit ≡ false) }
+    requires ready { Placed row (length out.old) × (too_strong hit ≡ false) }
     requires force_value { row.force ≡ pos 0 }
-    requires two_rows { TwoRows plan.instrument.grid newer.now sums.old rows row.from
-        × InRow plan.instrument.grid rows row.from row.to }
-    ensures { Stepping plan.instrument hit row.write row.base older.now newer.now
+    requires unstruck { STRUCK ≡ false → hit ≡ None }
+    requires two_rows { TwoRows basis.plan.instrument.grid basis.newer.now sums.old rows row.from
+        × InRow basis.plan.instrument.grid rows row.from row.to }
+    ensures { Stepping basis.entry.plan.instrument hit row.write row.base basis.entry.older.now basis.entry.newer.now
         out.old out.new row.from row.to result
-        × (all_within result ≡ true → TwoRows plan.instrument.grid newer.now sums.new rows row.to) }
+        × (all_within result ≡ true → TwoRows basis.entry.plan.instrument.grid basis.entry.newer.now sums.new rows row.to) }
 {
-    if is_hit_in(hit, row.from, row.to) {
-        return struck_row(plan, older, newer, rows, row, hit, sums, out);
+    if STRUCK && is_hit_in(hit, row.from, row.to) {
+        return struck_row(basis, rows, row, hit, sums, out);
     }
     if row.write {
-        return plate_run(plan, older, newer, rows, row.as_written(true), sums, out);
+        return plate_run(basis, rows, row.as_written(true), sums, out);
     }
-    plate_run(plan, older, newer, rows, row.as_written(false), sums, out)
+    plate_run(basis, rows, row.as_written(false), sums, out)
 }
 
 // The moving points of the row that begins at point `start`: all but its ends.
@@ -182,14 +183,15 @@ fn moving_in<const WRITE: bool, const IN_PLACE: bool>(start: usize, columns: usi
 }
 
 // Every moving point of a plate. After a row the two places of the sums are exchanged.
-pub(crate) fn plate_level<const WRITE: bool, const IN_PLACE: bool>(
+pub(crate) fn plate_level<const WRITE: bool, const IN_PLACE: bool, const STRUCK: bool>(
     plan: Plan,
     older: &mut [i64],
     newer: &[i64],
     out: &mut [i64],
     hit: Option<Hit>,
 ) -> Option<u64>
-    requires { Passable plan hit IN_PLACE older.old newer.now out.old × (kind plan.instrument.grid ≡ Plate) }
+    requires passable { Passable plan hit IN_PLACE older.old newer.now out.old × (kind plan.instrument.grid ≡ Plate) }
+    requires unstruck { STRUCK ≡ false → hit ≡ None }
     ensures { Passed plan.instrument hit WRITE IN_PLACE older.old newer.now out.old
         older.new out.new result }
 {
@@ -209,7 +211,8 @@ pub(crate) fn plate_level<const WRITE: bool, const IN_PLACE: bool>(
             last: row + 1 == ring,
         };
         let moving = moving_in::<WRITE, IN_PLACE>(start, columns);
-        let n = plate_row(plan, older, newer, rows, moving, hit, &mut sums, out)?;
+        let basis = Basis { plan, older, newer };
+        let n = plate_row::<STRUCK>(basis, rows, moving, hit, &mut sums, out)?;
         put_piece::<IN_PLACE>(out, moving, older);
         inexact += n;
         (here, other) = (other, here);

@@ -2,13 +2,12 @@
 ghost use Rattle.std.specs.Prelude.{◌≡◌, ◌<◌, length};
 ghost use Rattle.scheme.specs.Instruments.{points};
 ghost use Rattle.scheme.specs.Calls as Calls;
-ghost use Rattle.steps.specs.Edges.{EdgesOf};
 ghost use Rattle.turns.specs.Turns.{turn_after, older_of, newer_of};
 ghost use Rattle.steps.specs.Steps.{Begins, Played};
 
+use crate::layout::Layout;
 use crate::step::{sample_in_turn, step_in_turn};
 use counts::capped_sum;
-use plans::Plan;
 use turns::{Turn, hit_after};
 use types::Hit;
 
@@ -22,8 +21,7 @@ pub(crate) struct Steps {
 
 // A step for each place of samples, until the next would put a point beyond the ceiling. The slices begin in turn `first`.
 pub(crate) fn play(
-    plan: Plan,
-    edges: &[u16; 128],
+    layout: &Layout,
     older: &mut [i64],
     newer: &mut [i64],
     work: &mut [i64],
@@ -32,10 +30,9 @@ pub(crate) fn play(
     hit: Option<Hit>,
     first: Turn,
 ) -> Steps
-    requires begins { Begins first plan hit older.old newer.old work.old × (pick < points plan.instrument.grid) }
-    requires edges_of { EdgesOf plan.instrument.grid edges.now }
+    requires { Begins first layout.now.plan hit older.old newer.old work.old × (pick < points layout.now.plan.instrument.grid) }
     ensures { Played
-        (Calls.play plan.instrument pick hit (older_of first older.old newer.old work.old)
+        (Calls.play layout.now.plan.instrument pick hit (older_of first older.old newer.old work.old)
         (newer_of first older.old newer.old work.old) samples.old)
         (length samples.old) result (older_of result.turn older.new newer.new work.new)
         (newer_of result.turn older.new newer.new work.new) samples.new
@@ -45,7 +42,7 @@ pub(crate) fn play(
     let mut turn = first;
     for (j, place) in samples.iter_mut().enumerate() {
         let h = hit_after(hit, j);
-        let Some(n) = step_in_turn(plan, edges, older, newer, work, h, turn) else {
+        let Some(n) = step_in_turn(layout, older, newer, work, h, turn) else {
             return Steps {
                 done: j,
                 inexact,

@@ -6,13 +6,12 @@ ghost use Rattle.scheme.specs.Lists.{point};
 ghost use Rattle.scheme.specs.Step.{sample_of};
 ghost use Rattle.stretches.specs.Pieces.{piece};
 ghost use Rattle.steps.specs.Plan.{AtMost};
-ghost use Rattle.steps.specs.Edges.{EdgesOf};
-ghost use Rattle.turns.specs.Turns.{older_of, newer_of, out_of};
-ghost use Rattle.steps.specs.Steps.{Steppable, SteppedInPlace, SteppedIn, Third};
+ghost use Rattle.turns.specs.Turns.{out_of};
+ghost use Rattle.steps.specs.Steps.{Steppable, Begins, SteppedInPlace, SteppedIn};
 
 use crate::arithmetic::sample;
+use crate::layout::Layout;
 use crate::level::next_level;
-use plans::Plan;
 use slices::copy;
 use stretches::PIECE;
 use turns::Turn;
@@ -20,66 +19,59 @@ use types::Hit;
 
 // A step of two levels that have no more points than a piece: the next level is worked out beside them, then copied to older.
 fn small_step(
-    plan: Plan,
-    edges: &[u16; 128],
+    layout: &Layout,
     older: &mut [i64],
     newer: &[i64],
     room: &mut [i64],
     hit: Option<Hit>,
 ) -> Option<u64>
-    requires steppable { Steppable plan hit older.old newer.now older.old × (length room.old ≡ length older.old) }
-    requires edges_of { EdgesOf plan.instrument.grid edges.now }
-    ensures { SteppedInPlace plan.instrument hit older.old newer.now older.new result }
+    requires { Steppable layout.now.plan hit older.old newer.now older.old × (length room.old ≡ length older.old) }
+    ensures { SteppedInPlace layout.now.plan.instrument hit older.old newer.now older.new result }
 {
     copy(older, room);
-    let inexact = next_level::<true, false>(plan, edges, older, newer, room, hit)?;
+    let inexact = next_level::<true, false>(layout, older, newer, room, hit)?;
     copy(room, older);
     Some(inexact)
 }
 
 // A step of two levels: no point of older is written unless every next value lies within the ceiling.
 fn step_in_place(
-    plan: Plan,
-    edges: &[u16; 128],
+    layout: &Layout,
     older: &mut [i64],
     newer: &[i64],
     room: &mut [i64],
     hit: Option<Hit>,
 ) -> Option<u64>
-    requires steppable { Steppable plan hit older.old newer.now older.old × (piece ≤ length room.old) }
-    requires edges_of { EdgesOf plan.instrument.grid edges.now }
-    ensures { SteppedInPlace plan.instrument hit older.old newer.now older.new result }
+    requires { Steppable layout.now.plan hit older.old newer.now older.old × (piece ≤ length room.old) }
+    ensures { SteppedInPlace layout.now.plan.instrument hit older.old newer.now older.new result }
 {
     let n = older.len();
     if n <= PIECE {
-        return small_step(plan, edges, older, newer, &mut room[..n], hit);
+        return small_step(layout, older, newer, &mut room[..n], hit);
     }
-    next_level::<false, true>(plan, edges, older, newer, room, hit)?;
-    next_level::<true, true>(plan, edges, older, newer, room, hit)
+    next_level::<false, true>(layout, older, newer, room, hit)?;
+    next_level::<true, true>(layout, older, newer, room, hit)
 }
 
-// A step in the turn that the slices are in.
+// A step in the turn that the slices are in. They stay three parameters: a struct of them, lent on through `&mut self`, has no rule yet.
 pub(crate) fn step_in_turn(
-    plan: Plan,
-    edges: &[u16; 128],
+    layout: &Layout,
     older: &mut [i64],
     newer: &mut [i64],
     work: &mut [i64],
     hit: Option<Hit>,
     turn: Turn,
 ) -> Option<u64>
-    requires steppable { Steppable plan hit (older_of turn older.old newer.old work.old) (newer_of turn older.old newer.old work.old)
-        (out_of turn older.old newer.old work.old) }
-    requires edges_of { EdgesOf plan.instrument.grid edges.now × Third turn work.old }
-    ensures { SteppedIn turn plan.instrument hit older.old newer.old work.old
+    requires { Begins turn layout.now.plan hit older.old newer.old work.old }
+    ensures { SteppedIn turn layout.now.plan.instrument hit older.old newer.old work.old
         older.new newer.new work.new result }
 {
     match turn {
-        Turn::First => next_level::<true, false>(plan, edges, older, newer, work, hit),
-        Turn::Second => next_level::<true, false>(plan, edges, newer, work, older, hit),
-        Turn::Last => next_level::<true, false>(plan, edges, work, older, newer, hit),
-        Turn::There => step_in_place(plan, edges, older, newer, work, hit),
-        Turn::Exchanged => step_in_place(plan, edges, newer, older, work, hit),
+        Turn::First => next_level::<true, false>(layout, older, newer, work, hit),
+        Turn::Second => next_level::<true, false>(layout, newer, work, older, hit),
+        Turn::Last => next_level::<true, false>(layout, work, older, newer, hit),
+        Turn::There => step_in_place(layout, older, newer, work, hit),
+        Turn::Exchanged => step_in_place(layout, newer, older, work, hit),
     }
 }
 

@@ -8,15 +8,18 @@ ghost use Rattle.turns.specs.Turns.{next_turn};
 
 use types::{Hit, Outcome, Refusal};
 
-// The slices older, newer and work of three levels hold the older, the newer and the next level first, after one step the next, the older
-// and the newer one, and last the newer, the next and the older one. Of two levels, where the next one is put into older itself, older and
-// newer hold the older and the newer level, or they are exchanged.
+// What the slices older, newer and work hold.
 #[derive(Clone, Copy)]
 pub enum Turn {
+    // of three levels the older one, the newer one, and room for the next one
     First,
+    // room for the next one, the older one and the newer one
     Second,
+    // the newer one, room for the next one, and the older one
     Last,
+    // of two levels the older one and the newer one: the next one is put into the older one's slice
     There,
+    // the newer one and the older one
     Exchanged,
 }
 

@@ -1,4 +1,4 @@
-use Rattle.std.proofs.Common.{◌≡◌, sym, ◌∙◌, rules, length, not, nat_eq}
+use Rattle.std.proofs.Common.{sym, ◌∙◌, rules, length, not, nat_eq}
 use Rattle.scheme.specs.Refusals.{wrong_length}
 use Rattle.block_checks.proofs.BlockLaws.{block_same, other_length}
 use Rattle.steps.specs.Left.{three}

@@ -2,7 +2,7 @@
 use mathlib.Core.Bool.{not}
 use borrow.Author.Tests.{eq-eqb}
 use lib.Dec.{eqb}
-use Rattle.std.proofs.Common.{Option, arith, refl, ◌≡◌, sym, ap, ◌∙◌, ◌+◌, ◌≤◌, ◌<◌, ℕ, Bool, List, ℤ, pos, length, Some}
+use Rattle.std.proofs.Common.{Option, arith, refl, ◌≡◌, sym, ap, ◌∙◌, ◌≤◌, ◌<◌, ℕ, Bool, List, ℤ, pos, length, Some}
 use mathlib.Core.Path.{subst}
 use Rattle.types.specs.declared.Hit.{Hit}
 use Rattle.scheme.specs.Instruments.{points}
@@ -13,7 +13,7 @@ use Rattle.stretches.specs.Pieces.{base_of, piece_at}
 use Rattle.steps.specs.Plan.{Ready}
 use Rattle.steps.specs.Run.{Placed, Moves}
 use Rattle.steps.specs.Pass.{Passing, RowRoom}
-use Rattle.steps.proofs.PlanLaws.{few_points, m_none}
+use Rattle.steps.proofs.PlanLaws.{few_points}
 use Rattle.steps.proofs.HitLaws.{some_move, run_inside}
 use Rattle.steps.proofs.PassLaws.{piece_placed, passing_append, passing_stops, passing_most}
 use Rattle.steps.proofs.PassLaws.{passing_ready, stretch_passing, stretch_stops, tested_passing}
@@ -57,11 +57,19 @@ returns-then-plan-eq0 g c =
     tested_passing a.plan.instrument a.hit (not (eqb g.row.IN_PLACE 0)) c.is_row_within.result c.requires.moves.0.order (ap not (eq-eqb g.row.WRITE 0 c.if-not-this.true))
     c.is_row_within.ensures c.then_some.ensures
 
+pub invariant_of-basis : goal.invariant_of-basis
+invariant_of-basis g c = record { ready = c.requires.ready.0 }
+
+pub invariant_of-basis-in-loop-at : goal.invariant_of-basis-in-loop-at
+invariant_of-basis-in-loop-at g c =
+    let i = c.loop-at.invariant in
+    record { ready = (piece_of c.requires.ready c.requires.moves.0 i.0 i.1 c.loop-at-test.true c.piece_at-piece.ensures).ready }
+
 pub row_stretches-requires-clause-ready : goal.row_stretches-requires-clause-ready
 row_stretches-requires-clause-ready g c =
     let i = c.loop-at.invariant in
     let b = piece_of c.requires.ready c.requires.moves.0 i.0 i.1 c.loop-at-test.true c.piece_at-piece.ensures in
-    (b.ready, b.placed)
+    b.placed
 
 pub returns-in_err-n : goal.returns-in_err-n
 returns-in_err-n g c =

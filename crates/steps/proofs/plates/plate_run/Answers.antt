@@ -8,7 +8,7 @@ use Rattle.steps.proofs.plates.plate_run.Goals as goal
 pub overflow_add-inexact : goal.overflow_add-inexact
 overflow_add-inexact c =
     let inv = c.loop-at.invariant.0 in
-    let inside = moving_inside c.args.plan.instrument.grid c.loop-at.at
+    let inside = moving_inside c.args.basis.plan.instrument.grid c.loop-at.at
     (c.requires.two_rows.1.moves.each c.loop-at.at inv.order c.loop-at-test.true) in
     let most = running_most inv (omega arith) c.in_ok-inexact.ensures.0 refl in
-    record { fits = omega (arith, most, inside, few_points c.requires.ready.0.planned) }
+    record { fits = omega (arith, most, inside, few_points c.args.basis.ready.planned) }

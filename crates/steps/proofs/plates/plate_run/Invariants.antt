@@ -6,5 +6,5 @@ use Rattle.steps.proofs.plates.plate_run.Given as goal
 
 abbrev pub invariant-loop-at : goal.invariant-loop-at
 invariant-loop-at l =
-    Running (next_by l.plan.instrument l.s.force l.older l.newer) l.s.write l.s.base l.fn.out l.s.from l.s.to l.out l.at l.inexact
-    × TwoRows l.plan.instrument.grid l.newer l.sums l.rows l.at × (length l.sums ≡ length l.fn.sums)
+    Running (next_by l.basis.plan.instrument l.s.force l.basis.older.now l.basis.newer.now) l.s.write l.s.base l.fn.out l.s.from l.s.to l.out l.at l.inexact
+    × TwoRows l.basis.plan.instrument.grid l.basis.newer.now l.sums l.rows l.at × (length l.sums ≡ length l.fn.sums)

@@ -12,22 +12,22 @@ use Rattle.steps.proofs.play.play.Goals as goal
 
 pub loop-j-init : goal.loop-j-init
 loop-j-init c = record {
-  playing = playing_start c.requires.begins.0.given c.args.pick c.args.samples.now;
-  room = c.requires.begins.0.given.room;
+  playing = playing_start c.requires.0.given c.args.pick c.args.samples.now;
+  room = c.requires.0.given.room;
   turn_is = turn_start c.args.first;
 }
 
-pub step_in_turn-requires-clause-steppable : goal.step_in_turn-requires-clause-steppable
-step_in_turn-requires-clause-steppable c =
-    let inv = c.loop-j.invariant in playing_steppable c.requires.begins.0.given c.hit_after-h.ensures inv.playing inv.room
-
 -- of two levels the third slice has room for a piece, as it had first
-pub step_in_turn-requires-clause-edges_of : goal.step_in_turn-requires-clause-edges_of
-step_in_turn-requires-clause-edges_of c = (
-  c.requires.edges_of,
-  λ two. let was = sym (two_after c.args.first c.loop-j.j) ∙ sym (ap of_two c.loop-j.invariant.turn_is) ∙ two in
-      omega (arith, c.requires.begins.0.third was),
-)
+pub step_in_turn-requires : goal.step_in_turn-requires
+step_in_turn-requires c =
+    let inv = c.loop-j.invariant in
+    let begins = c.requires.0 in
+    record {
+      given = playing_steppable begins.given c.hit_after-h.ensures inv.playing inv.room;
+      third = λ two.
+          let was = sym (two_after c.args.first c.loop-j.j) ∙ sym (ap of_two inv.turn_is) ∙ two in
+          omega (arith, begins.third was);
+    }
 
 pub returns-in_default : goal.returns-in_default
 returns-in_default c =
@@ -44,7 +44,7 @@ pub sample_in_turn-requires : goal.sample_in_turn-requires
 sample_in_turn-requires c =
     let place : c.loop-j.j < length c.args.samples.now = omega arith in
     let next = stepped_passes c.loop-j.invariant.playing place c.hit_after-h.ensures c.in-Some.ensures.stepped refl in
-    (omega (arith, next.long, c.requires.begins.1), passes_low _ _ next)
+    (omega (arith, next.long, c.requires.1), passes_low _ _ next)
 
 pub loop-j-preserved : goal.loop-j-preserved
 loop-j-preserved c =

@@ -8,11 +8,11 @@ use Rattle.steps.proofs.play.play.Given as goal
 
 abbrev pub invariant-loop-j : goal.invariant-loop-j
 invariant-loop-j l = record {
-  playing : Playing l.plan.instrument l.pick l.hit
-      (Calls.play l.plan.instrument l.pick l.hit (older_of l.fn.first l.initial.older l.initial.newer l.initial.work)
+  playing : Playing l.layout.plan.instrument l.pick l.hit
+      (Calls.play l.layout.plan.instrument l.pick l.hit (older_of l.fn.first l.initial.older l.initial.newer l.initial.work)
       (newer_of l.fn.first l.initial.older l.initial.newer l.initial.work) l.initial.samples)
       (length l.initial.samples) (older_of l.turn l.older l.newer l.work) (newer_of l.turn l.older l.newer l.work) l.samples l.j
       l.inexact;
-  room : Room l.plan.instrument.grid (out_of l.turn l.older l.newer l.work);
+  room : Room l.layout.plan.instrument.grid (out_of l.turn l.older l.newer l.work);
   turn_is : l.turn ≡ turn_after l.fn.first l.j;
 }

@@ -1,5 +1,5 @@
 -- Each point has the sum of its neighbours, and the stiffness by those on either side.
-use Rattle.std.proofs.Common.{arith, refl, ◌≡◌, ap, ◌∙◌, ◌+◌, ◌-◌, pos, ◌*ℤ◌, to_z, of_z, w64}
+use Rattle.std.proofs.Common.{arith, refl, ◌≡◌, ap, ◌∙◌, ◌+◌, ◌-◌, pos, ◌*ℤ◌}
 use Rattle.bounded.proofs.Num.{back}
 use Rattle.bounded.proofs.Expr.{E, ◌⊞◌, fits, is}
 use Rattle.scheme.proofs.Laws.Step.{moving_inside}
@@ -16,33 +16,33 @@ use Rattle.steps.proofs.points.bar_run.Goals as goal
 
 pub overflow_add-left : goal.overflow_add-left
 overflow_add-left c =
-    let low = c.requires.ready.0.newer_low in
+    let low = c.args.basis.ready.newer_low in
     let right = back c.sum_at-right.result c.sum_at-right.type_inv ∙ c.sum_at-right.ensures in
-    fits (bar# c.args.newer.now low (c.loop-at.at - 1) c.loop-at.invariant.1 ⊞ bar# c.args.newer.now low (c.loop-at.at + 1) right) tt
+    fits (bar# c.args.basis.newer.now low (c.loop-at.at - 1) c.loop-at.invariant.1 ⊞ bar# c.args.basis.newer.now low (c.loop-at.at + 1) right) tt
 
 pub stiffness-stiff-requires : goal.stiffness-stiff-requires
 stiffness-stiff-requires c =
-    let r = c.requires.ready.0 in
+    let r = c.args.basis.ready in
     let k = c.loop-at.at in
     let right = back c.sum_at-right.result c.sum_at-right.type_inv ∙ c.sum_at-right.ensures in
-    let outer : E = bar# c.args.newer.now r.newer_low (k - 1) c.loop-at.invariant.1 ⊞ bar# c.args.newer.now r.newer_low (k + 1) right in
-    let summed = bar_beside c.args.plan.instrument.grid c.requires.on_line.1 c.args.newer.now r.newer_long c.requires.on_line.0 k
+    let outer : E = bar# c.args.basis.newer.now r.newer_low (k - 1) c.loop-at.invariant.1 ⊞ bar# c.args.basis.newer.now r.newer_low (k + 1) right in
+    let summed = bar_beside c.args.basis.plan.instrument.grid c.requires.on_line.1 c.args.basis.newer.now r.newer_long c.requires.on_line.0 k
     c.loop-at.invariant.0.order c.loop-at-test.true in
-    (r.planned, coe 1 0 (j. Bendable c.args.plan (is outer tt j) (c.loop-at.invariant.2 j) (held {z = point c.args.newer.now k} (r.newer_low k) j)) (bendable r summed))
+    (r.planned, coe 1 0 (j. Bendable c.args.basis.plan (is outer tt j) (c.loop-at.invariant.2 j) (held {z = point c.args.basis.newer.now k} (r.newer_low k) j)) (bendable r summed))
 
 pub next_point-requires-clause-ready : goal.next_point-requires-clause-ready
 next_point-requires-clause-ready c =
-    let r = c.requires.ready.0 in
+    let r = c.args.basis.ready in
     let k = c.loop-at.at in
-    let plan = c.args.plan in
+    let plan = c.args.basis.plan in
     let here = c.loop-at.invariant.2 in
     let right = back c.sum_at-right.result c.sum_at-right.type_inv ∙ c.sum_at-right.ensures in
-    let outer : E = bar# c.args.newer.now r.newer_low (k - 1) c.loop-at.invariant.1 ⊞ bar# c.args.newer.now r.newer_low (k + 1) right in
-    let summed = bar_beside plan.instrument.grid c.requires.on_line.1 c.args.newer.now r.newer_long c.requires.on_line.0 k
+    let outer : E = bar# c.args.basis.newer.now r.newer_low (k - 1) c.loop-at.invariant.1 ⊞ bar# c.args.basis.newer.now r.newer_low (k + 1) right in
+    let summed = bar_beside plan.instrument.grid c.requires.on_line.1 c.args.basis.newer.now r.newer_long c.requires.on_line.0 k
     c.loop-at.invariant.0.order c.loop-at-test.true in
     let stiff_is = back c.stiffness-stiff.result c.stiffness-stiff.type_inv ∙ c.stiffness-stiff.ensures ∙
-    (λ j. plan.m *ℤ bending_of (pos (count_of plan.instrument.grid)) (here j) (is outer tt j) (held {z = point c.args.newer.now k} (r.newer_low k) j)) in
-    (r, coe 1 0 (j. Neighbouring plan.instrument c.args.newer.now k (here j) (stiff_is j)) (bent r summed))
+    (λ j. plan.m *ℤ bending_of (pos (count_of plan.instrument.grid)) (here j) (is outer tt j) (held {z = point c.args.basis.newer.now k} (r.newer_low k) j)) in
+    (c.requires.ready.0, coe 1 0 (j. Neighbouring plan.instrument c.args.basis.newer.now k (here j) (stiff_is j)) (bent r summed))
 
 pub returns-in_err-inexact : goal.returns-in_err-inexact
 returns-in_err-inexact c =
@@ -51,16 +51,16 @@ returns-in_err-inexact c =
 pub overflow_add-inexact : goal.overflow_add-inexact
 overflow_add-inexact c =
     let inv = c.loop-at.invariant.0 in
-    let inside = moving_inside c.args.plan.instrument.grid c.loop-at.at
+    let inside = moving_inside c.args.basis.plan.instrument.grid c.loop-at.at
     (c.requires.on_line.0.each c.loop-at.at inv.order c.loop-at-test.true) in
     let most = running_most inv (omega arith) c.in_ok-inexact.ensures refl in
-    record { fits = omega (arith, most, inside, few_points c.requires.ready.0.planned) }
+    record { fits = omega (arith, most, inside, few_points c.args.basis.ready.planned) }
 
 pub loop-at-preserved : goal.loop-at-preserved
 loop-at-preserved c =
     let before : c.loop-at.at ≡ c.loop-at.at + 1 - 1 = omega arith in (
       running_on c.loop-at.invariant.0 (omega arith) c.in_ok-inexact.ensures refl (omega arith),
-      c.loop-at.invariant.2 ∙ ap (bar_sum c.args.newer.now) before,
+      c.loop-at.invariant.2 ∙ ap (bar_sum c.args.basis.newer.now) before,
       back c.sum_at-right.result c.sum_at-right.type_inv ∙ c.sum_at-right.ensures,
     )
 

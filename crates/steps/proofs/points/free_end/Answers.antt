@@ -9,12 +9,12 @@ use Rattle.steps.proofs.points.free_end.Goals as goal
 pub next_point-requires-clause-ready : goal.next_point-requires-clause-ready
 next_point-requires-clause-ready c =
     let a = c.args in
-    let r = c.requires.ready.0 in
+    let r = c.args.basis.ready in
     let some : a.s.from < a.s.to = omega (arith, c.if-s.false, c.requires.ready.1.order) in
-    let twice : E = at# a.newer.now r.newer_low a.near ⊞ at# a.newer.now r.newer_low a.near in (
-      r,
-      said (λ (z : ℤ). Neighbouring a.plan.instrument a.newer.now a.s.from z (pos 0)) twice tt
-          (end-beside a.plan.instrument r.planned.passes a.newer.now c.requires.free_end some),
+    let twice : E = at# a.basis.newer.now r.newer_low a.near ⊞ at# a.basis.newer.now r.newer_low a.near in (
+      c.requires.ready.0,
+      said (λ (z : ℤ). Neighbouring a.basis.plan.instrument a.basis.newer.now a.s.from z (pos 0)) twice tt
+          (end-beside a.basis.plan.instrument r.planned.passes a.basis.newer.now c.requires.free_end some),
     )
 
 pub returns : goal.returns

@@ -9,12 +9,12 @@ pub soft_run-requires-clause-sums : goal.soft_run-requires-clause-sums
 soft_run-requires-clause-sums c = record {
   callable = λ k a b. search rules;
   gives = λ k sum a b q.
-      let e : sum ≡ two_beside c.args.newer.now k = search rules in
-      let planned = c.requires.ready.0.planned in
-      rw e (line-beside c.args.plan.instrument planned.passes c.requires.on_line (m_none planned c.if-plan-eq0.true) c.args.newer.now k a b);
+      let e : sum ≡ two_beside c.args.basis.newer.now k = search rules in
+      let planned = c.args.basis.ready.planned in
+      rw e (line-beside c.args.basis.plan.instrument planned.passes c.requires.on_line (m_none planned c.if-basis-eq0.true) c.args.basis.newer.now k a b);
 }
 
 pub bar_run-requires-clause-on_line : goal.bar_run-requires-clause-on_line
 bar_run-requires-clause-on_line c =
-    let planned = c.requires.ready.0.planned in
-    (c.requires.on_line, is_bar c.args.plan.instrument planned.passes c.requires.on_line.line (m_some planned c.if-plan-eq0.false))
+    let planned = c.args.basis.ready.planned in
+    (c.requires.on_line, is_bar c.args.basis.plan.instrument planned.passes c.requires.on_line.line (m_some planned c.if-basis-eq0.false))

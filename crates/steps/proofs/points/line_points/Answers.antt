@@ -1,10 +1,11 @@
 -- The first point, the inner points, the last point.
-use Rattle.std.proofs.Common.{arith, ◌≡◌, refl, sym, ◌∙◌, ℕ, ◌+◌, ◌-◌, ◌≤◌, ◌<◌, zero-le, ℤ, List, length, Option, Some}
+use Rattle.std.proofs.Common.{arith, ◌≡◌, refl, sym, ◌∙◌, ℕ, ◌-◌, ◌≤◌, zero-le, ℤ, nat_abs, List, length, Option}
 use mathlib.Core.Path.{subst}
 use Rattle.plans.specs.declared.Plan.{Plan}
 use Rattle.stretches.specs.declared.Stretch.{Stretch}
 use Rattle.stretches.specs.Stretches.{part_of}
-use Rattle.steps.specs.Plan.{Ready}
+use Rattle.types.specs.Numbers.{ceiling}
+use Rattle.steps.proofs.HitLaws.{forced}
 use Rattle.steps.specs.Run.{Advanced, Placed, OnLine, FreeEnd}
 use Rattle.steps.proofs.FillLaws.{placed_after}
 use Rattle.steps.proofs.PlanLaws.{few_points}
@@ -13,9 +14,8 @@ use Rattle.steps.proofs.LineLaws.{part_placed, last_stops, all_parts, all_most}
 use Rattle.steps.proofs.points.line_points.Goals as goal
 
 -- a part of the stretch, as `part` gave it
-part-ready : {p : Plan} (s : Stretch) {q : Stretch} {older newer : List ℤ} (a e : ℕ) → q ≡ part_of s a e → Ready p s.force older newer
-    → Ready p q.force older newer
-part-ready {p} s {older = older} {newer} a e is r = subst (λ (q : Stretch). Ready p q.force older newer) (sym is) r
+part-low : (s : Stretch) {q : Stretch} (a e : ℕ) → q ≡ part_of s a e → nat_abs s.force ≤ ceiling → nat_abs q.force ≤ ceiling
+part-low s a e is low = subst (λ (q : Stretch). nat_abs q.force ≤ ceiling) (sym is) low
 
 places : {s q : Stretch} {m n : ℕ} (a e : ℕ) → q ≡ part_of s a e → Placed s n → a ≤ e → m ≡ n → Placed q m
 places {m = m} a e is placed h l = subst (λ (q : Stretch). Placed q m) (sym is) (placed_after (part_placed a e h placed) l)
@@ -28,99 +28,99 @@ advanced p s older newer {out₀ = out₀} {out} {r} a e is t =
 
 pub free_end-requires-clause-ready : goal.free_end-requires-clause-ready
 free_end-requires-clause-ready c =
-    let r = c.requires.ready in (part-ready c.args.s 0 1 c.part.ensures r.0, places 0 1 c.part.ensures r.1 zero-le refl)
+    let r = c.requires.ready in (part-low c.args.s 0 1 c.part.ensures r.0, places 0 1 c.part.ensures r.1 zero-le refl)
 
 pub free_end-requires-clause-free_end : goal.free_end-requires-clause-free_end
 free_end-requires-clause-free_end c =
     let m = c.requires.one_row in
-    subst (λ (q : Stretch). FreeEnd c.args.plan.instrument 1 q.from q.to) (sym c.part.ensures)
-    (first_part c.args.s c.requires.ready.0 m.0 m.1 m.2)
+    subst (λ (q : Stretch). FreeEnd c.args.basis.plan.instrument 1 q.from q.to) (sym c.part.ensures)
+    (first_part c.args.s (forced c.args.s.force c.args.basis.ready c.requires.ready.0) m.0 m.1 m.2)
 
 pub returns-in_err-first : goal.returns-in_err-first
 returns-in_err-first c =
     let r = c.requires.ready in
     let m = c.requires.one_row in
     rw c.from_residual.ensures
-    (first_stops c.args.s r.0 m.0 m.1 m.2 r.1.above (advanced c.args.plan c.args.s c.args.older.now c.args.newer.now 0 1 c.part.ensures c.in_err-first.ensures) refl)
+    (first_stops c.args.s (forced c.args.s.force c.args.basis.ready r.0) m.0 m.1 m.2 r.1.above (advanced c.args.basis.plan c.args.s c.args.basis.older.now c.args.basis.newer.now 0 1 c.part.ensures c.in_err-first.ensures) refl)
 
 pub overflow_sub-n : goal.overflow_sub-n
-overflow_sub-n c = let m = c.requires.one_row in omega (arith, three c.args.s c.requires.ready.0 m.0 m.1 m.2)
+overflow_sub-n c = let m = c.requires.one_row in omega (arith, three c.args.s (forced c.args.s.force c.args.basis.ready c.requires.ready.0) m.0 m.1 m.2)
 
 pub inner_points-requires-clause-ready : goal.inner_points-requires-clause-ready
 inner_points-requires-clause-ready c =
     let r = c.requires.ready in
     let m = c.requires.one_row in
-    let n = length c.args.newer.now in
-    let low : 1 ≤ n - 1 = omega (arith, three c.args.s r.0 m.0 m.1 m.2) in
-    (part-ready c.args.s 1 (n - 1) c.part-2.ensures r.0, places 1 (n - 1) c.part-2.ensures r.1 low c.free_end.ensures.long)
+    let n = length c.args.basis.newer.now in
+    let low : 1 ≤ n - 1 = omega (arith, three c.args.s (forced c.args.s.force c.args.basis.ready r.0) m.0 m.1 m.2) in
+    (part-low c.args.s 1 (n - 1) c.part-2.ensures r.0, places 1 (n - 1) c.part-2.ensures r.1 low c.free_end.ensures.long)
 
 pub inner_points-requires-clause-on_line : goal.inner_points-requires-clause-on_line
 inner_points-requires-clause-on_line c =
     let m = c.requires.one_row in
-    subst (λ (q : Stretch). OnLine c.args.plan.instrument.grid q.from q.to) (sym c.part-2.ensures)
-    (inner-line c.args.s c.requires.ready.0 m.0 m.1 m.2)
+    subst (λ (q : Stretch). OnLine c.args.basis.plan.instrument.grid q.from q.to) (sym c.part-2.ensures)
+    (inner-line c.args.s (forced c.args.s.force c.args.basis.ready c.requires.ready.0) m.0 m.1 m.2)
 
 pub returns-in_err-inner : goal.returns-in_err-inner
 returns-in_err-inner c =
     let r = c.requires.ready in
     let m = c.requires.one_row in
-    let n = length c.args.newer.now in
+    let n = length c.args.basis.newer.now in
     rw c.from_residual-in_err-inner.ensures
-    (inner_stops c.args.s r.0 m.0 m.1 m.2 r.1.above (advanced c.args.plan c.args.s c.args.older.now c.args.newer.now 0 1 c.part.ensures c.in_ok-first.ensures)
-    (advanced c.args.plan c.args.s c.args.older.now c.args.newer.now 1 (n - 1) c.part-2.ensures c.in_err-inner.ensures) refl)
+    (inner_stops c.args.s (forced c.args.s.force c.args.basis.ready r.0) m.0 m.1 m.2 r.1.above (advanced c.args.basis.plan c.args.s c.args.basis.older.now c.args.basis.newer.now 0 1 c.part.ensures c.in_ok-first.ensures)
+    (advanced c.args.basis.plan c.args.s c.args.basis.older.now c.args.basis.newer.now 1 (n - 1) c.part-2.ensures c.in_err-inner.ensures) refl)
 
 pub overflow_sub-n-2 : goal.overflow_sub-n-2
-overflow_sub-n-2 c = let m = c.requires.one_row in omega (arith, three c.args.s c.requires.ready.0 m.0 m.1 m.2)
+overflow_sub-n-2 c = let m = c.requires.one_row in omega (arith, three c.args.s (forced c.args.s.force c.args.basis.ready c.requires.ready.0) m.0 m.1 m.2)
 
 pub overflow_sub-n-3 : goal.overflow_sub-n-3
-overflow_sub-n-3 c = let m = c.requires.one_row in omega (arith, three c.args.s c.requires.ready.0 m.0 m.1 m.2)
+overflow_sub-n-3 c = let m = c.requires.one_row in omega (arith, three c.args.s (forced c.args.s.force c.args.basis.ready c.requires.ready.0) m.0 m.1 m.2)
 
 pub free_end-requires-2-clause-ready : goal.free_end-requires-2-clause-ready
 free_end-requires-2-clause-ready c =
     let r = c.requires.ready in
-    let n = length c.args.newer.now in
+    let n = length c.args.basis.newer.now in
     let low : n - 1 ≤ n = omega arith in (
-      part-ready c.args.s (n - 1) n c.part-3.ensures r.0,
+      part-low c.args.s (n - 1) n c.part-3.ensures r.0,
       places (n - 1) n c.part-3.ensures r.1 low (c.inner_points.ensures.long ∙ c.free_end.ensures.long),
     )
 
 pub free_end-requires-2-clause-free_end : goal.free_end-requires-2-clause-free_end
 free_end-requires-2-clause-free_end c =
     let m = c.requires.one_row in
-    subst (λ (q : Stretch). FreeEnd c.args.plan.instrument (length c.args.newer.now - 2) q.from q.to) (sym c.part-3.ensures)
-    (last_part c.args.s c.requires.ready.0 m.0 m.1 m.2)
+    subst (λ (q : Stretch). FreeEnd c.args.basis.plan.instrument (length c.args.basis.newer.now - 2) q.from q.to) (sym c.part-3.ensures)
+    (last_part c.args.s (forced c.args.s.force c.args.basis.ready c.requires.ready.0) m.0 m.1 m.2)
 
 pub returns-in_err-last : goal.returns-in_err-last
 returns-in_err-last c =
     let r = c.requires.ready in
     let m = c.requires.one_row in
-    let n = length c.args.newer.now in
+    let n = length c.args.basis.newer.now in
     rw c.from_residual-in_err-last.ensures
-    (last_stops c.args.s r.0 m.0 m.1 m.2 r.1.above (advanced c.args.plan c.args.s c.args.older.now c.args.newer.now 0 1 c.part.ensures c.in_ok-first.ensures)
-    (advanced c.args.plan c.args.s c.args.older.now c.args.newer.now 1 (n - 1) c.part-2.ensures c.in_ok-inner.ensures) (advanced c.args.plan c.args.s c.args.older.now c.args.newer.now (n - 1) n c.part-3.ensures c.in_err-last.ensures) refl)
+    (last_stops c.args.s (forced c.args.s.force c.args.basis.ready r.0) m.0 m.1 m.2 r.1.above (advanced c.args.basis.plan c.args.s c.args.basis.older.now c.args.basis.newer.now 0 1 c.part.ensures c.in_ok-first.ensures)
+    (advanced c.args.basis.plan c.args.s c.args.basis.older.now c.args.basis.newer.now 1 (n - 1) c.part-2.ensures c.in_ok-inner.ensures) (advanced c.args.basis.plan c.args.s c.args.basis.older.now c.args.basis.newer.now (n - 1) n c.part-3.ensures c.in_err-last.ensures) refl)
 
 pub overflow_add-result : goal.overflow_add-result
 overflow_add-result c =
     let r = c.requires.ready in
     let m = c.requires.one_row in
-    let n = length c.args.newer.now in
-    let most = all_most c.args.s r.0 m.0 m.1 m.2 r.1.above (advanced c.args.plan c.args.s c.args.older.now c.args.newer.now 0 1 c.part.ensures c.in_ok-first.ensures)
-    (advanced c.args.plan c.args.s c.args.older.now c.args.newer.now 1 (n - 1) c.part-2.ensures c.in_ok-inner.ensures) (advanced c.args.plan c.args.s c.args.older.now c.args.newer.now (n - 1) n c.part-3.ensures c.in_ok-last.ensures) in
-    record { fits = omega (arith, most, r.0.newer_long, few_points r.0.planned) }
+    let n = length c.args.basis.newer.now in
+    let most = all_most c.args.s (forced c.args.s.force c.args.basis.ready r.0) m.0 m.1 m.2 r.1.above (advanced c.args.basis.plan c.args.s c.args.basis.older.now c.args.basis.newer.now 0 1 c.part.ensures c.in_ok-first.ensures)
+    (advanced c.args.basis.plan c.args.s c.args.basis.older.now c.args.basis.newer.now 1 (n - 1) c.part-2.ensures c.in_ok-inner.ensures) (advanced c.args.basis.plan c.args.s c.args.basis.older.now c.args.basis.newer.now (n - 1) n c.part-3.ensures c.in_ok-last.ensures) in
+    record { fits = omega (arith, most, c.args.basis.ready.newer_long, few_points c.args.basis.ready.planned) }
 
 pub overflow_add-result-2 : goal.overflow_add-result-2
 overflow_add-result-2 c =
     let r = c.requires.ready in
     let m = c.requires.one_row in
-    let n = length c.args.newer.now in
-    let most = all_most c.args.s r.0 m.0 m.1 m.2 r.1.above (advanced c.args.plan c.args.s c.args.older.now c.args.newer.now 0 1 c.part.ensures c.in_ok-first.ensures)
-    (advanced c.args.plan c.args.s c.args.older.now c.args.newer.now 1 (n - 1) c.part-2.ensures c.in_ok-inner.ensures) (advanced c.args.plan c.args.s c.args.older.now c.args.newer.now (n - 1) n c.part-3.ensures c.in_ok-last.ensures) in
-    record { fits = omega (arith, most, r.0.newer_long, few_points r.0.planned) }
+    let n = length c.args.basis.newer.now in
+    let most = all_most c.args.s (forced c.args.s.force c.args.basis.ready r.0) m.0 m.1 m.2 r.1.above (advanced c.args.basis.plan c.args.s c.args.basis.older.now c.args.basis.newer.now 0 1 c.part.ensures c.in_ok-first.ensures)
+    (advanced c.args.basis.plan c.args.s c.args.basis.older.now c.args.basis.newer.now 1 (n - 1) c.part-2.ensures c.in_ok-inner.ensures) (advanced c.args.basis.plan c.args.s c.args.basis.older.now c.args.basis.newer.now (n - 1) n c.part-3.ensures c.in_ok-last.ensures) in
+    record { fits = omega (arith, most, c.args.basis.ready.newer_long, few_points c.args.basis.ready.planned) }
 
 pub returns : goal.returns
 returns c =
     let r = c.requires.ready in
     let m = c.requires.one_row in
-    let n = length c.args.newer.now in
-    all_parts c.args.s r.0 m.0 m.1 m.2 r.1.above (advanced c.args.plan c.args.s c.args.older.now c.args.newer.now 0 1 c.part.ensures c.in_ok-first.ensures)
-    (advanced c.args.plan c.args.s c.args.older.now c.args.newer.now 1 (n - 1) c.part-2.ensures c.in_ok-inner.ensures) (advanced c.args.plan c.args.s c.args.older.now c.args.newer.now (n - 1) n c.part-3.ensures c.in_ok-last.ensures)
+    let n = length c.args.basis.newer.now in
+    all_parts c.args.s (forced c.args.s.force c.args.basis.ready r.0) m.0 m.1 m.2 r.1.above (advanced c.args.basis.plan c.args.s c.args.basis.older.now c.args.basis.newer.now 0 1 c.part.ensures c.in_ok-first.ensures)
+    (advanced c.args.basis.plan c.args.s c.args.basis.older.now c.args.basis.newer.now 1 (n - 1) c.part-2.ensures c.in_ok-inner.ensures) (advanced c.args.basis.plan c.args.s c.args.basis.older.now c.args.basis.newer.now (n - 1) n c.part-3.ensures c.in_ok-last.ensures)

@@ -17,6 +17,7 @@ use Rattle.steps.specs.Run.{Next, next_over, next_by, Ran}
 use Rattle.steps.proofs.Held.{held}
 use Rattle.steps.proofs.FillLaws.{point-beyond, point_written, point_tested}
 use Rattle.steps.proofs.PlanLaws.{divisor_is, half_is, divisor-low}
+use Rattle.steps.proofs.HitLaws.{forced}
 use Rattle.steps.proofs.PointLaws.{force_held}
 use Rattle.steps.proofs.points.next_point.Goals as goal
 
@@ -79,25 +80,25 @@ returns-then-beyond c =
     let r = c.requires.ready in
     let n = c.numerator_at-n in
     point-beyond _ _
-    (beyond-is _ r.0.planned _ _ (made_of r.0 r.1 (back n.result n.type_inv) n.ensures) _ c.is_below_limit-beyond.ensures ∙ ap not c.if-beyond.true)
+    (beyond-is _ c.args.basis.ready.planned _ _ (made_of (forced c.args.s.force c.args.basis.ready r.0) r.1 (back n.result n.type_inv) n.ensures) _ c.is_below_limit-beyond.ensures ∙ ap not c.if-beyond.true)
 
 pub returns-then-not-s : goal.returns-then-not-s
 returns-then-not-s c =
     let r = c.requires.ready in
     let n = c.numerator_at-n in
     point_tested _ _ c.if-not-s.true
-    (beyond-is _ r.0.planned _ _ (made_of r.0 r.1 (back n.result n.type_inv) n.ensures) _ c.is_below_limit-beyond.ensures ∙ ap not c.if-beyond.false)
+    (beyond-is _ c.args.basis.ready.planned _ _ (made_of (forced c.args.s.force c.args.basis.ready r.0) r.1 (back n.result n.type_inv) n.ensures) _ c.is_below_limit-beyond.ensures ∙ ap not c.if-beyond.false)
 
 pub returns-then-rounded-eq0 : goal.returns-then-rounded-eq0
 returns-then-rounded-eq0 c =
     let r = c.requires.ready in
     let n = c.numerator_at-n in
-    exact _ r.0.planned _ _ (made_of r.0 r.1 (back n.result n.type_inv) n.ensures) _ c.is_below_limit-beyond.ensures _ c.round_by-rounded.ensures
+    exact _ c.args.basis.ready.planned _ _ (made_of (forced c.args.s.force c.args.basis.ready r.0) r.1 (back n.result n.type_inv) n.ensures) _ c.is_below_limit-beyond.ensures _ c.round_by-rounded.ensures
     c.if-beyond.false _ _ _ _ _ refl c.if-not-s.false (omega (arith, c.requires.placed)) (omega (arith, c.requires.placed)) c.if-rounded-eq0.true
 
 pub returns-else-rounded-eq0 : goal.returns-else-rounded-eq0
 returns-else-rounded-eq0 c =
     let r = c.requires.ready in
     let n = c.numerator_at-n in
-    inexact _ r.0.planned _ _ (made_of r.0 r.1 (back n.result n.type_inv) n.ensures) _ c.is_below_limit-beyond.ensures _ c.round_by-rounded.ensures
+    inexact _ c.args.basis.ready.planned _ _ (made_of (forced c.args.s.force c.args.basis.ready r.0) r.1 (back n.result n.type_inv) n.ensures) _ c.is_below_limit-beyond.ensures _ c.round_by-rounded.ensures
     c.if-beyond.false _ _ _ _ _ refl c.if-not-s.false (omega (arith, c.requires.placed)) (omega (arith, c.requires.placed)) c.if-rounded-eq0.false

@@ -8,9 +8,9 @@ use Rattle.steps.proofs.points.soft_run.Goals as goal
 pub overflow_add-inexact : goal.overflow_add-inexact
 overflow_add-inexact g c =
     let b = c.requires.sums.gives c.loop-at.at c.sum.result c.loop-at.invariant.order c.loop-at-test.true c.sum.ensures in
-    let inside = moving_inside c.args.plan.instrument.grid c.loop-at.at b.moves in
+    let inside = moving_inside c.args.basis.plan.instrument.grid c.loop-at.at b.moves in
     let most = running_most c.loop-at.invariant (omega arith) c.in_ok-inexact.ensures refl in
-    record { fits = omega (arith, most, inside, few_points c.requires.ready.0.planned) }
+    record { fits = omega (arith, most, inside, few_points c.args.basis.ready.planned) }
 
 pub loop-at-preserved : goal.loop-at-preserved
 loop-at-preserved g c = running_on c.loop-at.invariant (omega arith) c.in_ok-inexact.ensures refl (omega arith)

@@ -4,4 +4,4 @@ use Rattle.steps.proofs.points.soft_run.Given as goal
 
 abbrev pub invariant-loop-at : goal.invariant-loop-at
 invariant-loop-at g l =
-    Running (next_by l.plan.instrument l.s.force l.older l.newer) l.s.write l.s.base l.fn.out l.s.from l.s.to l.out l.at l.inexact
+    Running (next_by l.basis.plan.instrument l.s.force l.basis.older.now l.basis.newer.now) l.s.write l.s.base l.fn.out l.s.from l.s.to l.out l.at l.inexact

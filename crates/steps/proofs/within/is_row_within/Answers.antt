@@ -7,18 +7,18 @@ use Rattle.steps.proofs.within.is_row_within.Goals as goal
 
 pub is_run_within-requires-clause-sums : goal.is_run_within-requires-clause-sums
 is_run_within-requires-clause-sums c =
-    let g = c.args.plan.instrument.grid in
-    let r = c.requires.ready.0 in
+    let g = c.args.basis.plan.instrument.grid in
+    let r = c.args.basis.ready in
     let size = r.planned.passes.size in
     let moves = c.requires.moves in
     record {
       callable = λ k a b.
           let m = moves.each k a b in
           let some : 1 ≤ g.columns = omega (arith, wide g size) in
-          let above : g.columns ≤ k = around_above g size c.if-plan-ne1.true k m in
-          let below : k + g.columns < length c.args.newer.now = omega (arith, r.newer_long, around_below g size c.if-plan-ne1.true k m) in
+          let above : g.columns ≤ k = around_above g size c.if-basis-ne1.true k m in
+          let below : k + g.columns < length c.args.basis.newer.now = omega (arith, r.newer_long, around_below g size c.if-basis-ne1.true k m) in
           search rules;
       gives = λ k sum a b q.
-          let e : sum ≡ four_beside c.args.newer.now g.columns k = search rules in
-          rw e (grid-beside c.args.plan.instrument r.planned.passes c.if-plan-ne1.true c.requires.ready.2 c.args.newer.now k (moves.each k a b));
+          let e : sum ≡ four_beside c.args.basis.newer.now g.columns k = search rules in
+          rw e (grid-beside c.args.basis.plan.instrument r.planned.passes c.if-basis-ne1.true c.requires.ready.1 c.args.basis.newer.now k (moves.each k a b));
     }

@@ -4,4 +4,4 @@ use Rattle.steps.proofs.within.is_run_within.Given as goal
 
 abbrev pub invariant-loop-at : goal.invariant-loop-at
 invariant-loop-at g l =
-    Tested (next_of l.plan.instrument l.hit l.older l.newer) l.from l.at true
+    Tested (next_of l.basis.plan.instrument l.hit l.basis.older.now l.basis.newer.now) l.from l.at true

@@ -1,7 +1,6 @@
 -- The first point, the inner points, the last point.
-use Rattle.std.proofs.Common.{rules, arith, ◌≡◌, refl, sym, ap, false, ℕ, ◌-◌, ◌≤◌, ◌<◌, ℤ, pos, List, length}
+use Rattle.std.proofs.Common.{rules, arith, ◌≡◌, sym, false, ℕ, ◌-◌, ◌≤◌, ◌<◌, ℤ, pos, List, length}
 use mathlib.Core.Path.{subst}
-use Rattle.types.specs.declared.Grid.{Grid}
 use Rattle.plans.specs.declared.Plan.{Plan}
 use Rattle.stretches.specs.declared.Stretch.{Stretch}
 use Rattle.stretches.specs.Stretches.{clamp}
@@ -46,68 +45,68 @@ parts {p} {newer = newer} {from} {to} {a} {b} r line all some a-is b-is =
 
 pub overflow_sub-n : goal.overflow_sub-n
 overflow_sub-n c =
-    let m = c.requires.one_row in omega (arith, three (whole c.args.from c.args.to) c.requires.ready.0 m.0 m.1 m.2)
+    let m = c.requires.one_row in omega (arith, three (whole c.args.from c.args.to) c.args.basis.ready m.0 m.1 m.2)
 
 pub is_end_within-requires-clause-ready : goal.is_end_within-requires-clause-ready
 is_end_within-requires-clause-ready c =
     let r = c.requires.ready in
     let m = c.requires.one_row in
-    (r.0, r.1, (parts r.0 m.0 m.1 m.2 c.clamped-first.ensures c.clamped-last.ensures).from-a)
+    (r.0, (parts c.args.basis.ready m.0 m.1 m.2 c.clamped-first.ensures c.clamped-last.ensures).from-a)
 
 pub is_end_within-requires-clause-free_end : goal.is_end_within-requires-clause-free_end
 is_end_within-requires-clause-free_end c =
-    let m = c.requires.one_row in (parts c.requires.ready.0 m.0 m.1 m.2 c.clamped-first.ensures c.clamped-last.ensures).first
+    let m = c.requires.one_row in (parts c.args.basis.ready m.0 m.1 m.2 c.clamped-first.ensures c.clamped-last.ensures).first
 
 pub returns-then-not-is_end_within : goal.returns-then-not-is_end_within
 returns-then-not-is_end_within c =
     let m = c.requires.one_row in
-    let p = parts c.requires.ready.0 m.0 m.1 m.2 c.clamped-first.ensures c.clamped-last.ensures in
+    let p = parts c.args.basis.ready m.0 m.1 m.2 c.clamped-first.ensures c.clamped-last.ensures in
     tested_stops (omega (arith, p.a-b, p.b-to)) c.is_end_within.ensures c.if-not-is_end_within.true
 
 pub is_run_within-requires-clause-ready : goal.is_run_within-requires-clause-ready
 is_run_within-requires-clause-ready c =
     let r = c.requires.ready in
     let m = c.requires.one_row in
-    (r.0, r.1, (parts r.0 m.0 m.1 m.2 c.clamped-first.ensures c.clamped-last.ensures).a-b)
+    (r.0, (parts c.args.basis.ready m.0 m.1 m.2 c.clamped-first.ensures c.clamped-last.ensures).a-b)
 
 pub is_run_within-requires-clause-sums : goal.is_run_within-requires-clause-sums
 is_run_within-requires-clause-sums c =
     let r = c.requires.ready in
     let m = c.requires.one_row in
-    let p = parts r.0 m.0 m.1 m.2 c.clamped-first.ensures c.clamped-last.ensures in
-    let inner : OnLine c.args.plan.instrument.grid c.clamped-first.result c.clamped-last.result = p.inner in
+    let p = parts c.args.basis.ready m.0 m.1 m.2 c.clamped-first.ensures c.clamped-last.ensures in
+    let inner : OnLine c.args.basis.plan.instrument.grid c.clamped-first.result c.clamped-last.result = p.inner in
     record {
       callable = λ k a b. search rules;
       gives = λ k sum a b q.
-          let e : sum ≡ two_beside c.args.newer.now k = search rules in
-          rw e (line-beside c.args.plan.instrument r.0.planned.passes inner r.2 c.args.newer.now k a b);
+          let e : sum ≡ two_beside c.args.basis.newer.now k = search rules in
+          rw e (line-beside c.args.basis.plan.instrument c.args.basis.ready.planned.passes inner r.1 c.args.basis.newer.now k a b);
     }
 
 pub returns-then-not-is_run_within : goal.returns-then-not-is_run_within
 returns-then-not-is_run_within c =
     let m = c.requires.one_row in
-    let p = parts c.requires.ready.0 m.0 m.1 m.2 c.clamped-first.ensures c.clamped-last.ensures in
+    let p = parts c.args.basis.ready m.0 m.1 m.2 c.clamped-first.ensures c.clamped-last.ensures in
     tested_stops p.b-to (tested_append p.from-a c.is_end_within.ensures c.if-not-is_end_within.false c.is_run_within.ensures)
     c.if-not-is_run_within.true
 
 pub overflow_sub-n-2 : goal.overflow_sub-n-2
 overflow_sub-n-2 c =
-    let m = c.requires.one_row in omega (arith, three (whole c.args.from c.args.to) c.requires.ready.0 m.0 m.1 m.2)
+    let m = c.requires.one_row in omega (arith, three (whole c.args.from c.args.to) c.args.basis.ready m.0 m.1 m.2)
 
 pub is_end_within-requires-2-clause-ready : goal.is_end_within-requires-2-clause-ready
 is_end_within-requires-2-clause-ready c =
     let r = c.requires.ready in
     let m = c.requires.one_row in
-    (r.0, r.1, (parts r.0 m.0 m.1 m.2 c.clamped-first.ensures c.clamped-last.ensures).b-to)
+    (r.0, (parts c.args.basis.ready m.0 m.1 m.2 c.clamped-first.ensures c.clamped-last.ensures).b-to)
 
 pub is_end_within-requires-2-clause-free_end : goal.is_end_within-requires-2-clause-free_end
 is_end_within-requires-2-clause-free_end c =
-    let m = c.requires.one_row in (parts c.requires.ready.0 m.0 m.1 m.2 c.clamped-first.ensures c.clamped-last.ensures).last
+    let m = c.requires.one_row in (parts c.args.basis.ready m.0 m.1 m.2 c.clamped-first.ensures c.clamped-last.ensures).last
 
 pub returns : goal.returns
 returns c =
     let m = c.requires.one_row in
-    let p = parts c.requires.ready.0 m.0 m.1 m.2 c.clamped-first.ensures c.clamped-last.ensures in
+    let p = parts c.args.basis.ready m.0 m.1 m.2 c.clamped-first.ensures c.clamped-last.ensures in
     tested_append (omega (arith, p.from-a, p.a-b))
     (tested_append p.from-a c.is_end_within.ensures c.if-not-is_end_within.false c.is_run_within.ensures)
     c.if-not-is_run_within.false c.is_end_within-2.ensures
