@@ -47,10 +47,30 @@ def declared(header):
             for answer, name, arguments in re.findall(r"([\w ]+?)\b(\w+)\(([^()]*)\);", plain) if "return" not in answer}
 
 
+def cases(source, name):
+    """{case: number} of an enum in Rattle: a number is one more than that before it where none is given."""
+    body = re.search(rf"^pub enum {name} \{{(.*?)^\}}", source, re.M | re.S)
+    found, number = {}, 0
+    for case, given in re.findall(r"(\w+)(?: = (\d+))?,", body[1] if body else ""):
+        number = int(given) if given else number
+        found[case] = number
+        number += 1
+    return found
+
+
 def refusals(source):
-    """{enumerator: number} of the enum of refusals in Rattle."""
-    pairs = re.findall(r"Refusal::(\w+) => (\d+)", source)
-    return {"BUVCSOLTA" + re.sub(r"([A-Z])", r"_\1", name).upper(): int(number) for name, number in pairs}
+    """{enumerator: number} of the enum of refusals in Rattle, and of an outcome that is none."""
+    found = {"BUVCSOLTA" + re.sub(r"([A-Z])", r"_\1", name).upper(): number for name, number in cases(source, "Refusal").items()}
+    none = re.search(r"Ok\(\(\)\) => (\d+),", source)
+    return {"BUVCSOLTA_NOTHING": int(none[1]), **found} if none and found else {}
+
+
+def kinds(source):
+    """{enumerator: number} of the constants of Grid that are a kind's number."""
+    grid = re.search(r"^impl Grid \{(.*?)^\}", source, re.M | re.S)
+    numbers = cases(source, "Kind")
+    pairs = re.findall(r"const (\w+): u64 = Kind::(\w+) as u64;", grid[1] if grid else "")
+    return {f"BUVCSOLTA_{name}": numbers.get(case) for name, case in pairs}
 
 
 def enumerators(header, name):
@@ -100,9 +120,7 @@ def differences(header, exports, scheme, names):
         wrong.append(f"refusals: {sorted(set(numbers.items()) ^ set(listed.items()))}")
     if sorted(texts(header)) != sorted(numbers):
         wrong.append("refusals in words are not those of the source")
-    grid = re.search(r"^impl Grid \{(.*?)^\}", scheme, re.M | re.S)
-    kinds = {f"BUVCSOLTA_{name}": int(number) for name, number in re.findall(r"const (\w+): u64 = (\d+);", grid[1] if grid else "")}
-    if not kinds or enumerators(header, "buvcsolta_kind") != kinds:
+    if not kinds(scheme) or enumerators(header, "buvcsolta_kind") != kinds(scheme):
         wrong.append("kinds are not those of the source")
     unit = re.search(r"const UNITS_PER_SAMPLE: i64 = (\d+);", scheme)
     ceiling = re.search(r"const CEILING: i64 = (\d+) \* Settings::UNITS_PER_SAMPLE;", scheme)

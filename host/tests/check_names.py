@@ -28,6 +28,7 @@ EXCEPTIONS = {
     "rt": "the toolchain",
     "gcc": "a compiler", "clang": "a compiler", "g++": "a compiler",
     "valgrind": "a program", "callgrind": "a tool of valgrind", "sox": "a program", "python3": "a program", "echo": "a program",
+    "memmove": "a function of the C library",
     "ensures": "a word of Rattle", "requires": "a word of Rattle",
     "tidy": "a command of the toolchain", "staticlib": "a word of crates.txt",
 }
