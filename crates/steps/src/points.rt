@@ -47,7 +47,7 @@ impl Basis<'_> {
         }
         let rounded = round_by(n, self.plan.divisor, self.plan.half);
         out[at - s.base] = rounded.whole;
-        Some(if rounded.remainder == 0 { 0 } else { 1 })
+        Some(u64::from(rounded.remainder != 0))
     }
 
     // Moving points without stiffness: `sum` gives the sum of a point's neighbours.

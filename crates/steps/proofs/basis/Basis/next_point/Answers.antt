@@ -1,7 +1,11 @@
 -- The value that the numerator is rounded to is the scheme's.
 use Rattle.std.proofs.Common.{arith, ◌≡◌, refl, sym, ap, ◌∙◌, ℕ, ◌+◌, ◌-◌, ◌/◌, ◌≤◌, ◌<◌, ℤ, Bool, true, false, cond, not, List, length, Some, to_z, of_z, w64}
 use mathlib.Core.Bool.{not-not}
-use borrow.Author.Tests.{ltb-false}
+use mathlib.Core.Path.{subst}
+use mir.Val.{bool_byte}
+use native.Mathlib.Decide.{ℕ_discrete}
+use lib.Dec.{eqb}
+use borrow.Author.Tests.{ltb-false, eq-eqb, ne_eqb, not-true, not-false}
 use lib.ListN.{set}
 use Rattle.bounded.proofs.Num.{back}
 use Rattle.rounding.specs.declared.Rounded.{Rounded}
@@ -66,6 +70,16 @@ module _ (p : Plan) (h : Planned p) (n : ℤ) (x : Next) (made : next_over n (di
           → Ran v write base out (set out (at - base) (to_z w64 (of_z w64 r.whole))) at (at + 1) (Some 1)
       inexact some = written false (remainder_some n d (omega arith) (λ e. some (ap (of_z w64) (remainder_is ∙ e))))
 
+      abbrev Left : ℕ → Type 0
+      Left n = Ran v write base out (set out (at - base) (to_z w64 (of_z w64 r.whole))) at (at + 1) (Some n)
+
+      as_counted : (n : ℕ) → n ≡ bool_byte (not (eqb (of_z w64 r.remainder) 0)) → Left n
+      as_counted n e = go (ℕ_discrete (of_z w64 r.remainder) 0)
+        where
+          go : Dec (of_z w64 r.remainder ≡ 0) → Left n
+          go (yes z) = subst Left (sym (e ∙ ap (λ (t : Bool). bool_byte (not t)) (eq-eqb _ 0 z))) (exact z)
+          go (no z) = subst Left (sym (e ∙ ap (λ (t : Bool). bool_byte (not t)) (ne_eqb _ 0 z))) (inexact z)
+
 -- what is made of the numerator is made of the point
 made_of : {p : Plan} {f : ℤ} {older newer : List ℤ} {at : ℕ} {sum stiff n m : ℤ} → Ready p f older newer
     → Neighbouring p.instrument newer at sum stiff → m ≡ n
@@ -86,19 +100,13 @@ pub returns-then-not-s : goal.returns-then-not-s
 returns-then-not-s c =
     let r = c.requires.ready in
     let n = c.numerator_at-n in
-    point_tested _ _ c.if-not-s.true
+    point_tested _ _ (not-true _ c.if-not-s.true)
     (beyond-is _ c.args.self.ready.planned _ _ (made_of (forced c.args.s.force c.args.self.ready r.0) r.1 (back n.result n.type_inv) n.ensures) _ c.is_below_limit-beyond.ensures ∙ ap not c.if-beyond.false)
 
-pub returns-then-rounded-eq0 : goal.returns-then-rounded-eq0
-returns-then-rounded-eq0 c =
+pub returns : goal.returns
+returns c =
     let r = c.requires.ready in
     let n = c.numerator_at-n in
-    exact _ c.args.self.ready.planned _ _ (made_of (forced c.args.s.force c.args.self.ready r.0) r.1 (back n.result n.type_inv) n.ensures) _ c.is_below_limit-beyond.ensures _ c.round_by-rounded.ensures
-    c.if-beyond.false _ _ _ _ _ refl c.if-not-s.false (omega (arith, c.requires.placed)) (omega (arith, c.requires.placed)) c.if-rounded-eq0.true
-
-pub returns-else-rounded-eq0 : goal.returns-else-rounded-eq0
-returns-else-rounded-eq0 c =
-    let r = c.requires.ready in
-    let n = c.numerator_at-n in
-    inexact _ c.args.self.ready.planned _ _ (made_of (forced c.args.s.force c.args.self.ready r.0) r.1 (back n.result n.type_inv) n.ensures) _ c.is_below_limit-beyond.ensures _ c.round_by-rounded.ensures
-    c.if-beyond.false _ _ _ _ _ refl c.if-not-s.false (omega (arith, c.requires.placed)) (omega (arith, c.requires.placed)) c.if-rounded-eq0.false
+    as_counted _ c.args.self.ready.planned _ _ (made_of (forced c.args.s.force c.args.self.ready r.0) r.1 (back n.result n.type_inv) n.ensures) _
+    c.is_below_limit-beyond.ensures _ c.round_by-rounded.ensures c.if-beyond.false _ _ _ _ _ refl (not-false _ c.if-not-s.false)
+    (omega (arith, c.requires.placed)) (omega (arith, c.requires.placed)) c.from.result c.from.ensures
