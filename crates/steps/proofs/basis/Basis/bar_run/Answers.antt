@@ -18,17 +18,22 @@ pub overflow_add-left : goal.overflow_add-left
 overflow_add-left c =
     let low = c.args.self.ready.newer_low in
     let right = back c.sum_at-right.result c.sum_at-right.type_inv ∙ c.sum_at-right.ensures in
-    fits (bar# c.args.self.newer.now low (c.loop-at.at - 1) c.loop-at.invariant.1 ⊞ bar# c.args.self.newer.now low (c.loop-at.at + 1) right) tt
+    fits (bar# c.args.self.newer.now low (c.loop-at.at - 1) c.loop-at.invariant.1 ⊞ bar# c.args.self.newer.now low (c.loop-at.at + 1)
+    right) tt
 
 pub stiffness-stiff-requires : goal.stiffness-stiff-requires
 stiffness-stiff-requires c =
     let r = c.args.self.ready in
     let k = c.loop-at.at in
     let right = back c.sum_at-right.result c.sum_at-right.type_inv ∙ c.sum_at-right.ensures in
-    let outer : E = bar# c.args.self.newer.now r.newer_low (k - 1) c.loop-at.invariant.1 ⊞ bar# c.args.self.newer.now r.newer_low (k + 1) right in
+    let outer : E = bar# c.args.self.newer.now r.newer_low (k - 1) c.loop-at.invariant.1 ⊞ bar# c.args.self.newer.now r.newer_low (k + 1)
+    right in
     let summed = bar_beside c.args.self.plan.instrument.grid c.requires.on_line.1 c.args.self.newer.now r.newer_long c.requires.on_line.0 k
-    c.loop-at.invariant.0.order c.loop-at-test.true in
-    (r.planned, coe 1 0 (j. Bendable c.args.self.plan (is outer tt j) (c.loop-at.invariant.2 j) (held {z = point c.args.self.newer.now k} (r.newer_low k) j)) (bendable r summed))
+    c.loop-at.invariant.0.order c.loop-at-test.true in (
+      r.planned,
+      coe 1 0 (j. Bendable c.args.self.plan (is outer tt j) (c.loop-at.invariant.2 j)
+          (held {z = point c.args.self.newer.now k} (r.newer_low k) j)) (bendable r summed),
+    )
 
 pub next_point-requires-clause-ready : goal.next_point-requires-clause-ready
 next_point-requires-clause-ready c =
@@ -37,11 +42,13 @@ next_point-requires-clause-ready c =
     let plan = c.args.self.plan in
     let here = c.loop-at.invariant.2 in
     let right = back c.sum_at-right.result c.sum_at-right.type_inv ∙ c.sum_at-right.ensures in
-    let outer : E = bar# c.args.self.newer.now r.newer_low (k - 1) c.loop-at.invariant.1 ⊞ bar# c.args.self.newer.now r.newer_low (k + 1) right in
+    let outer : E = bar# c.args.self.newer.now r.newer_low (k - 1) c.loop-at.invariant.1 ⊞ bar# c.args.self.newer.now r.newer_low (k + 1)
+    right in
     let summed = bar_beside plan.instrument.grid c.requires.on_line.1 c.args.self.newer.now r.newer_long c.requires.on_line.0 k
     c.loop-at.invariant.0.order c.loop-at-test.true in
     let stiff_is = back c.stiffness-stiff.result c.stiffness-stiff.type_inv ∙ c.stiffness-stiff.ensures ∙
-    (λ j. plan.m *ℤ bending_of (pos (count_of plan.instrument.grid)) (here j) (is outer tt j) (held {z = point c.args.self.newer.now k} (r.newer_low k) j)) in
+    (λ j. plan.m *ℤ bending_of (pos (count_of plan.instrument.grid)) (here j) (is outer tt j)
+    (held {z = point c.args.self.newer.now k} (r.newer_low k) j)) in
     (c.requires.ready.0, coe 1 0 (j. Neighbouring plan.instrument c.args.self.newer.now k (here j) (stiff_is j)) (bent r summed))
 
 pub returns-in_err-inexact : goal.returns-in_err-inexact

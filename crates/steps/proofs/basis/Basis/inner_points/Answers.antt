@@ -11,7 +11,8 @@ soft_run-requires-clause-sums c = record {
   gives = λ k sum a b q.
       let e : sum ≡ two_beside c.args.self.newer.now k = search rules in
       let planned = c.args.self.ready.planned in
-      rw e (line-beside c.args.self.plan.instrument planned.passes c.requires.on_line (m_none planned c.if-self-eq0.true) c.args.self.newer.now k a b);
+      rw e (line-beside c.args.self.plan.instrument planned.passes c.requires.on_line (m_none planned c.if-self-eq0.true)
+      c.args.self.newer.now k a b);
 }
 
 pub bar_run-requires-clause-on_line : goal.bar_run-requires-clause-on_line

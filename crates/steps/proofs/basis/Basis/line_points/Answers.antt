@@ -41,10 +41,15 @@ returns-in_err-first c =
     let r = c.requires.ready in
     let m = c.requires.one_row in
     rw c.from_residual.ensures
-    (first_stops c.args.s (forced c.args.s.force c.args.self.ready r.0) m.0 m.1 m.2 r.1.above (advanced c.args.self.plan c.args.s c.args.self.older.now c.args.self.newer.now 0 1 c.part.ensures c.in_err-first.ensures) refl)
+    (first_stops c.args.s (forced c.args.s.force c.args.self.ready r.0) m.0 m.1 m.2 r.1.above
+    (advanced c.args.self.plan c.args.s c.args.self.older.now c.args.self.newer.now 0 1 c.part.ensures c.in_err-first.ensures) refl)
 
 pub overflow_sub-n : goal.overflow_sub-n
-overflow_sub-n c = let m = c.requires.one_row in omega (arith, three c.args.s (forced c.args.s.force c.args.self.ready c.requires.ready.0) m.0 m.1 m.2)
+overflow_sub-n c = let m = c.requires.one_row in omega (
+  arith,
+  three c.args.s (forced c.args.s.force c.args.self.ready c.requires.ready.0)
+      m.0 m.1 m.2,
+)
 
 pub inner_points-requires-clause-ready : goal.inner_points-requires-clause-ready
 inner_points-requires-clause-ready c =
@@ -66,14 +71,23 @@ returns-in_err-inner c =
     let m = c.requires.one_row in
     let n = length c.args.self.newer.now in
     rw c.from_residual-in_err-inner.ensures
-    (inner_stops c.args.s (forced c.args.s.force c.args.self.ready r.0) m.0 m.1 m.2 r.1.above (advanced c.args.self.plan c.args.s c.args.self.older.now c.args.self.newer.now 0 1 c.part.ensures c.in_ok-first.ensures)
+    (inner_stops c.args.s (forced c.args.s.force c.args.self.ready r.0) m.0 m.1 m.2 r.1.above
+    (advanced c.args.self.plan c.args.s c.args.self.older.now c.args.self.newer.now 0 1 c.part.ensures c.in_ok-first.ensures)
     (advanced c.args.self.plan c.args.s c.args.self.older.now c.args.self.newer.now 1 (n - 1) c.part-2.ensures c.in_err-inner.ensures) refl)
 
 pub overflow_sub-n-2 : goal.overflow_sub-n-2
-overflow_sub-n-2 c = let m = c.requires.one_row in omega (arith, three c.args.s (forced c.args.s.force c.args.self.ready c.requires.ready.0) m.0 m.1 m.2)
+overflow_sub-n-2 c = let m = c.requires.one_row in omega (
+  arith,
+  three c.args.s
+      (forced c.args.s.force c.args.self.ready c.requires.ready.0) m.0 m.1 m.2,
+)
 
 pub overflow_sub-n-3 : goal.overflow_sub-n-3
-overflow_sub-n-3 c = let m = c.requires.one_row in omega (arith, three c.args.s (forced c.args.s.force c.args.self.ready c.requires.ready.0) m.0 m.1 m.2)
+overflow_sub-n-3 c = let m = c.requires.one_row in omega (
+  arith,
+  three c.args.s
+      (forced c.args.s.force c.args.self.ready c.requires.ready.0) m.0 m.1 m.2,
+)
 
 pub free_end-requires-2-clause-ready : goal.free_end-requires-2-clause-ready
 free_end-requires-2-clause-ready c =
@@ -96,16 +110,20 @@ returns-in_err-last c =
     let m = c.requires.one_row in
     let n = length c.args.self.newer.now in
     rw c.from_residual-in_err-last.ensures
-    (last_stops c.args.s (forced c.args.s.force c.args.self.ready r.0) m.0 m.1 m.2 r.1.above (advanced c.args.self.plan c.args.s c.args.self.older.now c.args.self.newer.now 0 1 c.part.ensures c.in_ok-first.ensures)
-    (advanced c.args.self.plan c.args.s c.args.self.older.now c.args.self.newer.now 1 (n - 1) c.part-2.ensures c.in_ok-inner.ensures) (advanced c.args.self.plan c.args.s c.args.self.older.now c.args.self.newer.now (n - 1) n c.part-3.ensures c.in_err-last.ensures) refl)
+    (last_stops c.args.s (forced c.args.s.force c.args.self.ready r.0) m.0 m.1 m.2 r.1.above
+    (advanced c.args.self.plan c.args.s c.args.self.older.now c.args.self.newer.now 0 1 c.part.ensures c.in_ok-first.ensures)
+    (advanced c.args.self.plan c.args.s c.args.self.older.now c.args.self.newer.now 1 (n - 1) c.part-2.ensures c.in_ok-inner.ensures)
+    (advanced c.args.self.plan c.args.s c.args.self.older.now c.args.self.newer.now (n - 1) n c.part-3.ensures c.in_err-last.ensures) refl)
 
 pub overflow_add-result : goal.overflow_add-result
 overflow_add-result c =
     let r = c.requires.ready in
     let m = c.requires.one_row in
     let n = length c.args.self.newer.now in
-    let most = all_most c.args.s (forced c.args.s.force c.args.self.ready r.0) m.0 m.1 m.2 r.1.above (advanced c.args.self.plan c.args.s c.args.self.older.now c.args.self.newer.now 0 1 c.part.ensures c.in_ok-first.ensures)
-    (advanced c.args.self.plan c.args.s c.args.self.older.now c.args.self.newer.now 1 (n - 1) c.part-2.ensures c.in_ok-inner.ensures) (advanced c.args.self.plan c.args.s c.args.self.older.now c.args.self.newer.now (n - 1) n c.part-3.ensures c.in_ok-last.ensures) in
+    let most = all_most c.args.s (forced c.args.s.force c.args.self.ready r.0) m.0 m.1 m.2 r.1.above
+    (advanced c.args.self.plan c.args.s c.args.self.older.now c.args.self.newer.now 0 1 c.part.ensures c.in_ok-first.ensures)
+    (advanced c.args.self.plan c.args.s c.args.self.older.now c.args.self.newer.now 1 (n - 1) c.part-2.ensures c.in_ok-inner.ensures)
+    (advanced c.args.self.plan c.args.s c.args.self.older.now c.args.self.newer.now (n - 1) n c.part-3.ensures c.in_ok-last.ensures) in
     record { fits = omega (arith, most, c.args.self.ready.newer_long, few_points c.args.self.ready.planned) }
 
 pub overflow_add-result-2 : goal.overflow_add-result-2
@@ -113,8 +131,10 @@ overflow_add-result-2 c =
     let r = c.requires.ready in
     let m = c.requires.one_row in
     let n = length c.args.self.newer.now in
-    let most = all_most c.args.s (forced c.args.s.force c.args.self.ready r.0) m.0 m.1 m.2 r.1.above (advanced c.args.self.plan c.args.s c.args.self.older.now c.args.self.newer.now 0 1 c.part.ensures c.in_ok-first.ensures)
-    (advanced c.args.self.plan c.args.s c.args.self.older.now c.args.self.newer.now 1 (n - 1) c.part-2.ensures c.in_ok-inner.ensures) (advanced c.args.self.plan c.args.s c.args.self.older.now c.args.self.newer.now (n - 1) n c.part-3.ensures c.in_ok-last.ensures) in
+    let most = all_most c.args.s (forced c.args.s.force c.args.self.ready r.0) m.0 m.1 m.2 r.1.above
+    (advanced c.args.self.plan c.args.s c.args.self.older.now c.args.self.newer.now 0 1 c.part.ensures c.in_ok-first.ensures)
+    (advanced c.args.self.plan c.args.s c.args.self.older.now c.args.self.newer.now 1 (n - 1) c.part-2.ensures c.in_ok-inner.ensures)
+    (advanced c.args.self.plan c.args.s c.args.self.older.now c.args.self.newer.now (n - 1) n c.part-3.ensures c.in_ok-last.ensures) in
     record { fits = omega (arith, most, c.args.self.ready.newer_long, few_points c.args.self.ready.planned) }
 
 pub returns : goal.returns
@@ -122,5 +142,7 @@ returns c =
     let r = c.requires.ready in
     let m = c.requires.one_row in
     let n = length c.args.self.newer.now in
-    all_parts c.args.s (forced c.args.s.force c.args.self.ready r.0) m.0 m.1 m.2 r.1.above (advanced c.args.self.plan c.args.s c.args.self.older.now c.args.self.newer.now 0 1 c.part.ensures c.in_ok-first.ensures)
-    (advanced c.args.self.plan c.args.s c.args.self.older.now c.args.self.newer.now 1 (n - 1) c.part-2.ensures c.in_ok-inner.ensures) (advanced c.args.self.plan c.args.s c.args.self.older.now c.args.self.newer.now (n - 1) n c.part-3.ensures c.in_ok-last.ensures)
+    all_parts c.args.s (forced c.args.s.force c.args.self.ready r.0) m.0 m.1 m.2 r.1.above
+    (advanced c.args.self.plan c.args.s c.args.self.older.now c.args.self.newer.now 0 1 c.part.ensures c.in_ok-first.ensures)
+    (advanced c.args.self.plan c.args.s c.args.self.older.now c.args.self.newer.now 1 (n - 1) c.part-2.ensures c.in_ok-inner.ensures)
+    (advanced c.args.self.plan c.args.s c.args.self.older.now c.args.self.newer.now (n - 1) n c.part-3.ensures c.in_ok-last.ensures)

@@ -1,5 +1,6 @@
 -- The value that the numerator is rounded to is the scheme's.
-use Rattle.std.proofs.Common.{arith, ◌≡◌, refl, sym, ap, ◌∙◌, ℕ, ◌+◌, ◌-◌, ◌/◌, ◌≤◌, ◌<◌, ℤ, Bool, true, false, cond, not, List, length, Some, to_z, of_z, w64}
+use Rattle.std.proofs.Common.{arith, ◌≡◌, refl, sym, ap, ◌∙◌, ℕ, ◌+◌, ◌-◌, ◌/◌, ◌≤◌, ◌<◌, ℤ, Bool, true, false, cond, not, List, length}
+use Rattle.std.proofs.Common.{Some, to_z, of_z, w64}
 use mathlib.Core.Bool.{not-not}
 use mathlib.Core.Path.{subst}
 use mir.Val.{bool_byte}
@@ -94,19 +95,22 @@ returns-then-beyond c =
     let r = c.requires.ready in
     let n = c.numerator_at-n in
     point-beyond _ _
-    (beyond-is _ c.args.self.ready.planned _ _ (made_of (forced c.args.s.force c.args.self.ready r.0) r.1 (back n.result n.type_inv) n.ensures) _ c.is_below_limit-beyond.ensures ∙ ap not c.if-beyond.true)
+    (beyond-is _ c.args.self.ready.planned _ _ (made_of (forced c.args.s.force c.args.self.ready r.0) r.1 (back n.result n.type_inv)
+    n.ensures) _ c.is_below_limit-beyond.ensures ∙ ap not c.if-beyond.true)
 
 pub returns-then-not-s : goal.returns-then-not-s
 returns-then-not-s c =
     let r = c.requires.ready in
     let n = c.numerator_at-n in
     point_tested _ _ (not-true _ c.if-not-s.true)
-    (beyond-is _ c.args.self.ready.planned _ _ (made_of (forced c.args.s.force c.args.self.ready r.0) r.1 (back n.result n.type_inv) n.ensures) _ c.is_below_limit-beyond.ensures ∙ ap not c.if-beyond.false)
+    (beyond-is _ c.args.self.ready.planned _ _ (made_of (forced c.args.s.force c.args.self.ready r.0) r.1 (back n.result n.type_inv)
+    n.ensures) _ c.is_below_limit-beyond.ensures ∙ ap not c.if-beyond.false)
 
 pub returns : goal.returns
 returns c =
     let r = c.requires.ready in
     let n = c.numerator_at-n in
-    as_counted _ c.args.self.ready.planned _ _ (made_of (forced c.args.s.force c.args.self.ready r.0) r.1 (back n.result n.type_inv) n.ensures) _
+    as_counted _ c.args.self.ready.planned _ _ (made_of (forced c.args.s.force c.args.self.ready r.0) r.1 (back n.result n.type_inv)
+    n.ensures) _
     c.is_below_limit-beyond.ensures _ c.round_by-rounded.ensures c.if-beyond.false _ _ _ _ _ refl (not-false _ c.if-not-s.false)
     (omega (arith, c.requires.placed)) (omega (arith, c.requires.placed)) c.from.result c.from.ensures

@@ -18,7 +18,8 @@ use Rattle.steps.proofs.basis.Basis.numerator_at.Goals as goal
 module _ {p : Plan} {u sum old f stiff : ℤ} (g : Updatable p u sum old f stiff) where
   given : Updatable p (to_z w64 (of_z w64 u)) (to_z w64 (of_z w64 sum)) (to_z w64 (of_z w64 old)) (to_z w64 (of_z w64 f))
       (to_z w64 (of_z w64 stiff))
-  given = coe 1 0 (j. Updatable p (held {z = u} g.u_low j) (held_below (4 * ceiling) tt {z = sum} g.sum_low j) (held {z = old} g.older_low j)
+  given = coe 1 0 (j. Updatable p (held {z = u} g.u_low j) (held_below (4 * ceiling) tt {z = sum} g.sum_low j)
+      (held {z = old} g.older_low j)
       (held {z = f} g.f_low j) (held_below (4 * D * ceiling) tt {z = stiff} g.stiff_low j)) g
 
   the_same : numerator_with p.instrument.settings (to_z w64 (of_z w64 u))

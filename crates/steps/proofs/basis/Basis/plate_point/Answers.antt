@@ -63,7 +63,8 @@ stiffness-stiff-requires c =
     let column = k - c.args.rows.start in
     let h = c.sum_below-below in
     let s = c.second_at-second in
-    let second_is = back s.result s.type_inv ∙ s.ensures ∙ ap (second_at sums c.args.rows column) (back h.result h.type_inv ∙ h.ensures) in (
+    let second_is = back s.result s.type_inv ∙ s.ensures ∙ ap (second_at sums c.args.rows column) (back h.result h.type_inv ∙ h.ensures)
+    in (
       r.planned,
       coe 1 0 (j. Bendable c.args.self.plan (second_is j)
           (held_below (4 * ceiling) tt {z = point sums (c.args.rows.here + column)} (t.0.low (c.args.rows.here + column)) j)

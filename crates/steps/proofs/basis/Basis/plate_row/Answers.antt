@@ -15,7 +15,8 @@ use Rattle.steps.proofs.basis.Basis.plate_row.Goals as goal
 use Rattle.steps.proofs.basis.Basis.plate_row.Goals.{else-this-ne0-via-then-this-ne0+else-is_hit_in, else-this-ne0-via-else-this-ne0}
 
 -- what a loop over s leaves is what is owed of the row
-owed : (p : Plan) (h : Option Hit) (older newer out₀ : List ℤ) (rows : SumRows) {s row : Stretch} {out sums : List ℤ} {r : Option ℕ} → s ≡ row
+owed : (p : Plan) (h : Option Hit) (older newer out₀ : List ℤ) (rows : SumRows) {s row : Stretch} {out sums : List ℤ} {r : Option ℕ} → s ≡
+    row
     → Moves p.instrument.grid row.from row.to → hit_in h row.from row.to ≡ false → row.force ≡ pos 0
     → Advanced p s older newer out₀ out s.from s.to r × (all_within r ≡ true → TwoRows p.instrument.grid newer sums rows s.to)
     → Stepping p.instrument h row.write row.base older newer out₀ out row.from row.to r

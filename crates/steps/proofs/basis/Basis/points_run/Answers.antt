@@ -16,9 +16,11 @@ soft_run-requires-clause-sums c =
           let m = moves.each k a b in
           let some : 1 ≤ g.columns = omega (arith, wide g size) in
           let above : g.columns ≤ k = around_above g size c.if-self-eq1.false k m in
-          let below : k + g.columns < length c.args.self.newer.now = omega (arith, r.newer_long, around_below g size c.if-self-eq1.false k m) in
+          let below : k + g.columns < length c.args.self.newer.now = omega
+          (arith, r.newer_long, around_below g size c.if-self-eq1.false k m) in
           search rules;
       gives = λ k sum a b q.
           let e : sum ≡ four_beside c.args.self.newer.now g.columns k = search rules in
-          rw e (grid-beside c.args.self.plan.instrument r.planned.passes c.if-self-eq1.false (c.requires.moves.2 c.if-self-eq1.false) c.args.self.newer.now k (moves.each k a b));
+          rw e (grid-beside c.args.self.plan.instrument r.planned.passes c.if-self-eq1.false (c.requires.moves.2 c.if-self-eq1.false)
+          c.args.self.newer.now k (moves.each k a b));
     }

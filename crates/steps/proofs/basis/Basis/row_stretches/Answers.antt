@@ -43,7 +43,8 @@ overflow_add-inexact c =
 
 pub loop-at-smaller : goal.loop-at-smaller
 loop-at-smaller c =
-    let e = struck-ends (struck_here c.args.self.plan c.args.row c.requires.moves.0 c.loop-at.invariant c.loop-at-test.true c.stretch_at-s.ensures) in
+    let e = struck-ends (struck_here c.args.self.plan c.args.row c.requires.moves.0 c.loop-at.invariant c.loop-at-test.true
+    c.stretch_at-s.ensures) in
     omega (arith, e.some, e.upto)
 
 pub loop-at-preserved : goal.loop-at-preserved

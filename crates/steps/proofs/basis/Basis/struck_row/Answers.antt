@@ -24,7 +24,8 @@ plate_point-requires-clause-two_rows c =
 
 pub returns-in_err-inexact : goal.returns-in_err-inexact
 returns-in_err-inexact c =
-    let t = struck_here c.args.self.plan c.args.row c.requires.two_rows.1.moves c.loop-at.invariant.0 c.loop-at-test.true c.stretch_at-s.ensures in
+    let t = struck_here c.args.self.plan c.args.row c.requires.two_rows.1.moves c.loop-at.invariant.0 c.loop-at-test.true
+    c.stretch_at-s.ensures in
     rw c.from_residual.ensures (
       struck_stops t (omega arith) (omega (arith, (struck-ends t).some)) c.in_err-inexact.ensures.0 refl,
       λ e. absurd (cc),
@@ -32,13 +33,15 @@ returns-in_err-inexact c =
 
 pub overflow_add-inexact : goal.overflow_add-inexact
 overflow_add-inexact c =
-    let t = struck_here c.args.self.plan c.args.row c.requires.two_rows.1.moves c.loop-at.invariant.0 c.loop-at-test.true c.stretch_at-s.ensures in
+    let t = struck_here c.args.self.plan c.args.row c.requires.two_rows.1.moves c.loop-at.invariant.0 c.loop-at-test.true
+    c.stretch_at-s.ensures in
     let most = struck_most t (omega arith) (omega (arith, (struck-ends t).some)) c.in_ok-inexact.ensures.0 refl in
     let last = run_inside (struck_moves t) (struck_some t) in
     record { fits = omega (arith, most, last, (struck-ends t).some, few_points c.args.self.ready.planned) }
 
 pub loop-at-preserved : goal.loop-at-preserved
 loop-at-preserved c =
-    let t = struck_here c.args.self.plan c.args.row c.requires.two_rows.1.moves c.loop-at.invariant.0 c.loop-at-test.true c.stretch_at-s.ensures in
+    let t = struck_here c.args.self.plan c.args.row c.requires.two_rows.1.moves c.loop-at.invariant.0 c.loop-at-test.true
+    c.stretch_at-s.ensures in
     let q = c.in_ok-inexact.ensures in
     (struck_on t (omega arith) (omega (arith, (struck-ends t).some)) q.0 refl, q.1, search rules)
