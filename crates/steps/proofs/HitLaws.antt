@@ -97,11 +97,12 @@ no_force i h older newer f {from = from} {to = to} m e z =
 -- ---- a loop over the stretches of a row
 
 -- s is the next stretch, from `at` on, with the hit's force on each of its points; those before are done, n of them inexact
-pub record Struck (p : Plan) (h : Option Hit) (older newer : List ℤ) (row : Stretch) (out₀ out : List ℤ) (at n : ℕ) (s : Stretch) : Type 0 where
-  pub moves : Moves p.instrument.grid row.from row.to
-  pub inv : Running (next_of p.instrument h older newer) row.write row.base out₀ row.from row.to out at n
-  pub more : at < row.to
-  pub is : s ≡ stretch_at row h at
+pub record Struck (p : Plan) (h : Option Hit) (older newer : List ℤ) (row : Stretch) (out₀ out : List ℤ) (at n : ℕ) (s : Stretch) : Type 0
+  where
+    pub moves : Moves p.instrument.grid row.from row.to
+    pub inv : Running (next_of p.instrument h older newer) row.write row.base out₀ row.from row.to out at n
+    pub more : at < row.to
+    pub is : s ≡ stretch_at row h at
 
 pub struck_here : (p : Plan) (row : Stretch) {h : Option Hit} {older newer out₀ out : List ℤ} {at n : ℕ} {s : Stretch}
     → Moves p.instrument.grid row.from row.to

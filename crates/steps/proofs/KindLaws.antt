@@ -16,7 +16,8 @@ use Rattle.types.specs.declared.Instrument.{Instrument}
 use Rattle.types.specs.Numbers.{D}
 use Rattle.scheme.specs.Lists.{square}
 use Rattle.types.specs.declared.Kind.{Kind}
-use Rattle.types.specs.declared.Kind.TheVariants.{Unknown, StringFixed, StringFixedFree, StringFree, Bar, MembraneRectangular, MembraneRound, Plate}
+use Rattle.types.specs.declared.Kind.TheVariants.{Unknown, StringFixed, StringFixedFree, StringFree, Bar, MembraneRectangular}
+use Rattle.types.specs.declared.Kind.TheVariants.{MembraneRound, Plate}
 use Rattle.scheme.specs.Instruments.{kind, points, column, row, within, line_size, grid_size, size_in, stable_in, at_edge, outer_ring}
 use Rattle.scheme.specs.Instruments.{in_table, off_centre, round_edge, fixed_in, fixed, moving, free_in, free_end}
 use Rattle.scheme.proofs.Laws.Bools.{and_both, or_neither}

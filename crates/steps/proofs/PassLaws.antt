@@ -98,7 +98,8 @@ piece_placed true o few h r s = record { order = o; above = omega arith; room = 
 piece_placed false o few h r s = record { order = o; above = omega arith; room = omega (arith, h, r.for_all refl) }
 
 -- and put into older, if it is written in place
-piece_passing : (i : Instrument) (h : Option Hit) (write inPlace : Bool) {newer older out older₁ out₁ : List ℤ} {a b base : ℕ} {r : Option ℕ}
+piece_passing : (i : Instrument) (h : Option Hit) (write inPlace : Bool) {newer older out older₁ out₁ : List ℤ} {a b base : ℕ}
+    {r : Option ℕ}
     → (inPlace ≡ false → base ≡ 0) → Stepping i h write base older newer out out₁ a b r → all_within r ≡ true
     → Filled (λ k. point out₁ (k - base)) (inPlace && write) 0 older older₁ a b → ((inPlace && write) ≡ false → older₁ ≡ older)
     → Passing i h write inPlace older newer out older₁ out₁ a b r

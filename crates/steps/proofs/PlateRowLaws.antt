@@ -363,7 +363,8 @@ module _ {p : Plan} {h : Option Hit} {inPlace : Bool} {older₀ newer out₀ : L
             plate_most = row_most left within
 
             pub plate_next : {sums' : List ℤ} → TwoRows g newer sums' r x.to → length sums' ≡ length sums
-                → PlateRows i h write inPlace older₀ newer out₀ older' out' sums' here other (row + 1) (start + g.columns) (n + inexact_of y)
+                → PlateRows i h write inPlace older₀ newer out₀ older' out' sums' here other (row + 1) (start + g.columns)
+                (n + inexact_of y)
             plate_next {sums'} w long = row_next left within (subst (λ (x : Stretch). TwoRows g newer sums' r x.to) e w) long
 
     -- after the last of them

@@ -83,10 +83,11 @@ module _ (g : Grid) (b : ℕ) (size : in_table g ≡ true) (h : b < g.rows) wher
 
 -- ---- a loop over the rows: the points before start have their next values, n of them inexact
 
-pub record Rows (i : Instrument) (h : Option Hit) (write inPlace : Bool) (older₀ newer out₀ older out : List ℤ) (row start n : ℕ) : Type 0 where
-  pub start_is : start ≡ row * i.grid.columns
-  pub upto : row ≤ i.grid.rows
-  pub done : Passing i h write inPlace older₀ newer out₀ older out 0 start (Some n)
+pub record Rows (i : Instrument) (h : Option Hit) (write inPlace : Bool) (older₀ newer out₀ older out : List ℤ) (row start n : ℕ) : Type 0
+  where
+    pub start_is : start ≡ row * i.grid.columns
+    pub upto : row ≤ i.grid.rows
+    pub done : Passing i h write inPlace older₀ newer out₀ older out 0 start (Some n)
 
 pub rows_start : {i : Instrument} {h : Option Hit} {write inPlace : Bool} {newer : List ℤ} (older out : List ℤ)
     → Rows i h write inPlace older newer out older out 0 0 0

@@ -23,7 +23,8 @@ pub record Passable (p : Plan) (h : Option Hit) (inPlace : Bool) (older newer ou
   pub room : RowRoom inPlace (points p.instrument.grid) out
 
 -- what a pass over the points from..to answers and leaves. Older is as it was unless it is written in place.
-pub record Passing (i : Instrument) (h : Option Hit) (write inPlace : Bool) (older₀ newer out₀ older out : List ℤ) (from to : ℕ) (r : Option ℕ)
+pub record Passing (i : Instrument) (h : Option Hit) (write inPlace : Bool) (older₀ newer out₀ older out : List ℤ) (from to : ℕ)
+    (r : Option ℕ)
     : Type 0 where
   pub ran : Stepping i h write 0 older₀ newer (target inPlace older₀ out₀) (target inPlace older out) from to r
   pub older_long : length older ≡ length older₀
@@ -31,6 +32,7 @@ pub record Passing (i : Instrument) (h : Option Hit) (write inPlace : Bool) (old
   pub kept : (inPlace && write) ≡ false → older ≡ older₀
 
 -- the same of a whole level
-pub record Passed (i : Instrument) (h : Option Hit) (write inPlace : Bool) (older₀ newer out₀ older out : List ℤ) (r : Option ℕ) : Type 0 where
-  pub stepped : Stepped i h write older₀ newer (target inPlace older out) r
-  pub passing : Passing i h write inPlace older₀ newer out₀ older out 0 (points i.grid) r
+pub record Passed (i : Instrument) (h : Option Hit) (write inPlace : Bool) (older₀ newer out₀ older out : List ℤ) (r : Option ℕ) : Type 0
+  where
+    pub stepped : Stepped i h write older₀ newer (target inPlace older out) r
+    pub passing : Passing i h write inPlace older₀ newer out₀ older out 0 (points i.grid) r

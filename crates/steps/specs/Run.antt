@@ -1,5 +1,6 @@
 -- Runs of points, the list that their values are put into, and how many of them are inexact. Vocabulary of private functions.
-use Rattle.std.specs.Prelude.{Option, Some, None, ◌≡◌, Bool, true, false, cond, not, ◌&&◌, List, [], ◌∷◌, ◌⊎◌, ℕ, ◌+◌, ◌-◌, ◌≤◌, ◌<◌, ℤ, pos, ◌+ℤ◌, length}
+use Rattle.std.specs.Prelude.{Option, Some, None, ◌≡◌, Bool, true, false, cond, not, ◌&&◌, List, [], ◌∷◌, ◌⊎◌, ℕ, ◌+◌, ◌-◌, ◌≤◌, ◌<◌, ℤ}
+use Rattle.std.specs.Prelude.{pos, ◌+ℤ◌, length}
 use Rattle.types.specs.declared.Grid.{Grid}
 use Rattle.types.specs.declared.Instrument.{Instrument}
 use Rattle.types.specs.declared.Hit.{Hit}
@@ -80,7 +81,8 @@ Advanced p s older newer out₀ out from to r =
     Ran (next_by p.instrument s.force older newer) s.write s.base out₀ out from to r
 
 -- the same of points with the forces of a hit
-abbrev pub Stepping : Instrument → Option Hit → (write : Bool) (base : ℕ) (older newer out₀ out : List ℤ) → (from to : ℕ) → Option ℕ → Type 0
+abbrev pub Stepping : Instrument → Option Hit → (write : Bool) (base : ℕ) (older newer out₀ out : List ℤ) → (from to : ℕ) → Option ℕ →
+    Type 0
 Stepping i h write base older newer out₀ out from to r = Ran (next_of i h older newer) write base out₀ out from to r
 
 -- ---- where a run lies

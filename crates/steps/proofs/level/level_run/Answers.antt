@@ -66,7 +66,8 @@ returns-in_err-inexact g c =
     let e = c.args.layout.now.edges_of in
     let below = c.loop-row-test.true in
     let here = run_of c.args.layout.now.plan.instrument.grid c.loop-row.row in
-    let left = subst₂ (λ (from to : ℕ). Passing c.args.layout.now.plan.instrument c.args.hit (not (eqb g.row.WRITE 0)) (not (eqb g.row.IN_PLACE 0)) c.loop-row.older
+    let left = subst₂ (λ (from to : ℕ). Passing c.args.layout.now.plan.instrument c.args.hit (not (eqb g.row.WRITE 0))
+    (not (eqb g.row.IN_PLACE 0)) c.loop-row.older
     c.args.newer.now c.loop-row.out c.row_pass.new.older c.row_pass.new.out from to (None))
     (e.from_is c.loop-row.row below) (e.to_is c.loop-row.row below) c.in_err-inexact.ensures in
     rw c.from_residual.ensures (stepped-not p (rows_stop p c.loop-row.invariant below here refl left refl) refl)
@@ -77,7 +78,8 @@ overflow_add-inexact g c =
     let e = c.args.layout.now.edges_of in
     let below = c.loop-row-test.true in
     let here = run_of c.args.layout.now.plan.instrument.grid c.loop-row.row in
-    let left = subst₂ (λ (from to : ℕ). Passing c.args.layout.now.plan.instrument c.args.hit (not (eqb g.row.WRITE 0)) (not (eqb g.row.IN_PLACE 0)) c.loop-row.older
+    let left = subst₂ (λ (from to : ℕ). Passing c.args.layout.now.plan.instrument c.args.hit (not (eqb g.row.WRITE 0))
+    (not (eqb g.row.IN_PLACE 0)) c.loop-row.older
     c.args.newer.now c.loop-row.out c.row_pass.new.older c.row_pass.new.out from to (Some c.in_ok-inexact.field-0))
     (e.from_is c.loop-row.row below) (e.to_is c.loop-row.row below) c.in_ok-inexact.ensures in
     let most = rows_most p c.loop-row.invariant below here refl left refl in
@@ -89,7 +91,8 @@ loop-row-preserved g c =
     let e = c.args.layout.now.edges_of in
     let below = c.loop-row-test.true in
     let here = run_of c.args.layout.now.plan.instrument.grid c.loop-row.row in
-    let left = subst₂ (λ (from to : ℕ). Passing c.args.layout.now.plan.instrument c.args.hit (not (eqb g.row.WRITE 0)) (not (eqb g.row.IN_PLACE 0)) c.loop-row.older
+    let left = subst₂ (λ (from to : ℕ). Passing c.args.layout.now.plan.instrument c.args.hit (not (eqb g.row.WRITE 0))
+    (not (eqb g.row.IN_PLACE 0)) c.loop-row.older
     c.args.newer.now c.loop-row.out c.row_pass.new.older c.row_pass.new.out from to (Some c.in_ok-inexact.field-0))
     (e.from_is c.loop-row.row below) (e.to_is c.loop-row.row below) c.in_ok-inexact.ensures in
     rows_at (next_row c.loop-row.row c.args.layout.now.plan.instrument.grid.columns)

@@ -54,7 +54,8 @@ piece_of {p} {write = write} {inPlace} {out = out} {at = at} {to} {x = x} r move
 pub returns-then-plan-eq0 : goal.returns-then-plan-eq0
 returns-then-plan-eq0 g c =
     let a = c.args in
-    tested_passing a.plan.instrument a.hit (not (eqb g.row.IN_PLACE 0)) c.is_row_within.result c.requires.moves.0.order (ap not (eq-eqb g.row.WRITE 0 c.if-not-this.true))
+    tested_passing a.plan.instrument a.hit (not (eqb g.row.IN_PLACE 0)) c.is_row_within.result c.requires.moves.0.order
+    (ap not (eq-eqb g.row.WRITE 0 c.if-not-this.true))
     c.is_row_within.ensures c.then_some.ensures
 
 pub invariant_of-basis : goal.invariant_of-basis
@@ -78,7 +79,8 @@ returns-in_err-n g c =
     let b = piece_of c.requires.ready c.requires.moves.0 i.0 i.1 c.loop-at-test.true c.piece_at-piece.ensures in
     rw c.from_residual.ensures
     (passing_stops i.1 b.moves.order i.0
-    (stretch_stops a.plan.instrument a.hit (not (eqb g.row.WRITE 0)) (not (eqb g.row.IN_PLACE 0)) b.is c.in_err-n.ensures refl) b.ends.upto refl)
+    (stretch_stops a.plan.instrument a.hit (not (eqb g.row.WRITE 0)) (not (eqb g.row.IN_PLACE 0)) b.is c.in_err-n.ensures refl)
+    b.ends.upto refl)
 
 pub overflow_add-inexact : goal.overflow_add-inexact
 overflow_add-inexact g c =
@@ -86,7 +88,8 @@ overflow_add-inexact g c =
     let i = c.loop-at.invariant in
     let b = piece_of c.requires.ready c.requires.moves.0 i.0 i.1 c.loop-at-test.true c.piece_at-piece.ensures in
     let q = passing_append i.1 b.moves.order i.0
-    (stretch_passing a.plan.instrument a.hit (not (eqb g.row.WRITE 0)) (not (eqb g.row.IN_PLACE 0)) b.is c.in_ok-n.ensures refl c.put_piece.ensures.0 c.put_piece.ensures.1)
+    (stretch_passing a.plan.instrument a.hit (not (eqb g.row.WRITE 0)) (not (eqb g.row.IN_PLACE 0)) b.is c.in_ok-n.ensures refl
+    c.put_piece.ensures.0 c.put_piece.ensures.1)
     refl in
     record { fits = omega (arith, passing_most q, b.inside, few_points b.ready.planned) }
 

@@ -19,4 +19,5 @@ loop-c-preserved c =
     let is = back h.result h.type_inv ∙ h.ensures ∙ ap (four_beside a.xs.now a.columns) same in
     filled_append v true 0 zero-le (omega arith) (omega arith) c.loop-c.invariant
     (coe 0 1 (j. Filled v true 0 sums (set sums (sub-zero at j) (to_z w64 (of_z w64 h.result))) at (sym more j))
-    (filled_one v true 0 sums at (to_z w64 (of_z w64 h.result)) refl zero-le (omega (arith, c.requires.le_columns, c.loop-c.invariant.long)) is))
+    (filled_one v true 0 sums at (to_z w64 (of_z w64 h.result)) refl zero-le
+    (omega (arith, c.requires.le_columns, c.loop-c.invariant.long)) is))
