@@ -10,28 +10,28 @@ use crate::basis::Basis;
 use crate::layout::Layout;
 use crate::pieces::put_piece;
 use crate::plates::plate_level;
-use crate::points::points_run;
-use crate::within::is_row_within;
 use plans::Plan;
 use stretches::{Stretch, piece_at};
 use types::Hit;
 
-// The moving points of a row.
-fn row_stretches(basis: Basis, row: Stretch, hit: Option<Hit>, out: &mut [i64]) -> Option<u64>
-    requires ready { Placed row (length out.old) }
-    requires moves { Moves basis.plan.instrument.grid row.from row.to × (too_strong hit ≡ false) × SoftGrid basis.plan.instrument }
-    ensures { Stepping basis.entry.plan.instrument hit row.write row.base basis.entry.older.now basis.entry.newer.now
-        out.old out.new row.from row.to result }
-{
-    let mut inexact = 0;
-    let mut at = row.from;
-    // by `while`: each stretch begins where the one before it ended, which no iterator of the library says
-    while at < row.to {
-        let s = row.stretch_at(hit, at);
-        inexact += points_run(basis, s, out)?;
-        at = s.to;
+impl Basis<'_> {
+    // The moving points of a row.
+    fn row_stretches(self, row: Stretch, hit: Option<Hit>, out: &mut [i64]) -> Option<u64>
+        requires ready { Placed row (length out.old) }
+        requires moves { Moves self.plan.instrument.grid row.from row.to × (too_strong hit ≡ false) × SoftGrid self.plan.instrument }
+        ensures { Stepping self.entry.plan.instrument hit row.write row.base self.entry.older.now self.entry.newer.now
+            out.old out.new row.from row.to result }
+    {
+        let mut inexact = 0;
+        let mut at = row.from;
+        // by `while`: each stretch begins where the one before it ended, which no iterator of the library says
+        while at < row.to {
+            let s = row.stretch_at(hit, at);
+            inexact += self.points_run(s, out)?;
+            at = s.to;
+        }
+        Some(inexact)
     }
-    Some(inexact)
 }
 
 // The moving points of a row, piece by piece: in place each piece is put into older once it is worked out.
@@ -51,7 +51,7 @@ fn row_pass<const WRITE: bool, const IN_PLACE: bool>(
 {
     if !WRITE && plan.m == 0 {
         let basis = Basis { plan, older, newer };
-        return is_row_within(basis, from, to, hit).then_some(0);
+        return basis.is_row_within(from, to, hit).then_some(0);
     }
     let mut inexact = 0;
     let mut at = from;
@@ -59,7 +59,7 @@ fn row_pass<const WRITE: bool, const IN_PLACE: bool>(
     while at < to {
         let piece = piece_at(at, to, WRITE, IN_PLACE);
         let basis = Basis { plan, older, newer };
-        let n = row_stretches(basis, piece, hit, out)?;
+        let n = basis.row_stretches(piece, hit, out)?;
         put_piece::<IN_PLACE>(out, piece, older);
         inexact += n;
         at = piece.to;

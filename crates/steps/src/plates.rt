@@ -14,7 +14,6 @@ use crate::arithmetic::stiffness;
 use crate::basis::Basis;
 use crate::neighbours::sum_around;
 use crate::pieces::put_piece;
-use crate::points::next_point;
 use plans::Plan;
 use stretches::{Stretch, is_hit_in};
 use types::Hit;
@@ -64,106 +63,97 @@ fn second_at(sums: &[i64], rows: SumRows, c: usize, below: i64) -> i64
     sums[here - 1] + sums[here + 1] + sums[above] + below
 }
 
-// A point of a row. Once it is done, the sum below it stands for the one above it.
-fn plate_point(
-    basis: Basis,
-    rows: SumRows,
-    at: usize,
-    s: Stretch,
-    sums: &mut [i64],
-    out: &mut [i64],
-) -> Option<u64>
-    requires ready { (nat_abs s.force ≤ ceiling) × Placed s (length out.old) × (s.from ≤ at) × (at < s.to) }
-    requires two_rows { TwoRows basis.plan.instrument.grid basis.newer.now sums.old rows at
-        × InRow basis.plan.instrument.grid rows s.from s.to }
-    ensures { Advanced basis.entry.plan s basis.entry.older.now basis.entry.newer.now out.old out.new at (at + 1) result
-        × TwoRows basis.entry.plan.instrument.grid basis.entry.newer.now sums.new rows (at + 1) }
-{
-    let c = at - rows.start;
-    let below = sum_below(
-        basis.newer,
-        at,
-        basis.plan.instrument.grid.columns,
-        rows.last,
-    );
-    let second = second_at(sums, rows, c, below);
-    let sum = sums[rows.here + c];
-    sums[rows.other + c] = below;
-    let stiff = stiffness(basis.plan, second, sum, basis.newer[at]);
-    next_point(basis, at, sum, stiff, s, out)
-}
+impl Basis<'_> {
+    // A point of a row. Once it is done, the sum below it stands for the one above it.
+    fn plate_point(
+        self,
+        rows: SumRows,
+        at: usize,
+        s: Stretch,
+        sums: &mut [i64],
+        out: &mut [i64],
+    ) -> Option<u64>
+        requires ready { (nat_abs s.force ≤ ceiling) × Placed s (length out.old) × (s.from ≤ at) × (at < s.to) }
+        requires two_rows { TwoRows self.plan.instrument.grid self.newer.now sums.old rows at
+            × InRow self.plan.instrument.grid rows s.from s.to }
+        ensures { Advanced self.entry.plan s self.entry.older.now self.entry.newer.now out.old out.new at (at + 1) result
+            × TwoRows self.entry.plan.instrument.grid self.entry.newer.now sums.new rows (at + 1) }
+    {
+        let c = at - rows.start;
+        let below = sum_below(self.newer, at, self.plan.instrument.grid.columns, rows.last);
+        let second = second_at(sums, rows, c, below);
+        let sum = sums[rows.here + c];
+        sums[rows.other + c] = below;
+        let stiff = stiffness(self.plan, second, sum, self.newer[at]);
+        self.next_point(at, sum, stiff, s, out)
+    }
 
-// Points of a row, one force on all of them.
-fn plate_run(
-    basis: Basis,
-    rows: SumRows,
-    s: Stretch,
-    sums: &mut [i64],
-    out: &mut [i64],
-) -> Option<u64>
-    requires ready { (nat_abs s.force ≤ ceiling) × Placed s (length out.old) }
-    requires two_rows { TwoRows basis.plan.instrument.grid basis.newer.now sums.old rows s.from
-        × InRow basis.plan.instrument.grid rows s.from s.to }
-    ensures { Advanced basis.entry.plan s basis.entry.older.now basis.entry.newer.now out.old out.new s.from s.to result
-        × (all_within result ≡ true → TwoRows basis.entry.plan.instrument.grid basis.entry.newer.now sums.new rows s.to) }
-{
-    let mut inexact = 0;
-    for at in s.from..s.to {
-        inexact += plate_point(basis, rows, at, s, sums, out)?;
+    // Points of a row, one force on all of them.
+    fn plate_run(self, rows: SumRows, s: Stretch, sums: &mut [i64], out: &mut [i64]) -> Option<u64>
+        requires ready { (nat_abs s.force ≤ ceiling) × Placed s (length out.old) }
+        requires two_rows { TwoRows self.plan.instrument.grid self.newer.now sums.old rows s.from
+            × InRow self.plan.instrument.grid rows s.from s.to }
+        ensures { Advanced self.entry.plan s self.entry.older.now self.entry.newer.now out.old out.new s.from s.to result
+            × (all_within result ≡ true → TwoRows self.entry.plan.instrument.grid self.entry.newer.now sums.new rows s.to) }
+    {
+        let mut inexact = 0;
+        for at in s.from..s.to {
+            inexact += self.plate_point(rows, at, s, sums, out)?;
+        }
+        Some(inexact)
     }
-    Some(inexact)
-}
 
-// The moving points of a row that the hit is among, point by point.
-fn struck_row(
-    basis: Basis,
-    rows: SumRows,
-    row: Stretch,
-    hit: Option<Hit>,
-    sums: &mut [i64],
-    out: &mut [i64],
-) -> Option<u64>
-    requires ready { Placed row (length out.old) × (too_strong hit ≡ false) }
-    requires two_rows { TwoRows basis.plan.instrument.grid basis.newer.now sums.old rows row.from
-        × InRow basis.plan.instrument.grid rows row.from row.to }
-    ensures { Stepping basis.entry.plan.instrument hit row.write row.base basis.entry.older.now basis.entry.newer.now
-        out.old out.new row.from row.to result
-        × (all_within result ≡ true → TwoRows basis.entry.plan.instrument.grid basis.entry.newer.now sums.new rows row.to) }
-{
-    let mut inexact = 0;
-    for at in row.from..row.to {
-        let s = row.stretch_at(hit, at);
-        inexact += plate_point(basis, rows, at, s, sums, out)?;
+    // The moving points of a row that the hit is among, point by point.
+    fn struck_row(
+        self,
+        rows: SumRows,
+        row: Stretch,
+        hit: Option<Hit>,
+        sums: &mut [i64],
+        out: &mut [i64],
+    ) -> Option<u64>
+        requires ready { Placed row (length out.old) × (too_strong hit ≡ false) }
+        requires two_rows { TwoRows self.plan.instrument.grid self.newer.now sums.old rows row.from
+            × InRow self.plan.instrument.grid rows row.from row.to }
+        ensures { Stepping self.entry.plan.instrument hit row.write row.base self.entry.older.now self.entry.newer.now
+            out.old out.new row.from row.to result
+            × (all_within result ≡ true → TwoRows self.entry.plan.instrument.grid self.entry.newer.now sums.new rows row.to) }
+    {
+        let mut inexact = 0;
+        for at in row.from..row.to {
+            let s = row.stretch_at(hit, at);
+            inexact += self.plate_point(rows, at, s, sums, out)?;
+        }
+        Some(inexact)
     }
-    Some(inexact)
-}
 
-// The moving points of a row, where the hit is not among them by one of two loops, each with `write` a constant. A step without a hit
-// doesn't ask for it.
-fn plate_row<const STRUCK: bool>(
-    basis: Basis,
-    rows: SumRows,
-    row: Stretch,
-    hit: Option<Hit>,
-    sums: &mut [i64],
-    out: &mut [i64],
-) -> Option<u64>
-    requires ready { Placed row (length out.old) × (too_strong hit ≡ false) }
-    requires force_value { row.force ≡ pos 0 }
-    requires unstruck { STRUCK ≡ false → hit ≡ None }
-    requires two_rows { TwoRows basis.plan.instrument.grid basis.newer.now sums.old rows row.from
-        × InRow basis.plan.instrument.grid rows row.from row.to }
-    ensures { Stepping basis.entry.plan.instrument hit row.write row.base basis.entry.older.now basis.entry.newer.now
-        out.old out.new row.from row.to result
-        × (all_within result ≡ true → TwoRows basis.entry.plan.instrument.grid basis.entry.newer.now sums.new rows row.to) }
-{
-    if STRUCK && is_hit_in(hit, row.from, row.to) {
-        return struck_row(basis, rows, row, hit, sums, out);
+    // The moving points of a row, where the hit is not among them by one of two loops, each with `write` a constant. A step without a hit
+    // doesn't ask for it.
+    fn plate_row<const STRUCK: bool>(
+        self,
+        rows: SumRows,
+        row: Stretch,
+        hit: Option<Hit>,
+        sums: &mut [i64],
+        out: &mut [i64],
+    ) -> Option<u64>
+        requires ready { Placed row (length out.old) × (too_strong hit ≡ false) }
+        requires force_value { row.force ≡ pos 0 }
+        requires unstruck { STRUCK ≡ false → hit ≡ None }
+        requires two_rows { TwoRows self.plan.instrument.grid self.newer.now sums.old rows row.from
+            × InRow self.plan.instrument.grid rows row.from row.to }
+        ensures { Stepping self.entry.plan.instrument hit row.write row.base self.entry.older.now self.entry.newer.now
+            out.old out.new row.from row.to result
+            × (all_within result ≡ true → TwoRows self.entry.plan.instrument.grid self.entry.newer.now sums.new rows row.to) }
+    {
+        if STRUCK && is_hit_in(hit, row.from, row.to) {
+            return self.struck_row(rows, row, hit, sums, out);
+        }
+        if row.write {
+            return self.plate_run(rows, row.as_written(true), sums, out);
+        }
+        self.plate_run(rows, row.as_written(false), sums, out)
     }
-    if row.write {
-        return plate_run(basis, rows, row.as_written(true), sums, out);
-    }
-    plate_run(basis, rows, row.as_written(false), sums, out)
 }
 
 // The moving points of the row that begins at point `start`: all but its ends.
@@ -212,7 +202,7 @@ pub(crate) fn plate_level<const WRITE: bool, const IN_PLACE: bool, const STRUCK:
         };
         let moving = moving_in::<WRITE, IN_PLACE>(start, columns);
         let basis = Basis { plan, older, newer };
-        let n = plate_row::<STRUCK>(basis, rows, moving, hit, &mut sums, out)?;
+        let n = basis.plate_row::<STRUCK>(rows, moving, hit, &mut sums, out)?;
         put_piece::<IN_PLACE>(out, moving, older);
         inexact += n;
         (here, other) = (other, here);

@@ -14,134 +14,129 @@ use crate::neighbours::{sum_around, sum_at, sum_beside};
 use rounding::round_by;
 use stretches::Stretch;
 
-// The numerator at a point: sum is that of its neighbours, stiff is m·B.
-pub(crate) fn numerator_at(basis: Basis, at: usize, sum: i64, stiff: i64, force: i64) -> i64
-    requires { (nat_abs force ≤ ceiling) × Neighbouring basis.plan.instrument basis.newer.now at sum stiff }
-    ensures { next_over result (divisor basis.entry.plan.instrument.settings)
-        ≡ next_by basis.entry.plan.instrument force basis.entry.older.now basis.entry.newer.now at }
-{
-    numerator(
-        basis.plan,
-        basis.newer[at],
-        sum,
-        basis.older[at],
-        force,
-        stiff,
-    )
-}
-
-// One point: its next value.
-pub(crate) fn next_point(
-    basis: Basis,
-    at: usize,
-    sum: i64,
-    stiff: i64,
-    s: Stretch,
-    out: &mut [i64],
-) -> Option<u64>
-    requires ready { (nat_abs s.force ≤ ceiling) × Neighbouring basis.plan.instrument basis.newer.now at sum stiff }
-    requires placed { Placed s (length out.old) × (s.from ≤ at) × (at < s.to) }
-    ensures { Advanced basis.entry.plan s basis.entry.older.now basis.entry.newer.now out.old out.new at (at + 1) result }
-{
-    let n = numerator_at(basis, at, sum, stiff, s.force);
-    let beyond = !is_below_limit(basis.plan, n);
-    if beyond {
-        return None;
+impl Basis<'_> {
+    // The numerator at a point: sum is that of its neighbours, stiff is m·B.
+    pub(crate) fn numerator_at(self, at: usize, sum: i64, stiff: i64, force: i64) -> i64
+        requires { (nat_abs force ≤ ceiling) × Neighbouring self.plan.instrument self.newer.now at sum stiff }
+        ensures { next_over result (divisor self.entry.plan.instrument.settings)
+            ≡ next_by self.entry.plan.instrument force self.entry.older.now self.entry.newer.now at }
+    {
+        numerator(self.plan, self.newer[at], sum, self.older[at], force, stiff)
     }
-    if !s.write {
-        return Some(0);
-    }
-    let rounded = round_by(n, basis.plan.divisor, basis.plan.half);
-    out[at - s.base] = rounded.whole;
-    Some(if rounded.remainder == 0 { 0 } else { 1 })
-}
 
-// Moving points without stiffness: `sum` gives the sum of a point's neighbours.
-fn soft_run<F: Fn(usize) -> i64 + Drop>(
-    basis: Basis,
-    sum: F,
-    s: Stretch,
-    out: &mut [i64],
-) -> Option<u64>
-    requires ready { (nat_abs s.force ≤ ceiling) × Placed s (length out.old) }
-    requires sums { Sums basis.plan.instrument basis.newer.now (F.pre sum) (F.post sum) s.from s.to }
-    ensures { Advanced basis.entry.plan s basis.entry.older.now basis.entry.newer.now out.old out.new s.from s.to result }
-{
-    let mut inexact = 0;
-    for at in s.from..s.to {
-        inexact += next_point(basis, at, sum(at), 0, s, out)?;
+    // One point: its next value.
+    pub(crate) fn next_point(
+        self,
+        at: usize,
+        sum: i64,
+        stiff: i64,
+        s: Stretch,
+        out: &mut [i64],
+    ) -> Option<u64>
+        requires ready { (nat_abs s.force ≤ ceiling) × Neighbouring self.plan.instrument self.newer.now at sum stiff }
+        requires placed { Placed s (length out.old) × (s.from ≤ at) × (at < s.to) }
+        ensures { Advanced self.entry.plan s self.entry.older.now self.entry.newer.now out.old out.new at (at + 1) result }
+    {
+        let n = self.numerator_at(at, sum, stiff, s.force);
+        let beyond = !is_below_limit(self.plan, n);
+        if beyond {
+            return None;
+        }
+        if !s.write {
+            return Some(0);
+        }
+        let rounded = round_by(n, self.plan.divisor, self.plan.half);
+        out[at - s.base] = rounded.whole;
+        Some(u64::from(rounded.remainder != 0))
     }
-    Some(inexact)
-}
 
-// Points of a bar: the sums of the neighbours before, here and after, each worked out once.
-fn bar_run(basis: Basis, s: Stretch, out: &mut [i64]) -> Option<u64>
-    requires ready { (nat_abs s.force ≤ ceiling) × Placed s (length out.old) }
-    requires on_line { OnLine basis.plan.instrument.grid s.from s.to × (kind basis.plan.instrument.grid ≡ Bar) }
-    ensures { Advanced basis.entry.plan s basis.entry.older.now basis.entry.newer.now out.old out.new s.from s.to result }
-{
-    let mut inexact = 0;
-    let mut left = sum_at(basis.newer, s.from - 1);
-    let mut here = sum_at(basis.newer, s.from);
-    for at in s.from..s.to {
-        let right = sum_at(basis.newer, at + 1);
-        let stiff = stiffness(basis.plan, left + right, here, basis.newer[at]);
-        inexact += next_point(basis, at, here, stiff, s, out)?;
-        left = here;
-        here = right;
+    // Moving points without stiffness: `sum` gives the sum of a point's neighbours.
+    fn soft_run<F: Fn(usize) -> i64 + Drop>(
+        self,
+        sum: F,
+        s: Stretch,
+        out: &mut [i64],
+    ) -> Option<u64>
+        requires ready { (nat_abs s.force ≤ ceiling) × Placed s (length out.old) }
+        requires sums { Sums self.plan.instrument self.newer.now (F.pre sum) (F.post sum) s.from s.to }
+        ensures { Advanced self.entry.plan s self.entry.older.now self.entry.newer.now out.old out.new s.from s.to result }
+    {
+        let mut inexact = 0;
+        for at in s.from..s.to {
+            inexact += self.next_point(at, sum(at), 0, s, out)?;
+        }
+        Some(inexact)
     }
-    Some(inexact)
-}
 
-// Inner points of a line. Of lines only a bar is stiff.
-fn inner_points(basis: Basis, s: Stretch, out: &mut [i64]) -> Option<u64>
-    requires ready { (nat_abs s.force ≤ ceiling) × Placed s (length out.old) }
-    requires on_line { OnLine basis.plan.instrument.grid s.from s.to }
-    ensures { Advanced basis.entry.plan s basis.entry.older.now basis.entry.newer.now out.old out.new s.from s.to result }
-{
-    if basis.plan.m == 0 {
-        let newer = basis.newer;
-        return soft_run(basis, |at| sum_beside(newer, at), s, out);
+    // Points of a bar: the sums of the neighbours before, here and after, each worked out once.
+    fn bar_run(self, s: Stretch, out: &mut [i64]) -> Option<u64>
+        requires ready { (nat_abs s.force ≤ ceiling) × Placed s (length out.old) }
+        requires on_line { OnLine self.plan.instrument.grid s.from s.to × (kind self.plan.instrument.grid ≡ Bar) }
+        ensures { Advanced self.entry.plan s self.entry.older.now self.entry.newer.now out.old out.new s.from s.to result }
+    {
+        let mut inexact = 0;
+        let mut left = sum_at(self.newer, s.from - 1);
+        let mut here = sum_at(self.newer, s.from);
+        for at in s.from..s.to {
+            let right = sum_at(self.newer, at + 1);
+            let stiff = stiffness(self.plan, left + right, here, self.newer[at]);
+            inexact += self.next_point(at, here, stiff, s, out)?;
+            left = here;
+            here = right;
+        }
+        Some(inexact)
     }
-    bar_run(basis, s, out)
-}
 
-// The part of a stretch that is one end of a line, if it has one: at a free end the one neighbour counts twice.
-fn free_end(basis: Basis, near: usize, s: Stretch, out: &mut [i64]) -> Option<u64>
-    requires ready { (nat_abs s.force ≤ ceiling) × Placed s (length out.old) }
-    requires free_end { FreeEnd basis.plan.instrument near s.from s.to }
-    ensures { Advanced basis.entry.plan s basis.entry.older.now basis.entry.newer.now out.old out.new s.from s.to result }
-{
-    if s.from == s.to {
-        return Some(0);
+    // Inner points of a line. Of lines only a bar is stiff.
+    fn inner_points(self, s: Stretch, out: &mut [i64]) -> Option<u64>
+        requires ready { (nat_abs s.force ≤ ceiling) × Placed s (length out.old) }
+        requires on_line { OnLine self.plan.instrument.grid s.from s.to }
+        ensures { Advanced self.entry.plan s self.entry.older.now self.entry.newer.now out.old out.new s.from s.to result }
+    {
+        if self.plan.m == 0 {
+            let newer = self.newer;
+            return self.soft_run(|at| sum_beside(newer, at), s, out);
+        }
+        self.bar_run(s, out)
     }
-    let x = basis.newer[near];
-    next_point(basis, s.from, x + x, 0, s, out)
-}
 
-// Moving points of a line: its first, if it is one of them, the inner ones, its last.
-fn line_points(basis: Basis, s: Stretch, out: &mut [i64]) -> Option<u64>
-    requires ready { (nat_abs s.force ≤ ceiling) × Placed s (length out.old) }
-    requires one_row { (basis.plan.instrument.grid.rows ≡ 1) × Moves basis.plan.instrument.grid s.from s.to × (s.from < s.to) }
-    ensures { Advanced basis.entry.plan s basis.entry.older.now basis.entry.newer.now out.old out.new s.from s.to result }
-{
-    let n = basis.newer.len();
-    let first = free_end(basis, 1, s.part(0, 1), out)?;
-    let inner = inner_points(basis, s.part(1, n - 1), out)?;
-    let last = free_end(basis, n - 2, s.part(n - 1, n), out)?;
-    Some(first + inner + last)
-}
-
-// Moving points of a row. Off a line there is no stiffness.
-pub(crate) fn points_run(basis: Basis, s: Stretch, out: &mut [i64]) -> Option<u64>
-    requires ready { (nat_abs s.force ≤ ceiling) × Placed s (length out.old) }
-    requires moves { Moves basis.plan.instrument.grid s.from s.to × (s.from < s.to) × SoftGrid basis.plan.instrument }
-    ensures { Advanced basis.entry.plan s basis.entry.older.now basis.entry.newer.now out.old out.new s.from s.to result }
-{
-    if basis.plan.instrument.grid.rows == 1 {
-        return line_points(basis, s, out);
+    // The part of a stretch that is one end of a line, if it has one: at a free end the one neighbour counts twice.
+    fn free_end(self, near: usize, s: Stretch, out: &mut [i64]) -> Option<u64>
+        requires ready { (nat_abs s.force ≤ ceiling) × Placed s (length out.old) }
+        requires free_end { FreeEnd self.plan.instrument near s.from s.to }
+        ensures { Advanced self.entry.plan s self.entry.older.now self.entry.newer.now out.old out.new s.from s.to result }
+    {
+        if s.from == s.to {
+            return Some(0);
+        }
+        let x = self.newer[near];
+        self.next_point(s.from, x + x, 0, s, out)
     }
-    let newer = basis.newer;
-    let columns = basis.plan.instrument.grid.columns;
-    soft_run(basis, |at| sum_around(newer, at, columns), s, out)
+
+    // Moving points of a line: its first, if it is one of them, the inner ones, its last.
+    fn line_points(self, s: Stretch, out: &mut [i64]) -> Option<u64>
+        requires ready { (nat_abs s.force ≤ ceiling) × Placed s (length out.old) }
+        requires one_row { (self.plan.instrument.grid.rows ≡ 1) × Moves self.plan.instrument.grid s.from s.to × (s.from < s.to) }
+        ensures { Advanced self.entry.plan s self.entry.older.now self.entry.newer.now out.old out.new s.from s.to result }
+    {
+        let n = self.newer.len();
+        let first = self.free_end(1, s.part(0, 1), out)?;
+        let inner = self.inner_points(s.part(1, n - 1), out)?;
+        let last = self.free_end(n - 2, s.part(n - 1, n), out)?;
+        Some(first + inner + last)
+    }
+
+    // Moving points of a row. Off a line there is no stiffness.
+    pub(crate) fn points_run(self, s: Stretch, out: &mut [i64]) -> Option<u64>
+        requires ready { (nat_abs s.force ≤ ceiling) × Placed s (length out.old) }
+        requires moves { Moves self.plan.instrument.grid s.from s.to × (s.from < s.to) × SoftGrid self.plan.instrument }
+        ensures { Advanced self.entry.plan s self.entry.older.now self.entry.newer.now out.old out.new s.from s.to result }
+    {
+        if self.plan.instrument.grid.rows == 1 {
+            return self.line_points(s, out);
+        }
+        let newer = self.newer;
+        let columns = self.plan.instrument.grid.columns;
+        self.soft_run(|at| sum_around(newer, at, columns), s, out)
+    }
 }

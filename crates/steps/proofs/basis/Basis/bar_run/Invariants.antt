@@ -1,0 +1,9 @@
+use Rattle.std.proofs.Common.{◌≡◌, ◌-◌}
+use Rattle.steps.specs.Run.{next_by, bar_sum}
+use Rattle.steps.proofs.FillLaws.{Running}
+use Rattle.steps.proofs.basis.Basis.bar_run.Given as goal
+
+abbrev pub invariant-loop-at : goal.invariant-loop-at
+invariant-loop-at l =
+    Running (next_by l.self.plan.instrument l.s.force l.self.older.now l.self.newer.now) l.s.write l.s.base l.fn.out l.s.from l.s.to l.out l.at l.inexact
+    × (l.left ≡ bar_sum l.self.newer.now (l.at - 1)) × (l.here ≡ bar_sum l.self.newer.now l.at)

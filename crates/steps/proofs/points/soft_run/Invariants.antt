@@ -1,7 +1,0 @@
-use Rattle.steps.specs.Run.{next_by}
-use Rattle.steps.proofs.FillLaws.{Running}
-use Rattle.steps.proofs.points.soft_run.Given as goal
-
-abbrev pub invariant-loop-at : goal.invariant-loop-at
-invariant-loop-at g l =
-    Running (next_by l.basis.plan.instrument l.s.force l.basis.older.now l.basis.newer.now) l.s.write l.s.base l.fn.out l.s.from l.s.to l.out l.at l.inexact
