@@ -54,6 +54,7 @@ fn room() -> [u8; 2097152]
 }
 
 // Reads until text is full or the file ends, and returns how many bytes it put at the start of text.
+// A read gives as many bytes as it likes, so no iterator counts them, and std's `read_to_end` fills a Vec, which needs a heap.
 fn read_full(file: &mut impl Read, text: &mut [u8]) -> io::Result<usize>
     ensures { IfOk result (λ n. n ≤ length text.new) }
 {
