@@ -1,4 +1,4 @@
-// Groups of tests that calls share, each in the order of its numbers.
+// Groups of tests that calls share, each in the order of its numbers. That the table has the size stays a clause: a Grid may have any.
 ghost use Rattle.std.specs.Prelude.{◌≡◌, true};
 ghost use Rattle.scheme.specs.Instruments.{in_table};
 ghost use Rattle.scheme.specs.Refusals.{lowest, hit_checks, pick_checks, width_checks};

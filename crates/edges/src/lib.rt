@@ -16,7 +16,8 @@ fn point_at(columns: usize, row: usize, column: usize) -> u16
     ((row * (columns % 65536) + column % 65536) % 65536) as u16
 }
 
-// For each row that has a place its first moving point, and 64 places on the point after its last.
+// For each row that has a place its first moving point, and 64 places on the point after its last: one array, whose places the definition
+// `edges_of` counts. Of 64 pairs it would be no shorter.
 // Ruled out: every row taken as the first; the first point put for the point after the last.
 pub fn row_edges(g: Grid, edges: &mut [u16; 128])
     ensures { edges.new ≡ edges_of g edges.old }

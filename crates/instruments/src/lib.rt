@@ -6,7 +6,7 @@ ghost use Rattle.scheme.specs.Refusals.{grid_checks, instrument_refusal, lowest,
 ghost use Rattle.instruments.specs.Refused.{not_long};
 
 use sizes::{has_size, is_stable, points_of};
-use types::{Grid, Instrument, Kind, Outcome, Refusal, Settings};
+use types::{Grid, Instrument, Outcome, Refusal, Settings};
 
 // 1 and 2, where the call admits kinds 1..last. Ruled out: kind 0 admitted; a wrong size answered as an unknown kind.
 pub fn grid_refusal(g: Grid, last: u64) -> Outcome
@@ -34,14 +34,14 @@ fn settings_refusal(i: Instrument) -> Outcome
 {
     if wrong_coefficient(i.settings) {
         Err(Refusal::Coefficient)
-    } else if !is_stable(Kind::from(i.grid.kind), i.settings.q, i.settings.m) {
+    } else if !is_stable(i.grid.kind, i.settings.q, i.settings.m) {
         Err(Refusal::Unstable)
     } else {
         Ok(())
     }
 }
 
-// 1, 2, 4 and 5. Ruled out: the last kind refused 1; q 65536 refused 4; 13 taken for nothing; nothing taken for a refusal.
+// 1, 2, 4 and 5. Ruled out: the last kind refused 1; q 65536 refused 4; nothing taken for a refusal.
 #[tactic(auto, using(crate::proofs::RefusalLaws::in_turn), unfolding(scheme::specs::Refusals::instrument_refusal))]
 pub fn instrument_refusal(i: Instrument) -> Outcome
     ensures { result ≡ instrument_refusal i }

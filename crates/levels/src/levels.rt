@@ -90,7 +90,8 @@ fn is_row_unfixed(g: Grid, row: &[i64], b: usize) -> bool
     }
 }
 
-// 12, row by row.
+// 12, row by row, each by its number: `chunks_exact` with `enumerate` is no shorter. That the table has the size stays a clause: a Grid may
+// have any.
 fn rows_not_zero(g: Grid, xs: &[i64]) -> bool
     requires { (in_table g ≡ true) × (length xs.now ≡ points g) }
     ensures { result ≡ fixed_not_zero g xs.now }

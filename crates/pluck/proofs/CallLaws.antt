@@ -1,6 +1,6 @@
 -- Laws of the call: what refuses it, and the level of one that nothing refuses.
 use mathlib.Core.Path.{◌≡◌, refl, sym, ap, ◌∙◌, subst}
-use mathlib.Core.Bool.{true, false, ◌||◌}
+use mathlib.Core.Bool.{true, false, ◌||◌, true≢false}
 use mathlib.Core.List.{List}
 use Prim.Native.Nat.{ℕ, ◌+◌, ◌-◌, ◌*◌, ◌≤◌, ◌<◌}
 use native.Mathlib.Nat.{mul-one, zero-mul, zero-add}
@@ -9,15 +9,19 @@ use borrow.Author.Tests.{ltb-true, ltb-false, leb-true, not-false}
 use lib.IntN.{ℤ, pos, nat_abs}
 use mir.Syntax.{w64}
 use mir.Val.{to_z, of_z}
-use Rattle.std.specs.Prelude.{Ok}
+use Rattle.std.specs.Prelude.{Some, None, Result, Ok, Err}
 use Rattle.bounded.proofs.Num.{given}
 use Rattle.types.specs.declared.Grid.{Grid}
+use Rattle.types.specs.declared.Refusal.{Refusal}
+use Rattle.types.specs.declared.Refusal.TheVariants.{BrokenTable}
 use Rattle.types.specs.Numbers.{ceiling, kind_of}
+use Rattle.pluck_table.specs.Loading.{loaded_table}
 use Rattle.scheme.specs.Lists.{tabulate}
 use Rattle.scheme.specs.Instruments.{points, moving}
 use Rattle.scheme.specs.Pluck.{pluck_at, pluck_level}
 use Rattle.scheme.specs.Refusals.{last_plucked, wrong_length, lowest, table_checks, pluck_checks, pluck_refusal, pluck_with_refusal}
 use Rattle.scheme.specs.Passing.{PluckPasses}
+use Rattle.scheme.specs.Calls.{accepted}
 use Rattle.scheme.proofs.Laws.Bools.{and_both}
 use Rattle.scheme.proofs.Laws.Kinds.{within_is}
 use Rattle.scheme.proofs.Laws.Lists.{length-tabulate, get_d_tabulate, is_tabulate}
@@ -37,6 +41,23 @@ pub by_parts : (g : Grid) (older newer c w : ℕ) (a : ℤ) (lent : List ℕ) �
 unfolding pluck_refusal pluck_with_refusal
 by_parts g older newer c w a lent =
     lowest-append (pluck_checks g (wrong_length g older || wrong_length g newer) c w a) (table_checks lent)
+
+module _ (g : Grid) (older newer c w : ℕ) (a : ℤ) (lent : List ℕ) where
+  pub refused-before : accepted (pluck_refusal g older newer c w a) ≡ false
+      → pluck_with_refusal g older newer c w a lent ≡ pluck_refusal g older newer c w a
+  refused-before e = by_parts g older newer c w a lent ∙ go (pluck_refusal g older newer c w a) e
+    where
+      go : (r : Result Unit Refusal) → accepted r ≡ false → first_of r (lowest (table_checks lent)) ≡ r
+      go (Ok tt) e = absurd (true≢false e)
+      go (Err r) e = refl
+
+  pub refused_by-table : pluck_refusal g older newer c w a ≡ Ok tt → loaded_table lent ≡ None
+      → pluck_with_refusal g older newer c w a lent ≡ Err BrokenTable
+  refused_by-table e f = by_parts g older newer c w a lent ∙ simp (e, f)
+
+  pub refused_by_none : (last : ℕ) → pluck_refusal g older newer c w a ≡ Ok tt → loaded_table lent ≡ Some last
+      → pluck_with_refusal g older newer c w a lent ≡ Ok tt
+  refused_by_none last e f = by_parts g older newer c w a lent ∙ simp (e, f)
 
 -- ---- a pluck that nothing refuses
 

@@ -2,7 +2,7 @@
 ghost use Rattle.std.specs.Prelude.{◌≡◌};
 ghost use Rattle.pluck_table.specs.Table.{ShapeRule};
 
-// A table that keeps the rule of a shape, and the place of its last entry.
+// A table that keeps the rule of a shape, and the place of its last entry, which loading answers.
 #[derive(Clone, Copy)]
 pub(crate) struct Table<'a> {
     pub entries: &'a [u32],

@@ -15,7 +15,7 @@ const SPACE: u8 = 32;
 
 const LINE_FEED: u8 = 10;
 
-// Nine values and the force, in the order of the line.
+// Nine values and the force, in the order of the line: no `From`, since the force comes beside the values.
 fn numbers_of(values: [u64; 9], force: i64) -> Numbers
     ensures { result ≡ ten values force }
 {

@@ -34,6 +34,7 @@ fn put_all(out: &mut [u8], samples: &[i16], count: u64, refusal: u64) -> usize
 
 // The lines of the first `count` samples and the last line, at the start of out, and how many bytes that is; nothing where out has no room
 // for every listing, where there are fewer samples or more than 8192 are asked for, and where the refusal has more than two digits.
+// The refusal is a number: every one is answered.
 // Ruled out: the lines numbered from 0; a negative sample one less in size.
 #[tactic(auto, unfolding(crate::specs::Text::listed_to))]
 pub fn put_listing(out: &mut [u8], samples: &[i16], count: u64, refusal: u64) -> usize

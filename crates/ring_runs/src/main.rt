@@ -37,7 +37,7 @@ fn run_argument(rt: &HostRuntime, path: &[u8]) -> io::Result<bool> {
     }
 }
 
-// One argument after another, the program's name aside, until a file does not open.
+// One argument after another, the program's name aside, until a file does not open. The program vectors goes on there instead.
 fn main(rt: HostRuntime) -> io::Result<()> {
     let mut path = [0u8; 4096];
     for i in 1..usize::MAX {

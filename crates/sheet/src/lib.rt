@@ -51,7 +51,7 @@ pub fn settings_for(grid: Grid, sheet: Sheet) -> Result<Settings, Refusal>
     }
     let coefficients = Coefficients::of_sheet(grid.columns, sheet);
     let settings = coefficients.settings().ok_or(Refusal::Coefficient)?;
-    if !is_stable(kind, settings.q, settings.m) {
+    if !is_stable(grid.kind, settings.q, settings.m) {
         return Err(Refusal::Unstable);
     }
     Ok(settings)

@@ -2,12 +2,13 @@
 #![tactic(auto)]
 
 ghost use Rattle.std.specs.Prelude.{◌≡◌};
+ghost use Rattle.types.specs.Numbers.{kind_of};
 ghost use Rattle.scheme.specs.Instruments.{grid_size, in_table, line_size, stable_in, within};
 ghost use Rattle.sizes.specs.Sizes.{points_of};
 
 use types::{Grid, Kind, Settings};
 
-// Whether a ≤ n ≤ b. Ruled out: a itself outside; b itself outside.
+// Whether a ≤ n ≤ b: in one place, by the definition `within`. Ruled out: a itself outside; b itself outside.
 pub fn is_within(a: usize, b: usize, n: usize) -> bool
     ensures { result ≡ within a b n }
 {
@@ -52,14 +53,14 @@ pub fn points_of(g: Grid) -> usize
 
 // 5: whether the kind is stable with q and m. Ruled out: kind 4 stable by q + 3m; 2q = D refused for kind 5; a plate stable by 2q + 15m.
 #[tactic(auto, using(crate::proofs::KindLaws::q_past, crate::proofs::KindLaws::m_past), unfolding(scheme::specs::Instruments::stable_in))]
-pub fn is_stable(kind: Kind, q: u64, m: u64) -> bool
-    ensures { result ≡ stable_in kind q m }
+pub fn is_stable(kind: u64, q: u64, m: u64) -> bool
+    ensures { result ≡ stable_in (kind_of kind) q m }
 {
     // past D no kind is stable, and up to D no sum wraps
     if Settings::D < q || Settings::D < m {
         return false;
     }
-    match kind {
+    match Kind::from(kind) {
         Kind::Unknown => false,
         Kind::StringFixed | Kind::StringFixedFree | Kind::StringFree => m == 0,
         Kind::Bar => q + 4 * m <= Settings::D,

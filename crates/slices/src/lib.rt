@@ -11,7 +11,8 @@ pub fn clear(xs: &mut [i64])
     xs.fill(0);
 }
 
-// Copies as many points as both slices have. Ruled out: point 0 left as it was; the length of xs not looked at.
+// Copies as many points as both slices have, where `copy_from_slice` asks for slices of one length.
+// Ruled out: point 0 left as it was; the length of xs not looked at.
 #[tactic(auto, using(crate::proofs::SliceLaws::front_copied))]
 pub fn copy(xs: &[i64], ys: &mut [i64])
     ensures { ys.new ≡ copied xs.now ys.old }
@@ -20,7 +21,8 @@ pub fn copy(xs: &[i64], ys: &mut [i64])
     ys[..n].copy_from_slice(&xs[..n]);
 }
 
-// Exchanges as many points as both slices have. Ruled out: one slice copied over the other; point 0 left as it was.
+// Exchanges as many points as both slices have, where `swap_with_slice` asks for slices of one length.
+// Ruled out: one slice copied over the other; point 0 left as it was.
 #[tactic(auto, using(crate::proofs::SliceLaws::front_copied))]
 pub fn exchange(xs: &mut [i64], ys: &mut [i64])
     ensures { (xs.new ≡ copied ys.old xs.old)

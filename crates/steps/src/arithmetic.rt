@@ -39,7 +39,7 @@ pub(crate) fn stiffness(plan: Plan, second: i64, sum: i64, u: i64) -> i64
 
 // The numerator at a point: from its last value u, the sum of its neighbours, its before-last value p, the force f, the stiffness m·B.
 // The terms stand in the order of the string in document 003 (van Walstijn's slides), y' = a10·y + a11·(y₊ + y₋) + a20·y_before + aF·F,
-// each times the divisor D + s; the stiffness follows the force.
+// each times the divisor D + s; the stiffness follows the force. Six numbers, each of a term.
 pub(crate) fn numerator(plan: Plan, u: i64, sum: i64, p: i64, f: i64, stiff: i64) -> i64
     requires { Planned plan × Updatable plan u sum p f stiff }
     ensures { result ≡ numerator_with plan.instrument.settings u (sum -ℤ pos (count_of plan.instrument.grid) *ℤ u) stiff p f }

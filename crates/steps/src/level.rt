@@ -1,5 +1,5 @@
 // The next values of a whole level: row by row, and in a row stretch by stretch. A pass puts them into out, or in place, into older itself;
-// one that does not write only tests them. The compiler knows both in each of its passes.
+// one that does not write only tests them. Both are constants of a pass.
 ghost use Rattle.std.specs.Prelude.{◌≡◌, true, false, pos, length};
 ghost use Rattle.scheme.specs.Refusals.{too_strong};
 ghost use Rattle.steps.specs.Plan.{Ready, SoftGrid};
@@ -24,7 +24,7 @@ impl Basis<'_> {
     {
         let mut inexact = 0;
         let mut at = row.from;
-        // by `while`: each stretch begins where the one before it ended, which no iterator of the library says
+        // by `while`: each stretch begins where the one before it ended
         while at < row.to {
             let s = row.stretch_at(hit, at);
             inexact += self.points_run(s, out)?;
@@ -34,7 +34,8 @@ impl Basis<'_> {
     }
 }
 
-// The moving points of a row, piece by piece: in place each piece is put into older once it is worked out.
+// The moving points of a row, piece by piece: in place each piece is put into older once it is worked out. Older is written between the
+// pieces, so that each has a Basis of its own.
 fn row_pass<const WRITE: bool, const IN_PLACE: bool>(
     plan: Plan,
     older: &mut [i64],

@@ -1,4 +1,4 @@
-// The sum of a point's neighbours.
+// The sum of a point's neighbours. Of a slice and not of a Basis: a plate's first sums are made before there is one.
 ghost use Rattle.std.specs.Prelude.{◌≡◌, ◌+◌, ◌≤◌, ◌<◌, length};
 ghost use Rattle.types.specs.Numbers.{ceiling};
 ghost use Rattle.scheme.specs.Lists.{point};

@@ -19,8 +19,8 @@ use stretches::{Stretch, is_hit_in};
 use types::Hit;
 
 // Where the sums of two rows stand: of column c of the row that begins at point `start` at place here + c; at other + c that of the row
-// above it until column c is done, then that of the row below it. `last` tells that the row below is the ring's. Both rows lie in one array
-// and are exchanged by their places, so that no sum is moved.
+// above it until column c is done, then that of the row below it. `last` tells that the row below is the ring's, whose sums count as 0.
+// Both rows lie in one array and are exchanged by their places, so that no sum is moved.
 #[derive(Clone, Copy)]
 pub(crate) struct SumRows {
     pub(crate) start: usize,
@@ -64,7 +64,8 @@ fn second_at(sums: &[i64], rows: SumRows, c: usize, below: i64) -> i64
 }
 
 impl Basis<'_> {
-    // A point of a row. Once it is done, the sum below it stands for the one above it.
+    // A point of a row. Once it is done, the sum below it stands for the one above it. Rows and sums stay two parameters: the places of a
+    // row are made for that row and only read, the sums are written on from row to row.
     fn plate_point(
         self,
         rows: SumRows,
@@ -88,7 +89,8 @@ impl Basis<'_> {
         self.next_point(at, sum, stiff, s, out)
     }
 
-    // Points of a row, one force on all of them.
+    // Points of a row, one force on all of them. Inlined, so that the factors of the step stay in registers.
+    #[inline(always)]
     fn plate_run(self, rows: SumRows, s: Stretch, sums: &mut [i64], out: &mut [i64]) -> Option<u64>
         requires ready { (nat_abs s.force ≤ ceiling) × Placed s (length out.old) }
         requires two_rows { TwoRows self.plan.instrument.grid self.newer.now sums.old rows s.from

@@ -19,7 +19,8 @@ pub(crate) struct Steps {
     pub(crate) turn: Turn,
 }
 
-// A step for each place of samples, until the next would put a point beyond the ceiling. The slices begin in turn `first`.
+// A step for each place of samples, until the next would put a point beyond the ceiling. The slices begin in turn `first`. Its parameters
+// stay apart, as those of a step and of a block do.
 pub(crate) fn play(
     layout: &Layout,
     older: &mut [i64],

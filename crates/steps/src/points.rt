@@ -24,7 +24,7 @@ impl Basis<'_> {
         numerator(self.plan, self.newer[at], sum, self.older[at], force, stiff)
     }
 
-    // One point: its next value.
+    // One point: its next value. The force and the place of a stretch stay clauses: the one is of any hit, the other ties it to `out`.
     pub(crate) fn next_point(
         self,
         at: usize,
@@ -38,6 +38,7 @@ impl Basis<'_> {
         ensures { Advanced self.entry.plan s self.entry.older.now self.entry.newer.now out.old out.new at (at + 1) result }
     {
         let n = self.numerator_at(at, sum, stiff, s.force);
+        // named, since the edit `beyond_let_pass` is of this test
         let beyond = !is_below_limit(self.plan, n);
         if beyond {
             return None;

@@ -53,7 +53,8 @@ fn step_in_place(
     next_level::<true, true>(layout, older, newer, room, hit)
 }
 
-// A step in the turn that the slices are in. They stay three parameters: a struct of them, lent on through `&mut self`, has no rule yet.
+// A step in the turn that the slices are in, by a match: each arm hands them over in an order of its own. They stay three parameters: lent
+// on as fields of a struct they are not covered by the borrow checker.
 pub(crate) fn step_in_turn(
     layout: &Layout,
     older: &mut [i64],

@@ -13,7 +13,7 @@ use stretches::{clamped, force_at};
 use types::Hit;
 
 impl Basis<'_> {
-    // One point: sum is that of its neighbours.
+    // One point: sum is that of its neighbours. That the hit is weak enough stays a clause: `force_at` takes any hit.
     fn is_point_within(self, at: usize, sum: i64, hit: Option<Hit>) -> bool
         requires { (too_strong hit ≡ false)
             × Neighbouring self.plan.instrument self.newer.now at sum (pos 0) }

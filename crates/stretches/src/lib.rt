@@ -8,7 +8,8 @@ ghost use Rattle.stretches.specs.Stretches.{clamp, part_of, with_write, end_of, 
 
 use types::Hit;
 
-// The points from..to, and the force on each. The next value of point k goes to place k − base, if it is written.
+// The points from..to, and the force on each. The next value of point k goes to place k − base, if it is written: a field, and no constant
+// of the type, as a part and a stretch of a row have the row's.
 #[derive(Clone, Copy)]
 pub struct Stretch {
     pub from: usize,
@@ -18,7 +19,8 @@ pub struct Stretch {
     pub write: bool,
 }
 
-// k, or the end of from..to that is nearer to it. Ruled out: the first end not looked at; the last end not looked at.
+// k, or the end of from..to that is nearer to it. Not by `clamp`, which asks that from is at most to.
+// Ruled out: the first end not looked at; the last end not looked at.
 #[tactic(auto, using(crate::proofs::StretchLaws::clamp_is))]
 pub fn clamped(from: usize, to: usize, k: usize) -> usize
     ensures { result ≡ clamp from to k }

@@ -1,9 +1,10 @@
 -- Which slice has which level after a step, and the turn after some steps.
 use mathlib.Core.Path.{◌≡◌, refl, ap, ◌∙◌}
-use mathlib.Core.Bool.{true, false}
+use mathlib.Core.Bool.{Bool, true, false}
 use mathlib.Core.List.{List}
 use Prim.Native.Nat.{ℕ, zero, suc, ◌%◌}
 use native.Mathlib.Omega.{arith}
+use lib.Dec.{eqb}
 use lib.IntN.{ℤ}
 use Rattle.turns.specs.declared.Turn.{Turn}
 use Rattle.turns.specs.declared.Turn.TheVariants.{First, Second, Last, There, Exchanged}
@@ -95,3 +96,19 @@ turn_two (suc n) = ap next_turn (turn_two n) ∙ go (n % 2) (suc n % 2) refl ref
     go zero k e f = let h : 1 ≡ k = omega (arith, e, f) in ap turn_of_two h
     go (suc zero) k e f = let h : 0 ≡ k = omega (arith, e, f) in ap turn_of_two h
     go (suc (suc j)) k e f = absurd (omega (arith, e))
+
+-- each of two levels stands in the other's slice
+abbrev pub exchanged : Turn → Bool
+exchanged First = false
+exchanged Second = false
+exchanged Last = false
+exchanged There = false
+exchanged Exchanged = true
+
+pub turn_exchanged : (n : ℕ) → exchanged (turn_after There n) ≡ eqb (n % 2) 1
+turn_exchanged n = ap exchanged (turn_two n) ∙ go (n % 2) refl
+  where
+    go : (m : ℕ) → m ≡ n % 2 → exchanged (turn_of_two m) ≡ eqb m 1
+    go zero e = refl
+    go (suc zero) e = refl
+    go (suc (suc j)) e = absurd (omega (arith, e))

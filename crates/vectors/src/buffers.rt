@@ -28,7 +28,7 @@ impl Element for u32 {
     }
 }
 
-// Room for a buffer, lent in its first elements.
+// Room for a buffer, lent in its first elements: its length beside it, since there is no heap for a Vec.
 #[derive(Drop)]
 pub(crate) struct Lent<'a, T> {
     room: &'a mut [T],

@@ -57,6 +57,7 @@ impl Block {
     }
 }
 
+// Of the two blocks each hands over its own buffers, which is all that differs.
 fn block_agrees(numbers: Numbers, buffers: &mut Buffers) -> bool {
     let call = Block::from(numbers);
     call.expects(block(

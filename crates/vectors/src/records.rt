@@ -97,7 +97,8 @@ fn longer(digits: u64, byte: u8) -> u64 {
     tens.wrapping_add(u64::from(byte % 16))
 }
 
-// The number of a field: a minus makes it negative where a digit follows, and any other byte is a digit.
+// The number of a field: a minus makes it negative where a digit follows, and any other byte is a digit. `parse` would refuse
+// some that are taken.
 pub(crate) fn number(field: &[u8]) -> u64 {
     let mut digits = 0;
     let mut is_negative = false;
