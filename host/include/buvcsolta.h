@@ -53,7 +53,7 @@ extern "C" {
 /* The most bytes of stack that each call takes below its caller's frame, in the library as built for x86-64 Linux: measured, not proved. */
 #define BUVCSOLTA_STACK_BLOCK 2560
 #define BUVCSOLTA_STACK_BLOCK_IN_PLACE 3584
-#define BUVCSOLTA_STACK_PLUCK 4608 /* with room for the built-in table, which is constant data of the library */
+#define BUVCSOLTA_STACK_PLUCK 4608 /* an upper bound: the built-in table is constant data of the library */
 #define BUVCSOLTA_STACK_PLUCK_WITH 512
 #define BUVCSOLTA_STACK_READING 512
 #define BUVCSOLTA_STACK_SHEET 512

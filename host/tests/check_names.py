@@ -38,6 +38,7 @@ BUILT = re.compile(r"^target/|(^|/)out/|\.(so|a|wav)(\.\d+)?$")
 GOAL = re.compile(r"(returns|loop)(-\w+)+")
 GOALS_OF = "docs/EDITS.md"
 PORT = "docs/PORT.md"
+DESIGN = "docs/DESIGN-PASS.md"
 WORD = re.compile(r"[A-Za-z_0-9][\w'′-]*")
 COMMENT = {".rt": r"//.*", ".antt": r"(?:^|(?<=\s))--(?=\s|$).*"}
 TEXTS = (".rt", ".antt", ".edit", ".py", ".c", ".h", ".sh", "")
@@ -95,7 +96,7 @@ def missing_in(span, folder):
 def faults_of(text, page):
     """(number, what does not exist) of each line of a page."""
     folder = page.rpartition("/")[0]
-    is_note = folder == "docs/landings" or page == PORT
+    is_note = folder == "docs/landings" or page in (PORT, DESIGN)
     for number, line in outside_code(text):
         if line is None:
             continue

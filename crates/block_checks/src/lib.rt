@@ -32,7 +32,8 @@ fn wrong_lengths(g: Grid, older: usize, newer: usize, wrong: bool) -> bool
     wrong_length(g, older) || newer != older || wrong
 }
 
-// A block's 1, 2, 4 to 9, 11 and 12: `wrong` is 6's test of what is lent beside the two levels.
+// A block's 1, 2, 4 to 9, 11 and 12: `wrong` is 6's test of what is lent beside the two levels, which the blocks differ in. Its parameters
+// are those of the definition `block_refusal`.
 // Ruled out: the length of newer not looked at; work of any length; 11 not asked of older; 12 not asked of older.
 #[tactic(auto, using(crate::proofs::BlockLaws::by_parts))]
 pub fn block_refusal(

@@ -6,7 +6,8 @@ use crate::groups::{hit_refusal, pick_refusal, width_refusal};
 use instruments::{grid_refusal, instrument_refusal, wrong_length};
 use types::{Grid, Hit, Instrument, Outcome, Refusal};
 
-// A block's 1, 2 and 4 to 9, by a test of all the lengths that are lent. Ruled out: the hit not looked at; the pick-up not looked at.
+// A block's 1, 2 and 4 to 9, by a test of all the lengths that are lent: a call that lends other slices gives another test.
+// Ruled out: the hit not looked at; the pick-up not looked at.
 #[tactic(auto, unfolding(scheme::specs::Refusals::instrument_refusal))]
 pub fn input_refusal(i: Instrument, wrong: bool, pick: usize, h: Option<Hit>) -> Outcome
     ensures { result ≡ lowest (input_checks i wrong pick h) }

@@ -8,7 +8,7 @@ use instruments::wrong_coefficient;
 use types::{Grid, Instrument, Settings};
 
 // D of the papers, signed.
-const D: i64 = Settings::D as i64;
+pub const D: i64 = Settings::D as i64;
 
 // An instrument, and the factors of a step. With c neighbours, two on a line and four on a grid, a numerator has own = 2D − cq times the
 // newer value, near = q times the sum of the neighbours, kept = D − s times the older value and m times L of L: m times the sum of the

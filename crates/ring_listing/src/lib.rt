@@ -9,7 +9,7 @@ ghost use Rattle.ring_listing.specs.Text.{listing, is_listed, listed_to, over};
 use crate::written::Text;
 
 // Room for every listing: 8192 lines of at most 12 bytes, and a last line.
-const ROOM: usize = 98320;
+pub const ROOM: usize = 98320;
 
 const MOST: u64 = 8192;
 

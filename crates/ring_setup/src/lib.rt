@@ -17,6 +17,7 @@ pub struct Setup {
     pub length: usize,
 }
 
+// Of the numbers of a line; C's numbers are put together in crate packing, on which `ring` does not stand.
 fn asked_instrument(n: Numbers) -> Instrument
     ensures { result ≡ asked_instrument n }
 {

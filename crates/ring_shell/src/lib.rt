@@ -13,14 +13,11 @@ ghost use Rattle.ring_shell.specs.Written.{Written};
 
 use crate::read::read_line;
 use ring_line::{Numbers, request};
-use ring_listing::put_listing;
+use ring_listing::{ROOM, put_listing};
 use ring_playing::play_numbers;
 use std::io;
 use std::io::{Read, Write};
 use types::number_of;
-
-// Room for every answer: 8192 lines of at most 12 bytes, and a last line.
-const ROOM: usize = 98320;
 
 // As many samples as a line may ask for, none of them played.
 const SILENCE: [i16; 8192] = [0i16; 8192];

@@ -4,7 +4,7 @@
 ghost use Rattle.std.specs.Prelude.{◌≡◌, pos, length, replicate};
 ghost use Rattle.slices.specs.Slices.{copied};
 
-// Puts 0 everywhere. Ruled out: 1 put in place of 0; point 0 left as it was.
+// Puts 0 everywhere, as the block promises of its work. Ruled out: 1 put in place of 0; point 0 left as it was.
 pub fn clear(xs: &mut [i64])
     ensures { xs.new ≡ replicate (length xs.old) (pos 0) }
 {

@@ -6,12 +6,8 @@ ghost use Rattle.scheme.specs.Instruments.{beyond};
 ghost use Rattle.scheme.specs.Step.{round_away, sample_of, divisor};
 ghost use Rattle.steps.specs.Plan.{bending_of, numerator_with, Planned, Bendable, Updatable};
 
-use plans::Plan;
+use plans::{D, Plan};
 use rounding::{raised, read_out};
-use types::Settings;
-
-// D of the papers, signed.
-const D: i64 = Settings::D as i64;
 
 // Whether a numerator is rounded to a value within the ceiling: no division is needed for it.
 pub(crate) fn is_below_limit(plan: Plan, n: i64) -> bool

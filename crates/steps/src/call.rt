@@ -46,7 +46,8 @@ fn begin(
     play(&layout, older, newer, work, samples, pick, hit, first)
 }
 
-// The steps of a block from turn `first`, or what refuses them: `wrong` tells that the third slice has a wrong length.
+// The steps of a block from turn `first`, or what refuses them: `wrong` tells that the third slice has a wrong length, which is asked of
+// three levels alone.
 fn steps_from(
     i: Instrument,
     older: &mut [i64],
@@ -78,6 +79,7 @@ fn steps_from(
 }
 
 // As many steps as samples has places, the hit in the first, each level left in the slice that the turn tells; or what refuses them.
+// Its parameters are those of a block.
 // Ruled out: every sample put in the first place; a level put in place though its last point passes the ceiling.
 pub fn steps_in_turn(
     i: Instrument,

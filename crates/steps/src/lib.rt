@@ -1,4 +1,5 @@
 // The steps of a block, on three levels or on two, in slices that take turns.
+// What ties one value to another stays a clause: a row to its grid, a stretch to the slice that it is put into, a pass to its room.
 #![tactic(auto)]
 
 mod arithmetic;

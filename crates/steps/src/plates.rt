@@ -158,7 +158,7 @@ impl Basis<'_> {
     }
 }
 
-// The moving points of the row that begins at point `start`: all but its ends.
+// The moving points of the row that begins at point `start`: all but its ends. Not by `piece_at`, which cuts a line: a row is one piece.
 fn moving_in<const WRITE: bool, const IN_PLACE: bool>(start: usize, columns: usize) -> Stretch
     requires { (3 ≤ columns) × (start + columns ≤ 4096) }
     ensures { result ≡ moving_in start columns WRITE IN_PLACE }

@@ -1,4 +1,5 @@
-// Whether the next values of points without stiffness lie within the ceiling: nothing is divided, and nothing written.
+// Whether the next values of points without stiffness lie within the ceiling: nothing is divided, and nothing written. So its loops carry
+// no count and no slice to write, which those of points.rt have.
 ghost use Rattle.std.specs.Prelude.{◌≡◌, false, not, ◌≤◌, ◌<◌, pos};
 ghost use Rattle.scheme.specs.Instruments.{beyond};
 ghost use Rattle.scheme.specs.Step.{next_at};

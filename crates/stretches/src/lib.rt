@@ -60,7 +60,7 @@ pub fn is_hit_in(hit: Option<Hit>, from: usize, to: usize) -> bool
     let Some(hit) = hit else {
         return false;
     };
-    from <= hit.point && hit.point < to
+    from <= hit.point && hit.point < to // no shorter by a range
 }
 
 impl Stretch {
