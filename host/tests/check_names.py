@@ -35,7 +35,7 @@ EXCEPTIONS = {
 FILE = re.compile(r"\.(antt|rt|py|c|h|md|txt|edit|sh)$")
 BUILT = re.compile(r"^target/|(^|/)out/|\.(so|a|wav)(\.\d+)?$")
 # Goals have names of the prover's, which stand in no file where it finds the proof itself; docs/EDITS.md has them from its log.
-GOAL = re.compile(r"(returns|loop)(-\w+)+")
+GOAL = re.compile(r"(returns|loop|(offset_|slice_)?bounds)(-\w+)+")
 GOALS_OF = "docs/EDITS.md"
 PORT = "docs/PORT.md"
 DESIGN = "docs/DESIGN-PASS.md"

@@ -1,7 +1,7 @@
 // The whole number nearest to D times a float, read from the float's bits.
 #![tactic(auto)]
 
-ghost use Rattle.std.specs.Prelude.{◌≡◌, ◌≤◌, ◌<◌, ◌/◌, ◌^◌};
+ghost use Rattle.std.specs.Prelude.{◌≡◌, ◌≤◌, ◌<◌, ◌/◌, ◌%◌, ◌^◌};
 ghost use Rattle.std.specs.Float.{binary64};
 ghost use Rattle.std.specs.Float.Ieee.{of_bits};
 ghost use Rattle.scheme.specs.Step.{nearest};
@@ -27,6 +27,13 @@ fn shifted(n: u64, k: u64) -> u64
     ((n >> (k - 1)) + 1) / 2
 }
 
+// The digits of the mantissa after its leading one: the low 52 of the bits, split off by shifts.
+fn digits_of(bits: u64) -> u64
+    ensures { result ≡ bits % 2 ^ 52 }
+{
+    bits - ((bits >> 52) << 52)
+}
+
 // `nearest_whole` of the bit pattern of a negative number, of one that is 2 or more, or of an infinity. A negative one rounds to 0 from
 // −1/2 on.
 #[tactic(auto, using(crate::proofs::Fields::field_large, crate::proofs::Fields::minus_near, crate::proofs::Fields::minus_far))]
@@ -49,7 +56,7 @@ fn whole_of_bits(bits: u64) -> Option<u64>
     match bits >> 52 {
         0..1006 => Some(0),
         exponent @ 1006..1024 => {
-            let n = shifted(LEADING + bits % LEADING, 1059 - exponent);
+            let n = shifted(LEADING + digits_of(bits), 1059 - exponent);
             if n <= Settings::D { Some(n) } else { None }
         }
         _ => whole_beyond(bits),
