@@ -41,7 +41,7 @@ fn settings_refusal(i: Instrument) -> Outcome
     }
 }
 
-// 1, 2, 4 and 5. Ruled out: the last kind refused 1; q 65536 refused 4; nothing taken for a refusal.
+// 1, 2, 4 and 5. Ruled out: the last kind refused 1; q 65536 refused 4; a grid that passes taken for an answer.
 #[tactic(auto, using(crate::proofs::RefusalLaws::in_turn), unfolding(scheme::specs::Refusals::instrument_refusal))]
 pub fn instrument_refusal(i: Instrument) -> Outcome
     ensures { result ≡ instrument_refusal i }

@@ -10,7 +10,7 @@ use std::str;
 // 2⁶³ − 1, the largest number of signed 64 bits.
 const MOST: u64 = i64::MAX as u64;
 
-// A field as text. None where a plus leads, which `parse` would take.
+// A field as text. None where it is none, or where a plus leads, which `parse` would take.
 fn text_of(field: &[u8]) -> Option<&str>
     ensures { MatchOption result (NoNumber field.now) (λ text. Plain field.now text.now) }
 {

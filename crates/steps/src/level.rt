@@ -1,5 +1,5 @@
 // The next values of a whole level: row by row, and in a row stretch by stretch. A pass puts them into out, or in place, into older itself;
-// one that does not write only tests them. Both are constants of a pass.
+// one that does not write only tests them. `WRITE` and `IN_PLACE` are const parameters: each pass is compiled by itself.
 ghost use Rattle.std.specs.Prelude.{◌≡◌, true, false, pos, length};
 ghost use Rattle.scheme.specs.Refusals.{too_strong};
 ghost use Rattle.steps.specs.Plan.{Ready, SoftGrid};

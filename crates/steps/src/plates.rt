@@ -5,7 +5,7 @@ ghost use Rattle.scheme.specs.Lists.{point};
 ghost use Rattle.types.specs.declared.Kind.TheVariants.{Plate};
 ghost use Rattle.scheme.specs.Instruments.{kind};
 ghost use Rattle.scheme.specs.Refusals.{too_strong};
-ghost use Rattle.steps.specs.Plan.{AtMost, Ready};
+ghost use Rattle.steps.specs.Plan.{AtMost};
 ghost use Rattle.steps.specs.Run.{all_within, Filled, Advanced, Stepping, Placed, four_beside};
 ghost use Rattle.steps.specs.Pass.{Passable, Passed};
 ghost use Rattle.steps.specs.Plates.{TwoRows, InRow, Readable, second_at, moving_in};

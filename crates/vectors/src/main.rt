@@ -75,7 +75,7 @@ fn run_file(rt: &impl Print, path: &str, file: &mut impl Read) -> io::Result<()>
     run(rt, path, &text[..n])
 }
 
-// A name of a file need not be text.
+// The name goes out as bytes, text or not.
 fn refuse(rt: &impl Print, path: &[u8]) -> io::Result<()> {
     io::writer(rt).write_all(path)?;
     println!(rt; ": cannot be opened")
