@@ -23,7 +23,7 @@ MARKER = "<!-- host/test proves this snippet -->\n"
 CRATE = "snippets"
 USES = "types sheet engine"
 # In the first snippet: text, and text in its place by which a call has an argument too few.
-WRONG = (", hit)", ")")
+WRONG = (", Some(hit))", ")")
 
 
 def snippets_in(text):
