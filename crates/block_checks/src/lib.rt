@@ -25,7 +25,8 @@ fn state_refusal(g: Grid, older: &[i64], newer: &[i64]) -> Outcome
     Ok(())
 }
 
-// 6 of two levels by their lengths, and of what else is lent. One length is compared with the grid, the other with that one.
+// 6 of two levels by their lengths, and of what else is lent, as `block_refusal` is told of it.
+// One length is compared with the grid, the other with that one.
 fn wrong_lengths(g: Grid, older: usize, newer: usize, wrong: bool) -> bool
     ensures { result ≡ (not_long g older || not_long g newer || wrong) }
 {

@@ -57,7 +57,7 @@ fn inner_run(g: Grid, row: usize) -> Run
     }
 }
 
-// A row of a grid that is not round, whatever its size: by a match over the kind's number.
+// A row of a grid that is not round, whatever its size: by a match over the kind's number, as the paper names it.
 // Ruled out: the last column of kind 2 taken as fixed; the outer ring of kind 5 forgotten in its last row.
 #[tactic(auto, unfolding(crate::specs::Runs::straight_run, crate::specs::Runs::run_in, types::specs::Numbers::kind_of))]
 pub fn straight_run(g: Grid, row: usize) -> Run

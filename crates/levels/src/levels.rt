@@ -10,7 +10,7 @@ use kinds::{Run, is_round_fixed, straight_run};
 use sizes::{has_size, points_of};
 use types::{Grid, Kind, Settings};
 
-// Ruled out: the ceiling itself taken as beyond; below zero, all but the points beyond.
+// By two tests, no longer than a range. Ruled out: the ceiling itself taken as beyond; below zero, all but the points beyond.
 pub fn is_beyond(v: i64) -> bool
     ensures { result ≡ beyond v }
 {

@@ -57,7 +57,7 @@ fn whole_of_bits(bits: u64) -> Option<u64>
         0..1006 => Some(0),
         exponent @ 1006..1024 => {
             let n = shifted(LEADING + digits_of(bits), 1059 - exponent);
-            if n <= Settings::D { Some(n) } else { None }
+            (n <= Settings::D).then_some(n)
         }
         _ => whole_beyond(bits),
     }

@@ -29,7 +29,7 @@ pub(crate) fn carry_out(p: Pluck, table: Table<'_>, older: &mut [i64], newer: &m
     newer.copy_from_slice(older);
 }
 
-// Both levels overwritten with the shape of the pluck; or what refuses it, and both as they were.
+// Both levels overwritten with the shape of the pluck; or what refuses it, and both as they were. Its parameters are C's, as a block's are.
 // Ruled out: newer left as it was; the index of the table taken with 1023 for 1024; a refused pluck answered as carried out.
 #[tactic(auto, unfolding(scheme::specs::Calls::pluck, scheme::specs::Calls::pluck_by))]
 pub fn pluck(

@@ -25,6 +25,7 @@ pub fn read_unsigned(digits: &[u8]) -> Option<u64>
     ensures { result ≡ unsigned_read (2 ^ 63 - 1) digits.now }
 {
     let n: u64 = text_of(digits)?.parse().ok()?;
+    // by `if`: of `then_some` the check finds no proof
     if n <= MOST { Some(n) } else { None }
 }
 

@@ -84,7 +84,7 @@ impl<'a> Text<'a> {
         }
     }
 
-    // The last line.
+    // The last line. The refusal is a number, as `put_listing` takes it.
     pub(crate) fn put_done(&mut self, count: u64, refusal: u64)
         requires { (refusal < 100) × Room self.old (done_line count refusal) }
         ensures { Put self.old (done_line count refusal) self.new }

@@ -38,7 +38,7 @@ pub fn play_numbers(n: Numbers, samples: &mut [i16]) -> BlockAnswer
 {
     match set_up(n) {
         Ok(asked) => play_at_rest(asked, samples, n.pick),
-        // as a refused block answers
+        // as a refused block answers, whose own function takes what its steps tell
         Err(refusal) => BlockAnswer {
             steps: 0,
             inexact: 0,

@@ -17,7 +17,7 @@ fn has_line_feed(bytes: &[u8]) -> bool
     bytes.contains(&LINE_FEED)
 }
 
-// One read into the bytes from `at` on: how many came, 0 at the end.
+// One read into the bytes from `at` on: how many came, 0 at the end. The contract speaks of the bytes before `at` too.
 fn read_some<R: Read>(input: &mut R, bytes: &mut [u8], at: usize) -> io::Result<usize>
     requires { at ≤ length bytes.old }
     ensures in_bounds { IfOk result (λ came. at + came ≤ length bytes.new) }

@@ -22,7 +22,8 @@ fn round_run(c: usize, b: usize) -> Run
     Run::NONE
 }
 
-// A row of a grid of any kind, by a match over the kind's number. Of a grid of the table it is the row's run; the size is not tested again.
+// A row of a grid of any kind, by a match over the kind's number, as the paper names it. Of a grid of the table it is the row's run;
+// the size is not tested again.
 // Ruled out: kind 5 taken as the round one; the rows taken for the columns.
 #[tactic(auto, unfolding(types::specs::Numbers::kind_of))]
 pub fn row_run(g: Grid, row: usize) -> Run

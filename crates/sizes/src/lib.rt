@@ -51,7 +51,8 @@ pub fn points_of(g: Grid) -> usize
     if has_size(g) { g.columns * g.rows } else { 0 }
 }
 
-// 5: whether the kind is stable with q and m. Ruled out: kind 4 stable by q + 3m; 2q = D refused for kind 5; a plate stable by 2q + 15m.
+// 5: whether the kind is stable with q and m. The kind is a number, as in Grid: an unknown one is not.
+// Ruled out: kind 4 stable by q + 3m; 2q = D refused for kind 5; a plate stable by 2q + 15m.
 #[tactic(auto, using(crate::proofs::KindLaws::q_past, crate::proofs::KindLaws::m_past), unfolding(scheme::specs::Instruments::stable_in))]
 pub fn is_stable(kind: u64, q: u64, m: u64) -> bool
     ensures { result ≡ stable_in (kind_of kind) q m }

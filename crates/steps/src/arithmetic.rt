@@ -1,4 +1,4 @@
-// The arithmetic of one point, in i64.
+// The arithmetic of one point, in i64. `Planned` stays a clause: `make_plan` gives a Plan of zeros where 4 applies.
 ghost use Rattle.std.specs.Prelude.{◌≡◌, not, ◌≤◌, pos, nat_abs, ◌-ℤ◌, ◌*ℤ◌};
 ghost use Rattle.types.specs.Numbers.{ceiling};
 ghost use Rattle.plans.specs.Plans.{count_of};

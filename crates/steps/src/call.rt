@@ -47,7 +47,7 @@ fn begin(
 }
 
 // The steps of a block from turn `first`, or what refuses them: `wrong` tells that the third slice has a wrong length, which is asked of
-// three levels alone.
+// three levels alone. The others are those of `begin`.
 fn steps_from(
     i: Instrument,
     older: &mut [i64],

@@ -1,5 +1,6 @@
 // The next values of a whole level: row by row, and in a row stretch by stretch. A pass puts them into out, or in place, into older itself;
 // one that does not write only tests them. `WRITE` and `IN_PLACE` are const parameters: each pass is compiled by itself.
+// `SoftGrid` stays a clause: a stiff plate has the other case.
 ghost use Rattle.std.specs.Prelude.{◌≡◌, true, false, pos, length};
 ghost use Rattle.scheme.specs.Refusals.{too_strong};
 ghost use Rattle.steps.specs.Plan.{Ready, SoftGrid};

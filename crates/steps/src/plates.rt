@@ -19,7 +19,8 @@ use stretches::{Stretch, is_hit_in};
 use types::Hit;
 
 // Where the sums of two rows stand: of column c of the row that begins at point `start` at place here + c; at other + c that of the row
-// above it until column c is done, then that of the row below it. `last` tells that the row below is the ring's, whose sums count as 0.
+// above it until column c is done, then that of the row below it. `last` tells that the row below is the ring's, whose sums count as 0:
+// a flag, since that row has its place either way.
 // Both rows lie in one array and are exchanged by their places, so that no sum is moved.
 #[derive(Clone, Copy)]
 pub(crate) struct SumRows {
@@ -89,7 +90,8 @@ impl Basis<'_> {
         self.next_point(at, sum, stiff, s, out)
     }
 
-    // Points of a row, one force on all of them. Inlined, so that the factors of the step stay in registers.
+    // Points of a row, one force on all of them: no `soft_run`, since the sums are written on as it goes. Inlined, so that the factors of
+    // the step stay in registers.
     #[inline(always)]
     fn plate_run(self, rows: SumRows, s: Stretch, sums: &mut [i64], out: &mut [i64]) -> Option<u64>
         requires ready { (nat_abs s.force ≤ ceiling) × Placed s (length out.old) }

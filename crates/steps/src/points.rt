@@ -69,7 +69,7 @@ impl Basis<'_> {
         Some(inexact)
     }
 
-    // Points of a bar: the sums of the neighbours before, here and after, each worked out once.
+    // Points of a bar: the sums of the neighbours before, here and after, each worked out once and handed on, which `soft_run` does not.
     fn bar_run(self, s: Stretch, out: &mut [i64]) -> Option<u64>
         requires ready { (nat_abs s.force ≤ ceiling) × Placed s (length out.old) }
         requires on_line { OnLine self.plan.instrument.grid s.from s.to × (kind self.plan.instrument.grid ≡ Bar) }

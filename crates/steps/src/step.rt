@@ -76,7 +76,7 @@ pub(crate) fn step_in_turn(
     }
 }
 
-// The sample of the level that a step has put into its slice.
+// The sample of the level that a step has put into its slice, by a match: each turn has put it into another.
 pub(crate) fn sample_in_turn(
     older: &[i64],
     newer: &[i64],

@@ -77,6 +77,7 @@ pub(crate) struct Buffers<'a> {
     pub(crate) table: Lent<'a, u32>,
 }
 
+// Each of its methods has an arm for each buffer: they are of three types.
 impl Buffers<'_> {
     pub(crate) fn lend(&mut self, buffer: Buffer, record: &Record) -> bool {
         match buffer {

@@ -116,6 +116,7 @@ impl From<Numbers> for Pluck {
     }
 }
 
+// Of the two plucks one hands over the table besides, which is all that differs.
 fn pluck_agrees(numbers: Numbers, buffers: &mut Buffers) -> bool {
     let call = Pluck::from(numbers);
     let outcome = pluck(

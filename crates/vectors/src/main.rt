@@ -96,7 +96,8 @@ fn run_argument(rt: &(impl Files + Print), path: &[u8]) -> io::Result<()> {
     }
 }
 
-// One argument after another, the program's name aside. Of one that is longer than any path the bytes that fit are named.
+// One argument after another, the program's name aside. The program ring_runs ends at a file that does not open.
+// Of an argument that is longer than any path the bytes that fit are named.
 fn main(rt: HostRuntime) -> io::Result<()> {
     let mut path = [0u8; 4096];
     for i in 1..usize::MAX {
