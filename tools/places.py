@@ -92,7 +92,8 @@ def main():
                 if re.match(r'(kind|opcode|buffer|target|turn|first|refusal|hit|by_tension|by_seconds): (u64|usize|bool)$', p):
                     found['1'].append(f'{name}: {fn}({p})')
             if re.search(r'match (?:\w+\.)?(opcode|buffer|target|turn|kind|digits|bits|count) \{\s*(\d|Grid::[A-Z])', body):
-                found['1' if re.search(r'match (?:\w+\.)?(opcode|buffer|target|turn|kind)\b', body) else '4'].append(f'{name}: {fn}: match on a number')
+                point = '1' if re.search(r'match (?:\w+\.)?(opcode|buffer|target|turn|kind)\b', body) else '4'
+                found[point].append(f'{name}: {fn}: match on a number')
             for line in re.findall(r'^ *while .*', body, re.M):
                 found['3'].append(f'{name}: {fn}: {line.strip()}')
             if len(body) < 420 and len(params) <= 3 and 'while' not in body and 'for ' not in body and re.search(
