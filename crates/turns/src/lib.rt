@@ -1,11 +1,14 @@
 // The turns that the slices of a block take: which holds the older level, which the newer one, and which the next level is put into.
 #![tactic(auto)]
 
+mod numbers;
+
 ghost use Rattle.std.specs.Prelude.{◌≡◌, cond, ltb};
 ghost use Rattle.types.specs.declared.Refusal.TheVariants.{NextBeyond};
 ghost use Rattle.scheme.specs.Calls.{hit_after};
 ghost use Rattle.turns.specs.Turns.{next_turn};
 
+pub use numbers::next_turn;
 use types::{Hit, Outcome, Refusal};
 
 // What the slices older, newer and work hold.
