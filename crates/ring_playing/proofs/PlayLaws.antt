@@ -21,7 +21,7 @@ use Rattle.scheme.proofs.Laws.Refusals.{accepted_is}
 use Rattle.scheme.proofs.Laws.Calls.{block-done, block_refused_lem, stands_behind}
 use Rattle.ring_line.specs.declared.asked.Numbers.{Numbers}
 use Rattle.ring_setup.specs.declared.Setup.{Setup}
-use Rattle.ring_setup.specs.Numbers.{grid_of, asked_instrument, asked_hit, is_too_large, level_length, asked_setup, setup_of}
+use Rattle.ring_setup.specs.Numbers.{grid_of, asked_instrument, asked_hit, is_too_large, level_length, setup_of}
 use Rattle.ring_playing.specs.Play.{heard, heard_of, block_at_rest, from_rest, played}
 use Rattle.std.specs.Prelude.{Option, Result, Ok, Err}
 
@@ -58,40 +58,48 @@ length-low n = go (ltb 1024 (points (grid_of n))) refl
 err_is : {A : Type 0} {r s : Refusal} → ◌≡◌ {A = Result A Refusal} (Err r) (Err s) → r ≡ s
 err_is e = cc
 
-ok_is : {E : Type 0} {r s : Setup} → ◌≡◌ {A = Result Setup E} (Ok r) (Ok s) → r ≡ s
+ok_is : {E : Type 0} {k l : ℕ} → ◌≡◌ {A = Result ℕ E} (Ok k) (Ok l) → k ≡ l
 ok_is e = cc
 
 -- the block that the code plays
-abbrev code : Setup → List ℤ → (pick : ℕ) → AfterBlock
-code s samples pick = block_at_rest s.instrument s.length samples pick s.hit
+abbrev code : Setup → (length : ℕ) → List ℤ → (pick : ℕ) → AfterBlock
+code s length samples pick = block_at_rest s.instrument length samples pick s.hit
 
 module _ (n : Numbers) (samples : List ℤ) where
-  same_heard : is_too_large (grid_of n) ≡ false → heard_of (code (asked_setup n) samples n.pick) ≡ heard_of (from_rest n samples)
+  abbrev played_so : ℕ → Type 0
+  played_so length = heard_of (code (setup_of n) length samples n.pick) ≡ heard_of (from_rest n samples)
+
+  same_heard : is_too_large (grid_of n) ≡ false → played_so (level_length (grid_of n))
   same_heard e = go (within 1 last_kind n.kind) refl
     where
-      go : (b : Bool) → within 1 last_kind n.kind ≡ b → heard_of (code (asked_setup n) samples n.pick) ≡ heard_of (from_rest n samples)
+      go : (b : Bool) → within 1 last_kind n.kind ≡ b → played_so (level_length (grid_of n))
       go true k = simp (sym (and_yes k) ∙ e)
       go false k =
           ap heard_of (unknown_refused (asked_instrument n) k _ _ _ samples _ _)
           ∙ sym (ap heard_of (unknown_refused (asked_instrument n) k _ _ _ samples _ _))
 
-  pub refused : (r : Refusal) → Err r ≡ setup_of n → heard (record { steps = 0; inexact = 0; outcome = Err r }) samples ≡ played n samples
+  pub refused : (s : Setup) (r : Refusal) → s ≡ setup_of n → s.length ≡ Err r →
+      heard (record { steps = 0; inexact = 0; outcome = Err r }) samples ≡ played n samples
   unfolding played
-  refused r = go (is_too_large (grid_of n)) refl
+  refused s r is e = go (is_too_large (grid_of n)) refl (sym e ∙ ap (λ (s : Setup). s.length) is)
     where
-      go : (t : Bool) → is_too_large (grid_of n) ≡ t → Err r ≡ cond t (Err WrongSize) (Ok (asked_setup n)) →
+      go : (t : Bool) → is_too_large (grid_of n) ≡ t → Err r ≡ cond t (Err WrongSize) (Ok (level_length (grid_of n))) →
           heard (record { steps = 0; inexact = 0; outcome = Err r }) samples ≡ played n samples
       go true k e = simp (k, err_is e)
       go false k e = absurd (cc)
 
-  pub plays : (s : Setup) → Ok s ≡ setup_of n → heard_of (code s samples n.pick) ≡ played n samples
+  pub plays : (s : Setup) (length : ℕ) → s ≡ setup_of n → s.length ≡ Ok length →
+      heard_of (code s length samples n.pick) ≡ played n samples
   unfolding played
-  plays s = go (is_too_large (grid_of n)) refl
+  plays s length is e =
+      ap (λ (s : Setup). heard_of (code s length samples n.pick)) is
+      ∙ go (is_too_large (grid_of n)) refl (sym e ∙ ap (λ (s : Setup). s.length) is)
     where
-      go : (t : Bool) → is_too_large (grid_of n) ≡ t → Ok s ≡ cond t (Err WrongSize) (Ok (asked_setup n)) →
-          heard_of (code s samples n.pick) ≡ played n samples
+      go : (t : Bool) → is_too_large (grid_of n) ≡ t → Ok length ≡ cond t (Err WrongSize) (Ok (level_length (grid_of n))) →
+          heard_of (code (setup_of n) length samples n.pick) ≡ played n samples
       go true k e = absurd (cc)
-      go false k e = ap (λ (s : Setup). heard_of (code s samples n.pick)) (ok_is e) ∙ same_heard k ∙ simp k
+      go false k e =
+          ap (λ (length : ℕ). heard_of (code (setup_of n) length samples n.pick)) (ok_is e) ∙ same_heard k ∙ simp k
 
 -- ---- no more steps than places
 

@@ -6,28 +6,34 @@ ghost use Rattle.ring_playing.specs.Play.{heard, heard_of, block_at_rest, played
 
 use block::block;
 use ring_line::Numbers;
-use ring_setup::{Setup, set_up};
-use types::BlockAnswer;
+use ring_setup::set_up;
+use types::{BlockAnswer, Hit, Instrument};
 
 // A level at rest.
 const AT_REST: [i64; 1024] = [0i64; 1024];
 
-// The block over levels at rest.
-fn play_at_rest(asked: Setup, samples: &mut [i16], pick: usize) -> BlockAnswer
-    requires { asked.length ≤ 1024 }
-    ensures { heard result samples.new ≡ heard_of (block_at_rest asked.instrument asked.length samples.old pick asked.hit) }
+// The block over levels at rest of this length.
+fn play_at_rest(
+    i: Instrument,
+    length: usize,
+    samples: &mut [i16],
+    pick: usize,
+    hit: Option<Hit>,
+) -> BlockAnswer
+    requires { length ≤ 1024 }
+    ensures { heard result samples.new ≡ heard_of (block_at_rest i length samples.old pick hit) }
 {
     let mut older = AT_REST;
     let mut newer = AT_REST;
     let mut work = AT_REST;
     block(
-        asked.instrument,
-        &mut older[..asked.length],
-        &mut newer[..asked.length],
-        &mut work[..asked.length],
+        i,
+        &mut older[..length],
+        &mut newer[..length],
+        &mut work[..length],
         samples,
         pick,
-        asked.hit,
+        hit,
     )
 }
 
@@ -36,8 +42,9 @@ fn play_at_rest(asked: Setup, samples: &mut [i16], pick: usize) -> BlockAnswer
 pub fn play_numbers(n: Numbers, samples: &mut [i16]) -> BlockAnswer
     ensures { heard result samples.new ≡ played n samples.old }
 {
-    match set_up(n) {
-        Ok(asked) => play_at_rest(asked, samples, n.pick),
+    let asked = set_up(n);
+    match asked.length {
+        Ok(length) => play_at_rest(asked.instrument, length, samples, n.pick, asked.hit),
         // as a refused block answers, whose own function takes what its steps tell
         Err(refusal) => BlockAnswer {
             steps: 0,

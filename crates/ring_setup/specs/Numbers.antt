@@ -30,8 +30,10 @@ is_too_large g = within 1 last_kind g.kind && ltb 1024 (points g)
 abbrev pub level_length : Grid → ℕ
 level_length g = cond (ltb 1024 (points g)) 0 (points g)
 
-abbrev pub asked_setup : Numbers → Setup
-asked_setup n = record { instrument = asked_instrument n; hit = asked_hit n; length = level_length (grid_of n) }
+-- the levels' length, or the refusal that `done 0 2` tells of a grid that is too large
+abbrev pub lent_length : Grid → Result ℕ Refusal
+lent_length g = cond (is_too_large g) (Err WrongSize) (Ok (level_length g))
 
-abbrev pub setup_of : Numbers → Result Setup Refusal
-setup_of n = cond (is_too_large (grid_of n)) (Err WrongSize) (Ok (asked_setup n))
+-- what the block is called with; instrument and hit are told of a grid that is too large, too
+abbrev pub setup_of : Numbers → Setup
+setup_of n = record { instrument = asked_instrument n; hit = asked_hit n; length = lent_length (grid_of n) }

@@ -1,20 +1,20 @@
-// What the ten numbers of a line stand for: what the block of `ring` is called with, or the refusal of a grid that is too large.
+// What the ten numbers of a line stand for: what the block of `ring` is called with, and the refusal of a grid that is too large.
 #![tactic(auto)]
 
 ghost use Rattle.std.specs.Prelude.{◌≡◌, ◌*◌, ltb};
-ghost use Rattle.ring_setup.specs.Numbers.{asked_instrument, asked_hit, is_too_large, level_length, setup_of};
+ghost use Rattle.ring_setup.specs.Numbers.{asked_instrument, asked_hit, is_too_large, level_length, lent_length, setup_of};
 
 use ring_line::Numbers;
 use types::{Grid, Hit, Instrument, Refusal, Settings};
 
 const MOST: usize = 1024;
 
-// The length is that of the levels to lend.
+// The length is that of the levels to lend, or what refuses a grid that is too large.
 #[derive(Clone, Copy)]
 pub struct Setup {
     pub instrument: Instrument,
     pub hit: Option<Hit>,
-    pub length: usize,
+    pub length: Result<usize, Refusal>,
 }
 
 // Of the numbers of a line; C's numbers are put together in crate packing, on which `ring` does not stand.
@@ -59,19 +59,24 @@ fn level_length(g: Grid) -> usize
     g.columns * g.rows
 }
 
+fn lent_length(g: Grid) -> Result<usize, Refusal>
+    ensures { result ≡ lent_length g }
+{
+    if is_too_large(g) {
+        return Err(Refusal::WrongSize);
+    }
+    Ok(level_length(g))
+}
+
 // What the block is called with. Ruled out: columns and rows exchanged; no hit where the force is 0; 1025 points admitted; an unknown
-// kind that is too large.
-pub fn set_up(n: Numbers) -> Result<Setup, Refusal>
+// kind that is too large; the hit forgotten where the grid is too large.
+pub fn set_up(n: Numbers) -> Setup
     ensures { result ≡ setup_of n }
 {
     let instrument = asked_instrument(n);
-    let grid = instrument.grid;
-    if is_too_large(grid) {
-        return Err(Refusal::WrongSize);
-    }
-    Ok(Setup {
+    Setup {
         instrument,
         hit: asked_hit(n),
-        length: level_length(grid),
-    })
+        length: lent_length(instrument.grid),
+    }
 }
