@@ -2,6 +2,7 @@
 ghost use Rattle.std.specs.Prelude.{◌≡◌, false, length};
 ghost use Rattle.turns.specs.Turns.{of_two, older_of, newer_of};
 
+use slices::{copy, exchange};
 use turns::Turn;
 
 // The two levels back in their places, by a match: each arm hands the slices over in an order of its own.
@@ -13,13 +14,13 @@ pub(crate) fn settle(older: &mut [i64], newer: &mut [i64], work: &[i64], turn: T
     match turn {
         Turn::First | Turn::There => {}
         Turn::Second => {
-            older.copy_from_slice(newer);
-            newer.copy_from_slice(work);
+            copy(newer, older);
+            copy(work, newer);
         }
         Turn::Last => {
-            newer.copy_from_slice(older);
-            older.copy_from_slice(work);
+            copy(older, newer);
+            copy(work, older);
         }
-        Turn::Exchanged => older.swap_with_slice(newer),
+        Turn::Exchanged => exchange(older, newer),
     }
 }

@@ -9,6 +9,7 @@ use crate::shape::Shape;
 use crate::table::{TABLE, Table};
 use checks::Pluck;
 use kinds::straight_run;
+use slices::copy;
 use types::{Grid, Outcome};
 
 // A pluck that nothing refuses, carried out by any table that keeps the rule of a shape.
@@ -26,7 +27,7 @@ pub(crate) fn carry_out(p: Pluck, table: Table<'_>, older: &mut [i64], newer: &m
         height: p.height,
     };
     shape.fill(older);
-    newer.copy_from_slice(older);
+    copy(older, newer);
 }
 
 // Both levels overwritten with the shape of the pluck; or what refuses it, and both as they were. Its parameters are C's, as a block's are.

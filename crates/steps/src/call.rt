@@ -41,7 +41,8 @@ fn begin(
         (newer_of result.turn older.new newer.new work.new) samples.new
         × (result.turn ≡ turn_after first result.done) }
 {
-    let layout = Layout::new(make_plan(i));
+    let mut edges = [0u16; 128];
+    let layout = Layout::new(make_plan(i), &mut edges);
     clear(work);
     play(&layout, older, newer, work, samples, pick, hit, first)
 }

@@ -7,20 +7,20 @@ use edges::row_edges;
 use plans::Plan;
 
 // A plan, and the moving points of every row of its grid: those of row r begin at edges[r], and end before edges[64 + r].
-#[derive(Drop)]
-pub(crate) struct Layout {
+// The edges are lent: held by value they would be moved by `memcpy`, which a board without a C library lacks.
+#[derive(Clone, Copy)]
+pub(crate) struct Layout<'a> {
     pub(crate) plan: Plan,
-    pub(crate) edges: [u16; 128],
-    ghost edges_of: { EdgesOf plan.instrument.grid edges },
+    pub(crate) edges: &'a [u16; 128],
+    ghost edges_of: { EdgesOf plan.instrument.grid edges.now },
 }
 
-impl Layout {
-    pub(crate) fn new(plan: Plan) -> Layout
+impl<'a> Layout<'a> {
+    pub(crate) fn new(plan: Plan, edges: &'a mut [u16; 128]) -> Layout<'a>
         requires { Planned plan }
         ensures { result.plan ≡ plan }
     {
-        let mut edges = [0u16; 128];
-        row_edges(plan.instrument.grid, &mut edges);
+        row_edges(plan.instrument.grid, edges);
         Layout { plan, edges }
     }
 }

@@ -71,7 +71,7 @@ fn row_pass<const WRITE: bool, const IN_PLACE: bool>(
 
 // Every moving point, row by row. Off a line there is no stiffness.
 fn level_run<const WRITE: bool, const IN_PLACE: bool>(
-    layout: &Layout,
+    layout: &Layout<'_>,
     older: &mut [i64],
     newer: &[i64],
     out: &mut [i64],
@@ -94,7 +94,7 @@ fn level_run<const WRITE: bool, const IN_PLACE: bool>(
 
 // The next level, worked out beside the two, tested in place or written in place. Off a line only a plate is stiff.
 pub(crate) fn next_level<const WRITE: bool, const IN_PLACE: bool>(
-    layout: &Layout,
+    layout: &Layout<'_>,
     older: &mut [i64],
     newer: &[i64],
     out: &mut [i64],

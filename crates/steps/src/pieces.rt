@@ -3,6 +3,7 @@ ghost use Rattle.std.specs.Prelude.{◌≡◌, false, ◌&&◌, ◌-◌, ◌≤�
 ghost use Rattle.scheme.specs.Lists.{point};
 ghost use Rattle.steps.specs.Run.{Filled, Placed};
 
+use slices::copy;
 use stretches::Stretch;
 
 // The values of a piece, that of point k at place k − base of xs, put into ys, if they are written in place.
@@ -13,6 +14,6 @@ pub(crate) fn put_piece<const IN_PLACE: bool>(xs: &[i64], s: Stretch, ys: &mut [
         × ((IN_PLACE && s.write) ≡ false → ys.new ≡ ys.old) }
 {
     if IN_PLACE && s.write {
-        ys[s.from..s.to].copy_from_slice(&xs[s.from - s.base..s.to - s.base]);
+        copy(&xs[s.from - s.base..s.to - s.base], &mut ys[s.from..s.to]);
     }
 }

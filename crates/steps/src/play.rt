@@ -22,7 +22,7 @@ pub(crate) struct Steps {
 // A step for each place of samples, until the next would put a point beyond the ceiling. The slices begin in turn `first`. Its parameters
 // stay apart, as those of a step and of a block do.
 pub(crate) fn play(
-    layout: &Layout,
+    layout: &Layout<'_>,
     older: &mut [i64],
     newer: &mut [i64],
     work: &mut [i64],

@@ -19,7 +19,7 @@ use types::Hit;
 
 // A step of two levels that have no more points than a piece: the next level is worked out beside them, then copied to older.
 fn small_step(
-    layout: &Layout,
+    layout: &Layout<'_>,
     older: &mut [i64],
     newer: &[i64],
     room: &mut [i64],
@@ -36,7 +36,7 @@ fn small_step(
 
 // A step of two levels: no point of older is written unless every next value lies within the ceiling.
 fn step_in_place(
-    layout: &Layout,
+    layout: &Layout<'_>,
     older: &mut [i64],
     newer: &[i64],
     room: &mut [i64],
@@ -56,7 +56,7 @@ fn step_in_place(
 // A step in the turn that the slices are in, by a match: each arm hands them over in an order of its own. They stay three parameters: lent
 // on as fields of a struct they are not covered by the borrow checker.
 pub(crate) fn step_in_turn(
-    layout: &Layout,
+    layout: &Layout<'_>,
     older: &mut [i64],
     newer: &mut [i64],
     work: &mut [i64],
