@@ -5,7 +5,9 @@
 ghost use Rattle.std.specs.Prelude.{◌≡◌};
 ghost use Rattle.c_api.specs.Exports as Exports;
 
-use engine::{Grid, block, number_of, pluck, pluck_with, reading, reading_value, settings_for, settings_read};
+use engine::{
+    Grid, block, number_of, pluck, pluck_with, reading, reading_value, settings_for, settings_read,
+};
 use packing::{hit_of, instrument_of, sheet_of};
 
 // A block. Ruled out: the count of steps not told; the steps told as the inexact points; a hit where its flag is 0 (`hit_of`).

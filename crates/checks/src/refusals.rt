@@ -57,7 +57,7 @@ pub struct Pluck {
 }
 
 impl Pluck {
-    // The same, of two levels of so many points. Ruled out: newer not looked at; the centre taken for the half width.
+    // What `pluck_refusal` answers, of two levels of so many points. Ruled out: newer not looked at; the centre taken for the half width.
     #[tactic(auto, using(crate::proofs::RefusalLaws::refusal_is))]
     pub fn refusal(self, older: usize, newer: usize) -> Outcome
         ensures { result ≡ Refusals.pluck_refusal self.grid older newer self.centre self.half_width self.height }
