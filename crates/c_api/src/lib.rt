@@ -5,7 +5,9 @@
 ghost use Rattle.std.specs.Prelude.{◌≡◌};
 ghost use Rattle.c_api.specs.Exports as Exports;
 
-use engine::{Grid, Settings, block, number_of, pluck, pluck_with, reading, settings_for};
+use engine::{
+    Grid, block, number_of, pluck, pluck_with, reading, reading_value, settings_for, settings_read,
+};
 use packing::{hit_of, instrument_of, sheet_of};
 
 // A block. Ruled out: the count of steps not told; the steps told as the inexact points; a hit where its flag is 0 (`hit_of`).
@@ -84,7 +86,6 @@ pub extern "C" fn buvcsolta_pluck_with(
 // The float reading, 0 where it is refused. Ruled out: the value not told; a refused reading's value not 0; columns and rows
 // exchanged (`Grid::new`).
 #[unsafe(no_mangle)]
-#[tactic(auto, using(crate::proofs::Zero::zero))]
 pub extern "C" fn buvcsolta_reading(
     kind: u64,
     columns: usize,
@@ -97,7 +98,7 @@ pub extern "C" fn buvcsolta_reading(
 {
     let g = Grid::new(kind, columns, rows);
     let answer = reading(g, newer, pick_up);
-    *value = answer.unwrap_or(0.0);
+    *value = reading_value(answer);
     number_of(answer.map(|_| ()))
 }
 
@@ -128,7 +129,7 @@ pub extern "C" fn buvcsolta_sheet(
         rate, length, bending, by_tension, speed, density, by_seconds, loss,
     );
     let answer = settings_for(g, sheet);
-    let settings = answer.unwrap_or(Settings::new(0, 0, 0));
+    let settings = settings_read(answer);
     *q = settings.q;
     *m = settings.m;
     *s = settings.s;

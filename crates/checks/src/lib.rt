@@ -4,4 +4,4 @@
 mod groups;
 mod refusals;
 
-pub use refusals::{Pluck, input_refusal};
+pub use refusals::{Pluck, input_refusal, pluck_refusal};

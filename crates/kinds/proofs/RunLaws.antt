@@ -13,13 +13,14 @@ use Rattle.types.specs.declared.Grid.{Grid}
 use Rattle.types.specs.declared.Kind.{Kind}
 use Rattle.types.specs.declared.Kind.TheVariants.{Unknown, StringFixed, StringFixedFree, StringFree, Bar, MembraneRectangular}
 use Rattle.types.specs.declared.Kind.TheVariants.{MembraneRound, Plate}
+use Rattle.types.specs.Numbers.{kind_of}
 use Rattle.scheme.specs.Instruments.{kind, points, size_in, at_edge, outer_ring, round_edge, fixed_in, fixed, moving, in_table}
 use Rattle.scheme.proofs.Laws.Bools.{and_both, and_yes, and_no, or_no, cases, not_so, same}
 use Rattle.scheme.proofs.Laws.Kinds.{Sized, sized}
 use Rattle.kinds.specs.declared.runs.Run.{Run}
 use Rattle.kinds.specs.Search.{leading}
 use Rattle.kinds.specs.Runs.{run, in_run, inner_run, on_square, round_run, run_in, is_round, straight_run, row_run, run_of}
-use Rattle.sizes.proofs.KindLaws.{round_size}
+use Rattle.sizes.proofs.KindLaws.{by_number, round_size}
 use Rattle.kinds.proofs.RoundLaws.{offset_mirror, edge_inward, on_square_lem}
 use Rattle.kinds.proofs.SearchLaws.{leading-passed, leading_stops}
 
@@ -140,13 +141,25 @@ run_is g b size h = run_by g b (and_yes size ∙ lt-ltb b g.rows h)
 pub run_past : (g : Grid) (b : ℕ) → g.rows ≤ b → run_of g b ≡ run 0 0
 run_past g b h = run_by g b (ap (λ (t : Bool). in_table g && t) (le-ltb b g.rows h) ∙ and-false (in_table g))
 
--- of a kind that is not round
-pub straight_is : (g : Grid) (b : ℕ) → in_table g ≡ true → b < g.rows → is_round (kind g) ≡ false → straight_run g b ≡ run_of g b
+-- the round kind has the number 6 alone
+not_six : (k : ℕ) → (k ≡ 6 → ⊥) → is_round (kind_of k) ≡ false
+not_six = by_number (λ k K. (k ≡ 6 → ⊥) → is_round K ≡ false)
+    (λ n. refl) (λ n. refl) (λ n. refl) (λ n. refl) (λ n. refl) (λ n. refl) (λ n. absurd (n refl)) (λ n. refl) (λ k p n. refl)
+
+-- of a kind that is not round: of every grid with columns, and with the row
+pub straight_is : (g : Grid) (b : ℕ) → 0 < g.columns → b < g.rows → (g.kind ≡ 6 → ⊥)
+    → straight_run g b ≡ run_in (kind g) g.columns g.rows b
 unfolding straight_run
-straight_is g b size h n =
-    let some : 0 < g.columns = omega (arith, (sized (kind g) g.columns g.rows size).columns_low) in
+straight_is g b some h n =
     ap (λ (t : Bool). cond t (run_in (kind g) g.columns g.rows b) (run 0 0))
-    (and_yes (lt-ltb 0 g.columns some) ∙ and_yes (lt-ltb b g.rows h) ∙ ap not n) ∙ sym (run_is g b size h)
+    (and_yes (lt-ltb 0 g.columns some) ∙ and_yes (lt-ltb b g.rows h) ∙ ap not (not_six g.kind n))
+
+-- and of a grid whose size the table has
+pub straight_row : (g : Grid) (b : ℕ) → in_table g ≡ true → b < g.rows → is_round (kind g) ≡ false → straight_run g b ≡ run_of g b
+unfolding kind_of
+straight_row g b size h n =
+    straight_is g b (omega (arith, (sized (kind g) g.columns g.rows size).columns_low)) h
+    (λ e. true≢false (sym (ap (λ (k : ℕ). is_round (kind_of k)) e) ∙ n)) ∙ sym (run_is g b size h)
 
 module _ (g : Grid) (b a : ℕ) (size : in_table g ≡ true) (hb : b < g.rows) (ha : a < g.columns) where
   in_run_lem : in_run (run_of g b) a ≡ not (fixed g (b * g.columns + a))
@@ -239,4 +252,4 @@ round_is Plate c r b e size h = absurd (true≢false (sym e))
 pub row_is : (g : Grid) (b : ℕ) → in_table g ≡ true → b < g.rows → row_run g b ≡ run_of g b
 row_is g b size h =
     cases (λ (t : Bool). cond t (cond (on_square g.columns 0 b) (round_run g.columns b) (run 0 0)) (straight_run g b) ≡ run_of g b)
-    (is_round (kind g)) (λ e. round_is (kind g) g.columns g.rows b e size h ∙ sym (run_is g b size h)) (straight_is g b size h)
+    (is_round (kind g)) (λ e. round_is (kind g) g.columns g.rows b e size h ∙ sym (run_is g b size h)) (straight_row g b size h)

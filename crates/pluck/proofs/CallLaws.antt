@@ -29,7 +29,7 @@ use Rattle.scheme.proofs.Laws.Refusals.{pluck_passes}
 use Rattle.kinds.specs.declared.runs.Run.{Run}
 use Rattle.kinds.specs.Runs.{in_run, is_round, straight_run, run_of}
 use Rattle.sizes.proofs.KindLaws.{by_number, line-size}
-use Rattle.kinds.proofs.RunLaws.{straight_is, moving-run, run_bounds}
+use Rattle.kinds.proofs.RunLaws.{straight_row, moving-run, run_bounds}
 use Rattle.instruments.proofs.RefusalLaws.{first_of, lowest-append}
 use Rattle.pluck.specs.declared.shape.Shape.{Shape}
 use Rattle.pluck.specs.Shapes.{shape_at}
@@ -91,7 +91,7 @@ module _ (g : Grid) (older newer c w : ℕ) (a : ℤ) (none : pluck_refusal g ol
   line-run : straight_run g 0 ≡ run_of g 0
   line-run =
       let k = within_is 1 last_plucked g.kind passes.kind_in in
-      straight_is g 0 passes.size (omega (arith, of_line.1)) (line_straight g.kind k.0 k.1)
+      straight_row g 0 passes.size (omega (arith, of_line.1)) (line_straight g.kind k.0 k.1)
 
   in_it : in_run (run_of g 0) c ≡ true
   unfolding moving

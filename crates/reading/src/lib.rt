@@ -26,3 +26,12 @@ pub fn reading(g: Grid, newer: &[i64], pick: usize) -> Result<f64, Refusal>
     reading_refusal(g, newer, pick)?;
     Ok(float_of(newer[pick]))
 }
+
+// The value of an answer, +0.0 where it is a refusal.
+// Ruled out: a refused reading's value 1; the value of an accepted reading forgotten.
+#[tactic(auto, using(crate::proofs::ReadingLaws::zero))]
+pub fn reading_value(answer: Result<f64, Refusal>) -> f64
+    ensures { result ≡ Calls.reading_value answer }
+{
+    answer.unwrap_or(0.0)
+}

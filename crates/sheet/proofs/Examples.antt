@@ -22,4 +22,5 @@ examples_hold = record {
   ends_hold = refl;
   limits_hold = refl;
   plates_hold = refl;
+  refused_zeros = λ r. refl;
 }

@@ -11,7 +11,7 @@ use Rattle.sheet.specs.declared.Loss.{Loss}
 use Rattle.sheet.specs.declared.Loss.TheVariants.{PerSecond, Seconds}
 use Rattle.sheet.specs.declared.Sheet.{Sheet}
 use Rattle.sheet.specs.Coefficients.{nearest_float}
-use Rattle.sheet.specs.Call.{sheet_call}
+use Rattle.sheet.specs.Call.{sheet_call, settings_read}
 
 -- a sheet on a grid, and its answer
 pub record Example : Type 0 where
@@ -154,3 +154,5 @@ pub record ExamplesHold : Type 0 where
   pub ends_hold : Hold ends
   pub limits_hold : Hold limits
   pub plates_hold : Hold plates
+  -- "a sheet's answer all zeros": of every row above that is refused, and of every other refusal
+  pub refused_zeros : (r : Refusal) → settings_read (Err r) ≡ record { q = 0; m = 0; s = 0 }

@@ -5,7 +5,7 @@ mod coefficients;
 mod numbers;
 
 ghost use Rattle.std.specs.Prelude.{◌≡◌};
-ghost use Rattle.sheet.specs.Call.{sheet_call};
+ghost use Rattle.sheet.specs.Call.{settings_read, sheet_call};
 
 use crate::coefficients::Coefficients;
 use instruments::grid_refusal;
@@ -55,4 +55,12 @@ pub fn settings_for(grid: Grid, sheet: Sheet) -> Result<Settings, Refusal>
         return Err(Refusal::Unstable);
     }
     Ok(settings)
+}
+
+// The settings of an answer, all zeros where it is a refusal.
+// Ruled out: a refused sheet's loss 1; the settings of an accepted sheet forgotten.
+pub fn settings_read(answer: Result<Settings, Refusal>) -> Settings
+    ensures { result ≡ settings_read answer }
+{
+    answer.unwrap_or(Settings::new(0, 0, 0))
 }

@@ -4,7 +4,7 @@ use Rattle.types.specs.declared.Kind.{Kind}
 use Rattle.scheme.specs.Instruments.{size_in}
 use Rattle.kinds.specs.Runs.{run_of}
 use Rattle.sizes.proofs.KindLaws.{round_size}
-use Rattle.kinds.proofs.RunLaws.{RunIn, not_round, straight_is, run_bounds}
+use Rattle.kinds.proofs.RunLaws.{RunIn, not_round, straight_row, run_bounds}
 use Rattle.levels.specs.Levels.{row_not_zero}
 use Rattle.levels.proofs.LevelLaws.{row_test, round_row}
 use Rattle.levels.proofs.levels.is_row_unfixed.Goals as goal
@@ -18,7 +18,7 @@ round_not_zero-requires c =
 
 run_is : (c : goal.After-straight_run) → c.straight_run.result ≡ run_of c.args.g c.args.b
 run_is c =
-    c.straight_run.ensures ∙ straight_is _ _ c.requires.0 c.requires.1
+    c.straight_run.ensures ∙ straight_row _ _ c.requires.0 c.requires.1
     (not_round _ (λ e. c.in_default.not-MembraneRound (c.from.ensures ∙ e)))
 
 pub row_not_zero-requires : goal.row_not_zero-requires
@@ -35,6 +35,6 @@ returns-in_default c =
     let a = c.args in
     c.row_not_zero.ensures ∙
     ap (row_not_zero a.row.now)
-    (c.straight_run.ensures ∙ straight_is _ _ c.requires.0 c.requires.1
+    (c.straight_run.ensures ∙ straight_row _ _ c.requires.0 c.requires.1
     (not_round _ (λ e. c.in_default.not-MembraneRound (c.from.ensures ∙ e)))) ∙
     sym (row_test a.g c.requires.0 a.b c.requires.1 a.row.now c.requires.2)
