@@ -16,7 +16,8 @@ use stretches::{Stretch, piece_at};
 use types::Hit;
 
 impl Basis<'_> {
-    // The moving points of a row.
+    // The moving points of a row. Inlined, so that no row copies the factors.
+    #[inline(always)]
     fn row_stretches(self, row: Stretch, hit: Option<Hit>, out: &mut [i64]) -> Option<u64>
         requires ready { Placed row (length out.old) }
         requires moves { Moves self.plan.instrument.grid row.from row.to × (too_strong hit ≡ false) × SoftGrid self.plan.instrument }

@@ -132,7 +132,8 @@ impl Basis<'_> {
     }
 
     // The moving points of a row, where the hit is not among them by one of two loops, each with `write` a constant. A step without a hit
-    // doesn't ask for it.
+    // doesn't ask for it. Inlined, so that no row copies the factors.
+    #[inline(always)]
     fn plate_row<const STRUCK: bool>(
         self,
         rows: SumRows,

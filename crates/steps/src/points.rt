@@ -127,7 +127,8 @@ impl Basis<'_> {
         Some(first + inner + last)
     }
 
-    // Moving points of a row. Off a line there is no stiffness.
+    // Moving points of a row. Off a line there is no stiffness. Inlined, so that no row copies the factors.
+    #[inline(always)]
     pub(crate) fn points_run(self, s: Stretch, out: &mut [i64]) -> Option<u64>
         requires ready { (nat_abs s.force ≤ ceiling) × Placed s (length out.old) }
         requires moves { Moves self.plan.instrument.grid s.from s.to × (s.from < s.to) × SoftGrid self.plan.instrument }
