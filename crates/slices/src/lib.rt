@@ -11,7 +11,7 @@ pub fn clear(xs: &mut [i64])
     xs.fill(0);
 }
 
-// Copies as many points as both slices have. Point by point: `copy_from_slice` calls `memcpy`, which a board without a C library lacks.
+// Copies as many points as both slices have. Point by point: `copy_from_slice` calls `memmove`, which a board without a C library lacks.
 // Ruled out: point 0 left as it was; the length of xs not looked at.
 pub fn copy(xs: &[i64], ys: &mut [i64])
     ensures { ys.new ≡ copied xs.now ys.old }
