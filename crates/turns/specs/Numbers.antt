@@ -1,4 +1,6 @@
--- The turns as numbers: 0, 1 or 2 of three levels, 3 or 4 of two. Each number from 4 on means what 4 does.
+-- The turns as numbers. Vocabulary between the engine's crates: no call that a maker embeds cites it.
+
+-- Three levels have 0, 1 and 2, two have 3 and 4; each number from 4 on means what 4 does.
 use Rattle.std.specs.Prelude.{List, ℕ, zero, suc, ℤ}
 use Rattle.turns.specs.declared.Turn.{Turn}
 use Rattle.turns.specs.declared.Turn.TheVariants.{First, Second, Last, There, Exchanged}
