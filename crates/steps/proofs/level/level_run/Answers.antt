@@ -45,7 +45,8 @@ pub row_pass-requires-clause-ready : goal.row_pass-requires-clause-ready
 row_pass-requires-clause-ready g c =
     let p = c.requires.passable in
     let done = c.loop-row.invariant.done in
-    let inside = row-inside c.args.layout.now.edges.now c.loop-row.row p c.args.layout.now.edges_of c.loop-row.invariant c.loop-row-test.true in
+    let e = c.args.layout.now in
+    let inside = row-inside e.edges.now c.loop-row.row p e.edges_of c.loop-row.invariant c.loop-row-test.true in
     (passing_ready (steppable_ready p.given) done, room_within p.room inside done.out_long)
 
 pub row_pass-requires-clause-moves : goal.row_pass-requires-clause-moves
