@@ -10,6 +10,8 @@ use lib.IntN.{ℤ}
 use lib.ListN.{length}
 use Rattle.types.specs.declared.Grid.{Grid}
 use Rattle.types.specs.declared.Instrument.{Instrument}
+use Rattle.types.specs.declared.Kind.TheVariants.{Bar}
+use Rattle.scheme.specs.Instruments.{kind}
 use Rattle.scheme.specs.Passing.{InstrumentPasses}
 use Rattle.plans.specs.declared.Plan.{Plan}
 use Rattle.stretches.specs.declared.Stretch.{Stretch}
@@ -19,7 +21,7 @@ use Rattle.steps.specs.Plan.{Ready}
 use Rattle.steps.specs.Run.{Advanced, Moves, Placed, OnLine, FreeEnd, all_within}
 use Rattle.steps.proofs.CountLaws.{counted_most}
 use Rattle.steps.proofs.FillLaws.{ran_none, ran_append, ran_stops, ran_ends}
-use Rattle.steps.proofs.KindLaws.{line_long, wide}
+use Rattle.steps.proofs.KindLaws.{line_long, wide, bar_inner}
 use Rattle.steps.proofs.BesideLaws.{within-line, first_free, last_free}
 
 -- a part of a stretch finds its places as the stretch does
@@ -77,6 +79,15 @@ module _ (s : Stretch) {p : Plan} {older newer : List ℤ} (r : Ready p s.force 
     each = λ k a b.
         all.each k (N.le_trans (clamp-low s.from s.to order 1) a)
         (N.lt_of_lt_of_le b (clamp_high s.from s.to order (n - 1)));
+  }
+
+  -- all moving points of a bar are inner ones
+  pub bar-line : kind g ≡ Bar → OnLine g s.from s.to
+  bar-line b = record {
+    line = line;
+    first = omega (arith, bar_inner g ok.size line s.from (all.each s.from (omega arith) some) b);
+    last = omega (arith, some, bar_inner g ok.size line (s.to - 1) (all.each (s.to - 1) (omega (arith, some)) (omega (arith, some))) b);
+    each = all.each;
   }
 
   -- ---- one part after the other

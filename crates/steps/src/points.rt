@@ -88,17 +88,14 @@ impl Basis<'_> {
         Some(inexact)
     }
 
-    // Inner points of a line. Of lines only a bar is stiff.
+    // Inner points of a line without stiffness.
     fn inner_points(self, s: Stretch, out: &mut [i64]) -> Option<u64>
         requires ready { (nat_abs s.force ≤ ceiling) × Placed s (length out.old) }
-        requires on_line { OnLine self.plan.instrument.grid s.from s.to }
+        requires on_line { OnLine self.plan.instrument.grid s.from s.to × (self.plan.instrument.settings.m ≡ 0) }
         ensures { Advanced self.entry.plan s self.entry.older.now self.entry.newer.now out.old out.new s.from s.to result }
     {
-        if self.plan.m == 0 {
-            let newer = self.newer;
-            return self.soft_run(|at| sum_beside(newer, at), s, out);
-        }
-        self.bar_run(s, out)
+        let newer = self.newer;
+        self.soft_run(|at| sum_beside(newer, at), s, out)
     }
 
     // The part of a stretch that is one end of a line, if it has one: at a free end the one neighbour counts twice.
@@ -114,12 +111,15 @@ impl Basis<'_> {
         self.next_point(s.from, x + x, 0, s, out)
     }
 
-    // Moving points of a line: its first, if it is one of them, the inner ones, its last.
+    // Moving points of a line: its first, if it is one of them, the inner ones, its last. Of lines only a bar is stiff; its ends are fixed.
     fn line_points(self, s: Stretch, out: &mut [i64]) -> Option<u64>
         requires ready { (nat_abs s.force ≤ ceiling) × Placed s (length out.old) }
         requires one_row { (self.plan.instrument.grid.rows ≡ 1) × Moves self.plan.instrument.grid s.from s.to × (s.from < s.to) }
         ensures { Advanced self.entry.plan s self.entry.older.now self.entry.newer.now out.old out.new s.from s.to result }
     {
+        if self.plan.m != 0 {
+            return self.bar_run(s, out);
+        }
         let n = self.newer.len();
         let first = self.free_end(1, s.part(0, 1), out)?;
         let inner = self.inner_points(s.part(1, n - 1), out)?;

@@ -8,8 +8,9 @@ use Rattle.types.specs.Numbers.{ceiling}
 use Rattle.steps.proofs.HitLaws.{forced}
 use Rattle.steps.specs.Run.{Advanced, Placed, OnLine, FreeEnd}
 use Rattle.steps.proofs.FillLaws.{placed_after}
-use Rattle.steps.proofs.PlanLaws.{few_points}
-use Rattle.steps.proofs.LineLaws.{three, first_part, last_part, inner-line, first_stops, inner_stops}
+use Rattle.steps.proofs.PlanLaws.{few_points, m_none, m_some}
+use Rattle.steps.proofs.BesideLaws.{is_bar}
+use Rattle.steps.proofs.LineLaws.{three, first_part, last_part, inner-line, bar-line, first_stops, inner_stops}
 use Rattle.steps.proofs.LineLaws.{part_placed, last_stops, all_parts, all_most}
 use Rattle.steps.proofs.basis.Basis.line_points.Goals as goal
 
@@ -25,6 +26,13 @@ advanced : (p : Plan) (s : Stretch) (older newer : List ℤ) {q : Stretch} {out�
     → Advanced p s older newer out₀ out (part_of s a e).from (part_of s a e).to r
 advanced p s older newer {out₀ = out₀} {out} {r} a e is t =
     subst (λ (q : Stretch). Advanced p q older newer out₀ out q.from q.to r) is t
+
+pub bar_run-requires-clause-on_line : goal.bar_run-requires-clause-on_line
+bar_run-requires-clause-on_line c =
+    let m = c.requires.one_row in
+    let planned = c.args.self.ready.planned in
+    let bar = is_bar c.args.self.plan.instrument planned.passes m.0 (m_some planned c.if-self-ne0.true) in
+    (bar-line c.args.s (forced c.args.s.force c.args.self.ready c.requires.ready.0) m.0 m.1 m.2 bar, bar)
 
 pub free_end-requires-clause-ready : goal.free_end-requires-clause-ready
 free_end-requires-clause-ready c =
@@ -61,9 +69,11 @@ inner_points-requires-clause-ready c =
 
 pub inner_points-requires-clause-on_line : goal.inner_points-requires-clause-on_line
 inner_points-requires-clause-on_line c =
-    let m = c.requires.one_row in
-    subst (λ (q : Stretch). OnLine c.args.self.plan.instrument.grid q.from q.to) (sym c.part-2.ensures)
-    (inner-line c.args.s (forced c.args.s.force c.args.self.ready c.requires.ready.0) m.0 m.1 m.2)
+    let m = c.requires.one_row in (
+      subst (λ (q : Stretch). OnLine c.args.self.plan.instrument.grid q.from q.to) (sym c.part-2.ensures)
+          (inner-line c.args.s (forced c.args.s.force c.args.self.ready c.requires.ready.0) m.0 m.1 m.2),
+      m_none c.args.self.ready.planned c.if-self-ne0.false,
+    )
 
 pub returns-in_err-inner : goal.returns-in_err-inner
 returns-in_err-inner c =
